@@ -36,22 +36,18 @@ pub enum RectangleAnswer {
 pub fn check_size(size: Size) -> Checked
     ensures { λ r. ⌜ r ≡ sizeCheck size ⌝ }
 {
-    refuse_above(Size::MAX_SIDE, size.width, Refusal::Side).or_else(refuse_above(
-        Size::MAX_SIDE,
-        size.height,
-        Refusal::Side,
-    ))
+    let width = refuse_above(Size::MAX_SIDE, size.width, Refusal::Side);
+    let height = refuse_above(Size::MAX_SIDE, size.height, Refusal::Side);
+    width.or_else(height)
 }
 
 // Refusal 3 of a rectangle's position.
 pub fn check_position(top_left: Point) -> Checked
     ensures { λ r. ⌜ r ≡ positionCheck «top_left» ⌝ }
 {
-    refuse_beyond(Rectangle::MAX_POSITION, top_left.x, Refusal::Position).or_else(refuse_beyond(
-        Rectangle::MAX_POSITION,
-        top_left.y,
-        Refusal::Position,
-    ))
+    let x = refuse_beyond(Rectangle::MAX_POSITION, top_left.x, Refusal::Position);
+    let y = refuse_beyond(Rectangle::MAX_POSITION, top_left.y, Refusal::Position);
+    x.or_else(y)
 }
 
 // Refusal 5 of an offset.
@@ -65,15 +61,10 @@ pub fn check_offset(k: i32) -> Checked
 fn check_center(center: Point) -> Checked
     ensures { λ r. ⌜ r ≡ centerCheck center ⌝ }
 {
-    refuse_beyond(
-        Rectangle::MAX_POSITION + Size::MAX_SIDE,
-        center.x,
-        Refusal::Position,
-    ).or_else(refuse_beyond(
-        Rectangle::MAX_POSITION + Size::MAX_SIDE,
-        center.y,
-        Refusal::Position,
-    ))
+    let furthest = Rectangle::MAX_POSITION + Size::MAX_SIDE;
+    let x = refuse_beyond(furthest, center.x, Refusal::Position);
+    let y = refuse_beyond(furthest, center.y, Refusal::Position);
+    x.or_else(y)
 }
 
 // The rectangle, or refusal 3 of its position.

@@ -14,14 +14,11 @@ use borrow.Author.Needs.{needs}
 use Rattle.geometry.proofs.rectangle.check_center.Statement.{statement}
 use Rattle.geometry.proofs.rectangle.check_center.Tie as tie
 
-add-refuse-beyond : tie.Need-add-refuse-beyond
-add-refuse-beyond c = search needs
+add-furthest : tie.Need-add-furthest
+add-furthest c = search needs
 
 refuse-beyond-requires : tie.Need-refuse-beyond-requires
 refuse-beyond-requires c κs = search needs
-
-add-refuse-beyond-2 : tie.Need-add-refuse-beyond-2
-add-refuse-beyond-2 c = search needs
 
 refuse-beyond-requires-2 : tie.Need-refuse-beyond-requires-2
 refuse-beyond-requires-2 c κs = search needs
@@ -44,9 +41,8 @@ pub check-center-spec : {M : Type 1} → statement M
 check-center-spec =
     tie.close
     (tie.spec
-    add-refuse-beyond
+    add-furthest
     refuse-beyond-requires
-    add-refuse-beyond-2
     refuse-beyond-requires-2
     or-else-requires
     returns)
