@@ -1,0 +1,136 @@
+-- An item painted whole. On a sheet with that one layer nothing is owed by an earlier layer, so each paint call is accepted
+-- while rows are left, and each writes the row after the last one: the rows of `paintRows`, in its order.
+-- Assumes nothing.
+use mathlib.Core.Path.{_≡_, refl, sym, ap, ap₂, _∙_}
+use mathlib.Core.List.{List, [], _∷_}
+use mathlib.Core.Bool.{true}
+use Prim.Native.Nat.{ℕ, zero, suc, _+_, _*_, _≤_, _<_}
+use native.Mathlib.Omega.{arith}
+use lib.IntN.{ℤ, pos, negsuc, _+ℤ_}
+use lib.Signed.{leZ, ltZ}
+use lib.ListN.{length, replicate}
+use borrow.Author.Tests.{lt-leb, le-ltb}
+use Rattle.signed.proofs.Laws.{int, add-law}
+use Rattle.book.specs.Book.{Answer, accepted, Drawing, add, paint, Book, firstLeft, someOwes, noneLeft, bookAnswer}
+use Rattle.book.specs.Book.{noted, bookAfter}
+use Rattle.book.specs.Sheet.{State, WithinSide, paintRow, after, answers, afterAll, opened}
+use Rattle.book.specs.Whole.{paintRows, SingleLayerWhole}
+use Rattle.book.proofs.BookInOrder.{InOrder, empty-book-in-order}
+use Rattle.book.proofs.SheetOfBook.{sheetOf, answer-is-book, canvasAfter, after-is-book, next-down}
+use Rattle.book.proofs.Picture.{paint-row-length}
+
+module _ (d : Drawing) (W H : ℕ) where
+  -- ---- rows written one after another
+  pub paint-rows-length : (item : d .Item) (n : ℕ) (y : ℤ) (canvas : List ℕ) → length canvas ≡ W * H
+      → length (paintRows d W H item y n canvas) ≡ W * H
+  unfolding paintRows
+  paint-rows-length item zero y canvas size = size
+  paint-rows-length item (suc n) y canvas size =
+      paint-rows-length item n (y +ℤ pos 1) (paintRow d W H item y canvas) (paint-row-length d W H item y canvas size)
+
+  -- rows above the canvas, and rows below it, write nothing
+  pub paint-row-above : (item : d .Item) (y : ℤ) (canvas : List ℕ) → ltZ y (pos 0) ≡ true
+      → paintRow d W H item y canvas ≡ canvas
+  unfolding paintRow
+  paint-row-above item (pos y) canvas h = absurd (omega (arith, int))
+  paint-row-above item (negsuc y) canvas h = refl
+
+  pub paint-row-below : (item : d .Item) (y : ℤ) (canvas : List ℕ) → leZ (pos H) y ≡ true
+      → paintRow d W H item y canvas ≡ canvas
+  unfolding paintRow
+  paint-row-below item (pos y) canvas h = rw (le-ltb y H (omega (arith, int)))
+  paint-row-below item (negsuc y) canvas h = refl
+
+  pub paint-rows-above : (item : d .Item) (n : ℕ) (y : ℤ) (canvas : List ℕ) → leZ (y +ℤ pos n) (pos 0) ≡ true
+      → paintRows d W H item y n canvas ≡ canvas
+  unfolding paintRows
+  paint-rows-above item zero y canvas h = refl
+  paint-rows-above item (suc n) y canvas h =
+      rw (paint-row-above item y canvas (omega (arith, int, add-law y (pos (suc n)))))
+      (paint-rows-above item n (y +ℤ pos 1) canvas
+      (omega (arith, int, add-law y (pos (suc n)), add-law y (pos 1), add-law (y +ℤ pos 1) (pos n))))
+
+  pub paint-rows-below : (item : d .Item) (n : ℕ) (y : ℤ) (canvas : List ℕ) → leZ (pos H) y ≡ true
+      → paintRows d W H item y n canvas ≡ canvas
+  unfolding paintRows
+  paint-rows-below item zero y canvas h = refl
+  paint-rows-below item (suc n) y canvas h =
+      rw (paint-row-below item y canvas h)
+      (paint-rows-below item n (y +ℤ pos 1) canvas (omega (arith, int, add-law y (pos 1))))
+
+  -- ---- on a sheet with one layer
+  module _ (width : WithinSide d W) (height : WithinSide d H) (item : d .Item) (allowed : d .refuse item ≡ accepted)
+      (room : 1 ≤ d .maxLayers) where
+    -- the book with the one item, n rows of it painted
+    abbrev only : ℕ → Book d
+    only n = record { item = item; count = n } ∷ []
+
+    only-in-order : (n : ℕ) → n ≤ d .rows item → InOrder d (only n)
+    only-in-order n h =
+        record { few = room; within = (record { allowed = allowed; counted-rows = h }, tt); order = (tt, tt) }
+
+    only-paint-accepted : (n : ℕ) → n < d .rows item → bookAnswer d (only n) (paint 0) ≡ accepted
+    unfolding bookAnswer noneLeft someOwes
+    only-paint-accepted n h = rw (lt-leb (d .rows item) n h)
+
+    only-add-accepted : bookAnswer d [] (add item) ≡ accepted
+    unfolding bookAnswer
+    only-add-accepted = rw (allowed, lt-leb (d .maxLayers) 0 room)
+
+    -- the sheet after an accepted call
+    only-painted : (n : ℕ) (canvas : List ℕ) → n < d .rows item → length canvas ≡ W * H
+        → after d W H (sheetOf d (only n) canvas) (paint 0)
+        ≡ sheetOf d (only (suc n)) (paintRow d W H item (firstLeft d (record { item = item; count = n })) canvas)
+    unfolding bookAfter noted canvasAfter
+    only-painted n canvas h size =
+        after-is-book d W H width height (only n) canvas (only-in-order n (omega arith)) size (paint 0)
+        ∙ rw (only-paint-accepted n h)
+
+    only-added : (lent : List ℕ) → length lent ≡ W * H → after d W H (opened d lent) (add item) ≡ sheetOf d (only 0) lent
+    unfolding bookAfter noted canvasAfter
+    only-added lent size =
+        after-is-book d W H width height [] lent (empty-book-in-order d) size (add item) ∙ rw only-add-accepted
+
+    -- the k rows that are left after n
+    rest-accepted : (k n : ℕ) (canvas : List ℕ) → n + k ≡ d .rows item → length canvas ≡ W * H
+        → answers d W H (sheetOf d (only n) canvas) (replicate k (paint 0)) ≡ replicate k accepted
+    unfolding answers
+    rest-accepted zero n canvas e size = refl
+    rest-accepted (suc k) n canvas e size =
+        let y : ℤ = firstLeft d (record { item = item; count = n }) in
+        let left : n < d .rows item = omega arith in
+        ap₂ {C = List Answer} (λ a rest. a ∷ rest)
+        (answer-is-book d W H width height (only n) canvas (only-in-order n (omega arith)) size (paint 0)
+        ∙ only-paint-accepted n left)
+        (rw (only-painted n canvas left size)
+        (rest-accepted k (suc n) (paintRow d W H item y canvas) (omega arith) (paint-row-length d W H item y canvas size)))
+
+    rest-painted : (k n : ℕ) (canvas : List ℕ) → n + k ≡ d .rows item → length canvas ≡ W * H
+        → afterAll d W H (sheetOf d (only n) canvas) (replicate k (paint 0))
+        ≡ sheetOf d (only (d .rows item)) (paintRows d W H item (firstLeft d (record { item = item; count = n })) k canvas)
+    unfolding afterAll paintRows
+    rest-painted zero n canvas e size =
+        let whole : n ≡ d .rows item = omega arith in
+        ap (λ (m : ℕ). sheetOf d (only m) canvas) whole
+    rest-painted (suc k) n canvas e size =
+        let y : ℤ = firstLeft d (record { item = item; count = n }) in
+        let left : n < d .rows item = omega arith in
+        let painted : List ℕ = paintRow d W H item y canvas in
+        ap (λ (s : State (d .Item)). afterAll d W H s (replicate k (paint 0))) (only-painted n canvas left size)
+        ∙ rest-painted k (suc n) painted (omega arith) (paint-row-length d W H item y canvas size)
+        ∙ ap (λ (z : ℤ). sheetOf d (only (d .rows item)) (paintRows d W H item z k painted))
+        (sym (next-down d (record { item = item; count = n })))
+
+    pub single-layer-whole : (lent : List ℕ) → length lent ≡ W * H → SingleLayerWhole d W H lent item
+    unfolding answers afterAll
+    single-layer-whole lent size =
+        let first-row : d .first item +ℤ pos 0 ≡ d .first item = omega (arith, int, add-law (d .first item) (pos 0)) in
+        record {
+          all-accepted = ap₂ {C = List Answer} (λ a rest. a ∷ rest)
+              (answer-is-book d W H width height [] lent (empty-book-in-order d) size (add item) ∙ only-add-accepted)
+              (rw (only-added lent size) (rest-accepted (d .rows item) 0 lent (omega arith) size));
+          finished =
+              ap (λ (s : State (d .Item)). afterAll d W H s (replicate (d .rows item) (paint 0))) (only-added lent size)
+              ∙ rest-painted (d .rows item) 0 lent (omega arith) size
+              ∙ ap (λ (y : ℤ). sheetOf d (only (d .rows item)) (paintRows d W H item y (d .rows item) lent)) first-row;
+        }

@@ -1,0 +1,163 @@
+-- A sheet's layers, its rules and its calls (document 01, "Sheet"), over any drawing: what the promises of the code say of
+-- the answer, the sheet and the canvas. `Rules` has the rules in the paper's words. Number 7 is answered by the test
+-- `keepsRules`; the law `keeps-rules-iff` (proofs/RulesTest.antt) says that the two agree.
+-- Assumes nothing.
+use mathlib.Core.Path.{_≡_}
+use mathlib.Core.List.{List, [], _∷_, _++_}
+use mathlib.Core.Option.{Option, none, some}
+use mathlib.Core.Bool.{Bool, true, false, cond, not, _&&_, _||_}
+use Prim.Native.Nat.{ℕ, _*_, _≤_}
+use lib.Dec.{leb, ltb, eqb}
+use lib.IntN.{ℤ, pos, negsuc, _+ℤ_}
+use lib.Signed.{leZ, ltZ}
+use lib.ListN.{length, take, set, getElem?}
+use Rattle.book.specs.Each.{Each, EachTwo}
+use Rattle.book.specs.Canvas.{canvasRow, putRow}
+use Rattle.book.specs.Book.{Answer, accepted, refused, brokenSheet, otherCanvasLength, layersFull, noSuchLayer}
+use Rattle.book.specs.Book.{allRowsPainted, rowOwed, refuseIf, _orElse_, ifAccepted, Drawing, Call, add, paint}
+use Rattle.book.specs.Book.{endRow, hasRow}
+
+-- A layer of a sheet ("The records"): a figure with its style, and its next row.
+pub record Layer (A : Type 0) : Type 0 where
+  pub item : A
+  pub next : ℤ
+
+-- A sheet's layers in the order of adding, and the canvas that its paint calls get (demand 3).
+pub record State (A : Type 0) : Type 0 where
+  pub layers : List (Layer A)
+  pub canvas : List ℕ
+
+-- True of the answer of an accepted call ("Sheet": figures and styles within limits).
+abbrev pub isAccepted : Answer → Bool
+isAccepted accepted = true
+isAccepted (refused n) = false
+
+module _ (d : Drawing) where
+  -- The layers of a sheet, the earliest first ("Sheet").
+  abbrev pub Layers : Type 0
+  Layers = List (Layer (d .Item))
+
+  -- A layer owes y ("Sheet"): y is among its rows, and its next row is not past y.
+  unfoldable pub layerOwes : Layer (d .Item) → ℤ → Bool
+  layerOwes l y = hasRow d (l .item) y && leZ (l .next) y
+
+  -- Some layer of a list owes y ("Sheet").
+  unfoldable pub someLayerOwes : Layers → ℤ → Bool
+  someLayerOwes [] y = false
+  someLayerOwes (l ∷ rest) y = layerOwes l y || someLayerOwes rest y
+
+  -- A number of columns or rows of a canvas ("The records").
+  abbrev pub WithinSide : ℕ → Type 0
+  WithinSide n = (1 ≤ n) × (n ≤ d .maxSide)
+
+  -- The rules of one layer ("Sheet"): its figure and style are within limits, and its next row is from the first row to
+  -- the one after the last.
+  pub record LayerRules (l : Layer (d .Item)) : Type 0 where
+    pub allowed : d .refuse (l .item) ≡ accepted
+    pub from-first : leZ (d .first (l .item)) (l .next) ≡ true
+    pub to-end : leZ (l .next) (endRow d (l .item)) ≡ true
+
+  -- The rule of two layers ("Sheet"): a row y of the later that lies above its next row is none that the earlier owes.
+  abbrev pub OrderRule : Layer (d .Item) → Layer (d .Item) → Type 0
+  OrderRule earlier later =
+      (y : ℤ) → layerOwes earlier y ≡ true → hasRow d (later .item) y ≡ true → ltZ y (later .next) ≡ true → ⊥
+
+  -- The rules of a sheet ("Sheet").
+  pub record Rules (W H : ℕ) (layers : Layers) : Type 0 where
+    -- the canvas has sides within limits
+    pub width : WithinSide W
+    pub height : WithinSide H
+    -- there are no more layers than places
+    pub few : length layers ≤ d .maxLayers
+    -- each layer keeps its own rules, and each two keep theirs
+    pub each : Each LayerRules layers
+    pub order : EachTwo OrderRule layers
+
+  -- The test of one layer's rules ("Sheet").
+  unfoldable pub layerKeepsRules : Layer (d .Item) → Bool
+  layerKeepsRules l =
+      isAccepted (d .refuse (l .item)) && (leZ (d .first (l .item)) (l .next) && leZ (l .next) (endRow d (l .item)))
+
+  -- The test that two layers break the order ("Sheet"): the rows that the later has painted, first..next, and those that
+  -- the earlier has left, next..end, meet. Two runs meet where each one's start is below each one's end.
+  unfoldable pub overtakes : Layer (d .Item) → Layer (d .Item) → Bool
+  overtakes earlier later =
+      (ltZ (d .first (later .item)) (later .next) && ltZ (d .first (later .item)) (endRow d (earlier .item)))
+      && (ltZ (earlier .next) (later .next) && ltZ (earlier .next) (endRow d (earlier .item)))
+
+  -- No layer of a list overtakes an earlier one ("Sheet").
+  unfoldable pub noneOvertakes : Layer (d .Item) → Layers → Bool
+  noneOvertakes l [] = true
+  noneOvertakes l (later ∷ rest) = not (overtakes l later) && noneOvertakes l rest
+
+  -- The test of the layers' rules, one by one and two by two ("Sheet").
+  unfoldable pub layersKeepRules : Layers → Bool
+  layersKeepRules [] = true
+  layersKeepRules (l ∷ rest) = (layerKeepsRules l && noneOvertakes l rest) && layersKeepRules rest
+
+  -- The test of a canvas side ("The records").
+  abbrev pub fitsSide : ℕ → Bool
+  fitsSide n = leb 1 n && leb n (d .maxSide)
+
+  -- The test of the rules of a sheet, by which number 7 is answered ("Sheet").
+  unfoldable pub keepsRules : ℕ → ℕ → Layers → Bool
+  keepsRules W H layers =
+      (fitsSide W && fitsSide H) && (leb (length layers) (d .maxLayers) && layersKeepRules layers)
+
+  -- The answer to a paint call, by the layer that stands at its number ("The records", the table): 10, then 11, then 12.
+  abbrev pub layerAnswer : Layers → ℕ → Option (Layer (d .Item)) → Answer
+  layerAnswer layers i none = noSuchLayer
+  layerAnswer layers i (some l) =
+      refuseIf (leZ (endRow d (l .item)) (l .next)) allRowsPainted
+      orElse refuseIf (someLayerOwes (take i layers) (l .next)) rowOwed
+
+  -- The answer to a call on a sheet of W by H with its canvas ("The records", the table, lowest number first): an add call
+  -- gets 1, 2, 3 or 5 by its item, then 7, then 9; a paint call gets 7, then 8, then 10, 11 or 12.
+  unfoldable pub answer : ℕ → ℕ → State (d .Item) → Call (d .Item) → Answer
+  answer W H s (add item) =
+      d .refuse item
+      orElse refuseIf (not (keepsRules W H (s .layers))) brokenSheet
+      orElse refuseIf (leb (d .maxLayers) (length (s .layers))) layersFull
+  answer W H s (paint i) =
+      refuseIf (not (keepsRules W H (s .layers))) brokenSheet
+      orElse refuseIf (not (eqb (length (s .canvas)) (W * H))) otherCanvasLength
+      orElse layerAnswer (s .layers) i (getElem? (s .layers) i)
+
+  -- The styled row of an item at y written onto the canvas ("Sheet"): nothing where y is not a row of the canvas.
+  unfoldable pub paintRow : ℕ → ℕ → d .Item → ℤ → List ℕ → List ℕ
+  paintRow W H item (pos y) canvas =
+      cond (ltb y H) (putRow W y (d .over item (pos y) (canvasRow W y canvas)) canvas) canvas
+  paintRow W H item (negsuc y) canvas = canvas
+
+  -- An accepted paint call ("Sheet"): the layer's row at its next row is written, and next row moves down by one.
+  abbrev pub paintedLayer : ℕ → ℕ → State (d .Item) → ℕ → Option (Layer (d .Item)) → State (d .Item)
+  paintedLayer W H s i none = s
+  paintedLayer W H s i (some l) =
+      record {
+        layers = set (s .layers) i (record { item = l .item; next = l .next +ℤ pos 1 });
+        canvas = paintRow W H (l .item) (l .next) (s .canvas);
+      }
+
+  -- An accepted call ("Sheet"): an added item goes on top, its next row its first.
+  unfoldable pub carriedOut : ℕ → ℕ → State (d .Item) → Call (d .Item) → State (d .Item)
+  carriedOut W H s (add item) =
+      record { layers = s .layers ++ (record { item = item; next = d .first item } ∷ []); canvas = s .canvas }
+  carriedOut W H s (paint i) = paintedLayer W H s i (getElem? (s .layers) i)
+
+  -- Sheet and canvas after a call ("The records", below the table): a refused one changes neither.
+  unfoldable pub after : ℕ → ℕ → State (d .Item) → Call (d .Item) → State (d .Item)
+  after W H s call = ifAccepted (answer W H s call) (carriedOut W H s call) s
+
+  -- The answers to a list of calls, each on the sheet that the last one returned (demand 3).
+  unfoldable pub answers : ℕ → ℕ → State (d .Item) → List (Call (d .Item)) → List Answer
+  answers W H s [] = []
+  answers W H s (call ∷ calls) = answer W H s call ∷ answers W H (after W H s call) calls
+
+  -- Sheet and canvas after a list of calls (demand 3).
+  unfoldable pub afterAll : ℕ → ℕ → State (d .Item) → List (Call (d .Item)) → State (d .Item)
+  afterAll W H s [] = s
+  afterAll W H s (call ∷ calls) = afterAll W H (after W H s call) calls
+
+  -- A sheet just opened ("Sheet": it has no layers), and the canvas lent to its paint calls.
+  abbrev pub opened : List ℕ → State (d .Item)
+  opened lent = record { layers = []; canvas = lent }

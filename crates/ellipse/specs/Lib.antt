@@ -1,0 +1,2 @@
+pub mod Ellipse
+pub mod Relative

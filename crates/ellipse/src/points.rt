@@ -1,0 +1,69 @@
+// The rows of an ellipse, after embedded-graphics 0.8.2 `ellipse/points.rs` (`Scanlines`).
+use crate::EllipseContains;
+use crate::first_inside;
+use crate::gap;
+use geometry::Range;
+use geometry::Size;
+use geometry::rectangle::Rectangle;
+use scanline::Place;
+use scanline::Row;
+ghost use mathlib.Core.Path.{_≡_};
+ghost use mathlib.Core.Bool.{true, false};
+ghost use Prim.Native.Nat.{_<_, _≤_};
+ghost use Rattle.signed.specs.Signed.{Near};
+ghost use Rattle.geometry.specs.Bounds.{wideSide, widePoint, SizeUpTo, Bounded};
+ghost use Rattle.ellipse.specs.Ellipse.{row as Ellipse·row, rowCount};
+ghost use Rattle.ellipse.specs.Relative.{containsOf, SmallWeights, firstRowInside};
+
+// All the rows or none: one test, at the middle of the first row. The Rust finds out by looking
+// through the first row.
+pub fn has_rows(test: EllipseContains, size: Size) -> bool
+    requires { ⌜ SizeUpTo wideSide size ⌝ }
+    requires { ⌜ (test ≡ containsOf (size .width) (size .height)) × SmallWeights test ⌝ }
+    ensures { λ r. ⌜ r ≡ firstRowInside (size .width) (size .height) ⌝ }
+{
+    if size.width == 0 {
+        return false;
+    }
+    if size.height == 0 {
+        return false;
+    }
+    test.contains(gap(size.width, (size.width - 1) / 2), gap(size.height, 0))
+}
+
+// The number of rows.
+pub fn row_count(ellipse: Rectangle) -> u32
+    requires { ⌜ Bounded ellipse ⌝ }
+    ensures { λ r. ⌜ r ≡ rowCount ellipse ⌝ }
+{
+    let size = ellipse.size;
+    if has_rows(EllipseContains::new(size), size) {
+        size.height
+    } else {
+        0
+    }
+}
+
+// The row at y.
+pub fn row(ellipse: Rectangle, y: i32) -> Row
+    requires { ⌜ Bounded ellipse ⌝ }
+    requires { ⌜ Near widePoint y ⌝ }
+    ensures { λ r. ⌜ r ≡ Ellipse·row ellipse y ⌝ }
+{
+    let top_left = ellipse.top_left;
+    let size = ellipse.size;
+    let Place::At(dy) = scanline::place_of(top_left.y, size.height, y) else {
+        return Row::NoRow;
+    };
+    let test = EllipseContains::new(size);
+    if !has_rows(test, size) {
+        return Row::NoRow;
+    }
+    let Place::At(k) = first_inside(test, size.width, gap(size.height, dy), 0, size.width) else {
+        return Row::NoRow;
+    };
+    Row::Run(Range {
+        start: scanline::from_first(top_left.x, k),
+        end: scanline::before_end(top_left.x, size.width, k),
+    })
+}

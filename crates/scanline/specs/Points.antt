@@ -1,0 +1,36 @@
+-- Document 01, 'Box rows and points' (`Points` of both `points.rs`, `common/scanline.rs`): a figure's rows as a list of points.
+-- Assumes nothing.
+use mathlib.Core.Bool.{cond}
+use mathlib.Core.List.{List, [], _∷_, _++_}
+use Prim.Native.Nat.{ℕ, zero, suc}
+use lib.IntN.{ℤ, pos, _+ℤ_, _-ℤ_}
+use Rattle.signed.specs.Signed.{floor0}
+use Rattle.geometry.specs.declared.Point.{Point}
+use Rattle.geometry.specs.declared.Range.{Range}
+use Rattle.geometry.specs.Range.{isEmpty}
+use Rattle.scanline.specs.declared.Row.{Row}
+use Rattle.scanline.specs.declared.Row.the-variants.{Run, NoRow}
+
+-- how many columns a run holds
+abbrev pub runLength : Range → ℕ
+runLength r = floor0 (r .end -ℤ r .start)
+
+-- the points of the n columns from x on in row y
+unfoldable pub runPoints : ℤ → ℤ → ℕ → List Point
+runPoints y x zero = []
+runPoints y x (suc n) = record { x = x; y = y } ∷ runPoints y (x +ℤ pos 1) n
+
+-- a row's points and then those of the rows below it; an empty row, and one that is lacking, ends the list
+abbrev pub andBelow : ℤ → Row → List Point → List Point
+andBelow y (Run r) below = cond (isEmpty r) [] (runPoints y (r .start) (runLength r) ++ below)
+andBelow y NoRow below = []
+
+-- the points of n rows from y on, row by row, up to the first empty one
+unfoldable pub pointsFrom : (ℤ → Row) → ℤ → ℕ → List Point
+pointsFrom row y zero = []
+pointsFrom row y (suc n) = andBelow y (row y) (pointsFrom row (y +ℤ pos 1) n)
+
+-- the list's entries: x, y pairs
+unfoldable pub entries : List Point → List ℤ
+entries [] = []
+entries (p ∷ ps) = p .x ∷ p .y ∷ entries ps
