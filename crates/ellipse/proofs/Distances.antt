@@ -7,7 +7,7 @@ use Prim.Native.Nat.{ℕ, zero, suc, _+_, _-_, _*_, _/_, _≤_, _<_}
 use native.Mathlib.Nat.{le-trans, lt-of-le-of-lt, mul-le-mul, mul-le-mul-left, one-mul}
 use native.Mathlib.Omega.{arith}
 use borrow.Author.Tests.{ltb-true, ltb-false, lt-ltb, le-ltb}
-use lib.Dec.{ltb, eqb, eqb·zero-suc}
+use lib.Dec.{ltb, eqb, eqb·zero-suc, eqb·suc-zero}
 use lib.IntN.{ℤ, pos, negsuc, natAbs, _+ℤ_, _-ℤ_, _*ℤ_}
 use Rattle.signed.specs.Signed.{positivePart as P, negativePart as N}
 use Rattle.signed.proofs.Laws.{int, add-law, sub-law, times-law, magnitude-law, sub-read}
@@ -101,4 +101,5 @@ no-width-outside (suc h) x y =
 pub no-height-outside : (w x y : ℕ) → belowThreshold (containsOf w 0) x y ≡ false
 unfolding belowThreshold containsOf threshold
 no-height-outside zero x y = le-ltb (1 * (x * x) + 1 * (y * y)) 0 (omega arith)
-no-height-outside (suc w) x y = le-ltb (0 * (x * x) + suc w * suc w * (y * y)) (suc w * suc w * 0) (omega arith)
+no-height-outside (suc w) x y =
+    rw (eqb·suc-zero w) (le-ltb (0 * (x * x) + suc w * suc w * (y * y)) (suc w * suc w * 0) (omega arith))

@@ -24,12 +24,23 @@ use Rattle.scanline.specs.Places.{findFrom, isAt, Placed}
 use Rattle.scanline.proofs.Find.{FoundAt, find-at, find-none, found-at, found-none}
 use Rattle.scanline.proofs.Columns.{fromLeft, first-from-edge, column-zero}
 use Rattle.scanline.proofs.Placed.{place-among}
+use Rattle.ellipse.specs.declared.EllipseContains.{EllipseContains}
 use Rattle.ellipse.specs.Ellipse.{insideAbout, runFrom, scanline, isRun, hasRows, row, rowCount}
-use Rattle.ellipse.specs.Relative.{gap, containsOf, belowThreshold, columnInside, firstInside, firstRowInside}
+use Rattle.ellipse.specs.Relative.{gap, containsOf, belowThreshold, columnInside, firstInside, firstRowInside, mirroredRun}
 use Rattle.ellipse.proofs.Distances.{inside-by-distance, distance-from-first, gap-middle, gap-edge, nearer-inside, farther-outside, no-width-outside, no-height-outside}
 
 -- ---- places
+-- what is inside at a column is inside at the middle, on the same row and on a nearer one
+middle-nearer : (c : EllipseContains) (w : ℕ) {y y′ : ℕ} (k : ℕ) → y ≤ y′ → columnInside c w y′ k ≡ true → columnInside c w y ((w - 1) / 2) ≡ true
+unfolding columnInside
+middle-nearer c w k l e = nearer-inside c (gap-middle w k) l e
+
 module _ (w h : ℕ) where
+  -- the place found is inside
+  first-inside-holds : (dy k : ℕ) → firstInside w h dy ≡ At k → columnInside (containsOf w h) w (gap h dy) k ≡ true
+  unfolding firstInside
+  first-inside-holds dy k e = found-at (columnInside (containsOf w h) w (gap h dy)) w 0 k e .holds
+
   -- a row has an inside column exactly where its middle is inside
   middle-inside : (dy : ℕ) → 0 < w → columnInside (containsOf w h) w (gap h dy) ((w - 1) / 2) ≡ isAt (firstInside w h dy)
   unfolding firstInside
@@ -41,9 +52,7 @@ module _ (w h : ℕ) where
       by-test : (b : Bool) → test ((w - 1) / 2) ≡ b → (p : Place) → findFrom test w 0 ≡ p → b ≡ isAt p
       by-test true e (At k) q = refl
       by-test true e Nowhere q = sym e ∙ found-none test w 0 q ((w - 1) / 2) (omega arith) (omega arith)
-      by-test false e (At k) q =
-          unfold columnInside in
-          sym (farther-outside (containsOf w h) (gap-middle w k) (le-refl (gap h dy)) e) ∙ found-at test w 0 k q .holds
+      by-test false e (At k) q = sym e ∙ middle-nearer (containsOf w h) w k (le-refl (gap h dy)) (found-at test w 0 k q .holds)
       by-test false e Nowhere q = refl
 
   -- a first inside column is at or before the middle, so the run from it is not empty
@@ -60,8 +69,9 @@ module _ (w h : ℕ) where
       by-order : Dec (k ≤ (w - 1) / 2) → (k ≤ (w - 1) / 2) × (k < w)
       by-order (yes l) = let b = f .below in (l, omega arith)
       by-order (no l) =
-          let middle : test ((w - 1) / 2) ≡ true = unfold columnInside in nearer-inside (containsOf w h) (gap-middle w k) (le-refl (gap h dy)) (f .holds) in
-          absurd (false≢true (sym (f .none-before ((w - 1) / 2) (omega arith) (omega arith)) ∙ middle))
+          absurd
+          (false≢true
+          (sym (f .none-before ((w - 1) / 2) (omega arith) (omega arith)) ∙ middle-nearer (containsOf w h) w k (le-refl (gap h dy)) (f .holds)))
 
   -- what is inside in the first row is inside in every row, at the same column
   pub rows-all-inside : (dy : ℕ) → dy < h → firstRowInside w h ≡ true → isAt (firstInside w h dy) ≡ true
@@ -71,10 +81,7 @@ module _ (w h : ℕ) where
       by-first : (p : Place) → firstInside w h 0 ≡ p → isAt p ≡ true → isAt (firstInside w h dy) ≡ true
       by-first (At k) q t =
           let half = first-inside-half 0 k q in
-          let here : columnInside (containsOf w h) w (gap h 0) k ≡ true = unfold firstInside in found-at (columnInside (containsOf w h) w (gap h 0)) w 0 k q .holds in
-          let middle : columnInside (containsOf w h) w (gap h dy) ((w - 1) / 2) ≡ true =
-          unfold columnInside in nearer-inside (containsOf w h) (gap-middle w k) (gap-edge h dy l) here in
-          sym (middle-inside dy (omega arith)) ∙ middle
+          sym (middle-inside dy (omega arith)) ∙ middle-nearer (containsOf w h) w k (gap-edge h dy l) (first-inside-holds 0 k q)
       by-first Nowhere q t = absurd (false≢true t)
 
   -- the one test by which the code decides
@@ -85,6 +92,10 @@ module _ (w h : ℕ) where
 pub first-row-no-width : (h : ℕ) → firstRowInside 0 h ≡ false
 unfolding firstRowInside firstInside findFrom
 first-row-no-width h = refl
+
+pub first-row-wide : (w h : ℕ) → firstRowInside w h ≡ true → 0 < w
+first-row-wide zero h e = absurd (false≢true (sym (first-row-no-width h) ∙ e))
+first-row-wide (suc w) h e = omega arith
 
 pub first-row-no-height : (w : ℕ) → firstRowInside w 0 ≡ false
 unfolding firstRowInside firstInside columnInside
@@ -117,7 +128,7 @@ module _ (e : Rectangle) where
 
   -- the run from place k, and no row
   abbrev pub rowAt : Place → Row
-  rowAt (At k) = Run (record { start = left +ℤ pos k; end = left +ℤ pos w -ℤ pos k })
+  rowAt (At k) = Run (mirroredRun left w k)
   rowAt Nowhere = NoRow
 
   row-by-place : (p : Place) → runFrom (columns e) (fromLeft left p) ≡ rowAt p
@@ -130,7 +141,8 @@ module _ (e : Rectangle) where
   pub scanline-at : (j : ℕ) → scanline e (top +ℤ pos j) ≡ rowAt (firstInside w h j)
   unfolding scanline firstInside
   scanline-at j =
-      ap (runFrom (columns e)) (first-from-edge _ _ left w (λ k _. inside-about-at (e .size) e k j)) ∙ row-by-place _
+      ap (runFrom (columns e)) (first-from-edge _ _ left w (λ k _. inside-about-at (e .size) e k j))
+      ∙ row-by-place (findFrom (columnInside (containsOf w h) w (gap h j)) w 0)
 
   pub has-rows-relative : hasRows e ≡ firstRowInside w h
   unfolding hasRows firstRowInside
@@ -162,3 +174,10 @@ module _ (e : Rectangle) where
   row-placed y dy p f =
       ap (λ (z : ℤ). cond (Range·contains (rows e) z && hasRows e) (scanline e z) NoRow) (p .0)
       ∙ rw (place-among top h dy (p .1), has-rows-relative ∙ f) (scanline-at dy)
+
+  -- the row found, by the code's own search
+  pub row-found : (y : ℤ) (dy d : ℕ) (test : EllipseContains) (p : Place) → Placed top h y (At dy) → firstRowInside w h ≡ true
+      → test ≡ containsOf w h → d ≡ gap h dy → p ≡ findFrom (columnInside test w d) w 0 → rowAt p ≡ row e y
+  unfolding firstInside
+  row-found y dy d test p placed first test-is d-is p-is =
+      ap rowAt (p-is ∙ (λ i. findFrom (columnInside (test-is i) w (d-is i)) w 0)) ∙ sym (row-placed y dy placed first)

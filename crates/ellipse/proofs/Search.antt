@@ -1,10 +1,11 @@
 -- The search along a row. Up to the nearest column to the middle the test, once true, stays true, and where that column is outside
 -- all are: so halving, and walking from any column, find what looking from the left would.
 -- Assumes nothing.
-use mathlib.Core.Path.{_≡_, refl, sym, _∙_}
+use mathlib.Core.Path.{_≡_, refl, sym, subst, _∙_}
+use mathlib.Core.Logic.{⊎-elim}
 use mathlib.Core.Bool.{Bool, true, false}
 use Prim.Native.Nat.{ℕ, zero, suc, _+_, _-_, _*_, _/_, _≤_, _<_, min}
-use native.Mathlib.Nat.{le-refl}
+use native.Mathlib.Nat.{le-refl, eq-or-lt-of-le}
 use native.Mathlib.Decide.{decLe}
 use native.Mathlib.Omega.{arith}
 use Rattle.scanline.specs.declared.Place.{Place}
@@ -77,3 +78,9 @@ module _ (c : EllipseContains) (width y : ℕ) where
             at-nearest : Dec (nearest ≤ start) → test nearest ≡ false
             at-nearest (yes l) = before-start nearest (omega arith) l
             at-nearest (no l) = found-none test (nearest - start) (start + 1) e nearest (omega arith) (omega arith)
+
+-- one column more that is outside
+pub passed-more : {test : ℕ → Bool} {start k : ℕ} → ((i : ℕ) → start < i → i ≤ k → test i ≡ false) → test (k + 1) ≡ false
+    → (i : ℕ) → start < i → i ≤ k + 1 → test i ≡ false
+passed-more {test} {start} {k} passed out i s l =
+    ⊎-elim (λ e. subst (λ (j : ℕ). test j ≡ false) (sym e) out) (λ m. passed i s (omega arith)) (eq-or-lt-of-le l)

@@ -4,6 +4,8 @@
 use mathlib.Core.Bool.{Bool, cond}
 use Prim.Native.Nat.{ℕ, _+_, _-_, _*_, _≤_}
 use lib.Dec.{ltb, eqb}
+use lib.IntN.{ℤ, pos, _+ℤ_, _-ℤ_}
+use Rattle.geometry.specs.declared.Range.{Range}
 use Rattle.geometry.specs.Bounds.{wideSide, widePoint}
 use Rattle.scanline.specs.declared.Place.{Place}
 use Rattle.scanline.specs.Places.{findFrom, isAt}
@@ -57,3 +59,7 @@ firstInside w h dy = findFrom (columnInside (containsOf w h) w (gap h dy)) w 0
 -- all rows or none: by the first
 unfoldable pub firstRowInside : ℕ → ℕ → Bool
 firstRowInside w h = isAt (firstInside w h 0)
+
+-- the run from place k of w columns to its mirror image
+abbrev pub mirroredRun : ℤ → ℕ → ℕ → Range
+mirroredRun left w k = record { start = left +ℤ pos k; end = left +ℤ pos w -ℤ pos k }

@@ -13,7 +13,7 @@ ghost use Prim.Native.Nat.{_<_, _≤_};
 ghost use Rattle.signed.specs.Signed.{Near};
 ghost use Rattle.geometry.specs.Bounds.{wideSide, widePoint, SizeUpTo, Bounded};
 ghost use Rattle.ellipse.specs.Ellipse.{row as Ellipse·row, rowCount};
-ghost use Rattle.ellipse.specs.Relative.{containsOf, SmallWeights, firstRowInside};
+ghost use Rattle.ellipse.specs.Relative.{containsOf, SmallWeights, firstRowInside, mirroredRun};
 
 // All the rows or none: one test, at the middle of the first row. The Rust finds out by looking
 // through the first row.
@@ -44,6 +44,18 @@ pub fn row_count(ellipse: Rectangle) -> u32
     }
 }
 
+// The run from place k of `width` columns to its mirror image.
+pub fn mirrored(left: i32, width: u32, k: u32) -> Range
+    requires { ⌜ Near widePoint left ⌝ }
+    requires { ⌜ (width ≤ wideSide) × (k ≤ width) ⌝ }
+    ensures { λ r. ⌜ r ≡ mirroredRun left width k ⌝ }
+{
+    Range {
+        start: scanline::from_first(left, k),
+        end: scanline::before_end(left, width, k),
+    }
+}
+
 // The row at y.
 pub fn row(ellipse: Rectangle, y: i32) -> Row
     requires { ⌜ Bounded ellipse ⌝ }
@@ -62,8 +74,5 @@ pub fn row(ellipse: Rectangle, y: i32) -> Row
     let Place::At(k) = first_inside(test, size.width, gap(size.height, dy), 0, size.width) else {
         return Row::NoRow;
     };
-    Row::Run(Range {
-        start: scanline::from_first(top_left.x, k),
-        end: scanline::before_end(top_left.x, size.width, k),
-    })
+    Row::Run(mirrored(top_left.x, size.width, k))
 }

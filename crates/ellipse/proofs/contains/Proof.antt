@@ -1,33 +1,39 @@
-use native.Mathlib.Omega.{arith}
-use Rattle.signed.proofs.Laws.{int}
+-- `ellipse::contains` meets its contract: the test depends on the distances alone (`inside-by-distance`).
+-- Assumes nothing.
+use mathlib.Core.Path.{_≡_, sym, ap₂, _∙_}
+use Prim.Native.Nat.{ℕ}
+use lib.IntN.{natAbs}
+use mir.Facts.{toZ-ofZ}
+use Rattle.ellipse.specs.declared.EllipseContains.{EllipseContains}
+use Rattle.ellipse.specs.Ellipse.{center2x, fromCenter2x, insideAbout}
+use Rattle.ellipse.specs.Relative.{belowThreshold}
+use Rattle.ellipse.proofs.Distances.{inside-by-distance}
 use borrow.Author.Needs.{needs}
 use Rattle.ellipse.proofs.contains.Statement.{statement}
 use Rattle.ellipse.proofs.contains.Tie as tie
-use Rattle.ellipse.proofs.contains.Reads as reads
-use Rattle.ellipse.proofs.contains.Lts as lts
-use Rattle.ellipse.proofs.EllipseContains.contains.Reads as contains-reads
-use Rattle.ellipse.proofs.EllipseContains.new.Reads as new-reads
-use Rattle.ellipse.proofs.distance.Reads as distance-reads
 
--- src/lib.rt:147:9
 new-requires : tie.Need-new-requires
 new-requires c κs = search needs
 
--- src/lib.rt:148:9
 distance-requires : tie.Need-distance-requires
 distance-requires c κs = search needs
 
--- src/lib.rt:149:9
 distance-requires-2 : tie.Need-distance-requires-2
 distance-requires-2 c κs = search needs
 
--- src/lib.rt:150:5
 contains-requires : tie.Need-contains-requires
 contains-requires c κs = search needs
 
--- src/lib.rt:140:1
 returns : tie.Need-returns
-returns c = omega (arith, int)
+unfolding insideAbout
+returns c =
+    let entry = c .before .before .before .before .before .before .before .before .before .before in
+    let e = entry .args .ellipse in
+    let x = c .before .before .before .before .distance .ensures .0 ∙ (λ i. natAbs (fromCenter2x (toZ-ofZ (entry .pre .1 .x .fits) i) (center2x (toZ-ofZ (entry .pre .0 .at .x .fits) i) (e .size .width)))) in
+    let y = c .before .distance2 .ensures .0 ∙ (λ i. natAbs (fromCenter2x (toZ-ofZ (entry .pre .1 .y .fits) i) (center2x (toZ-ofZ (entry .pre .0 .at .y .fits) i) (e .size .height)))) in
+    c .contains .ensures
+    ∙ (λ i. belowThreshold (c .before .before .before .before .before .before .before .new .ensures .0 i) (x i) (y i))
+    ∙ sym (inside-by-distance (e .size .width) (e .size .height) _ _)
 
 pub contains-spec : {M : Type 1} → statement M
 contains-spec =

@@ -1,36 +1,33 @@
-use native.Mathlib.Omega.{arith}
-use Rattle.signed.proofs.Laws.{int}
+-- `ellipse::diameter_to_threshold` meets its contract: the test on the diameter says which case of `threshold` holds.
+-- Assumes nothing.
+use borrow.Author.Tests.{le-leb, lt-leb}
+use Rattle.ellipse.specs.Ellipse.{threshold}
+use Rattle.ellipse.proofs.Distances.{half-le-square}
 use borrow.Author.Needs.{needs}
+use native.Mathlib.Omega.{arith}
 use Rattle.ellipse.proofs.diameter_to_threshold.Statement.{statement}
 use Rattle.ellipse.proofs.diameter_to_threshold.Tie as tie
-use Rattle.ellipse.proofs.diameter_to_threshold.Reads as reads
-use Rattle.ellipse.proofs.diameter_to_threshold.Lts as lts
-use Rattle.ellipse.proofs.side_square.Reads as side-square-reads
-use Rattle.signed.proofs.wide.Reads as wide-reads
 
--- src/lib.rt:57:30
 wide-requires : tie.Need-wide-requires
 wide-requires c κs = search needs
 
--- src/lib.rt:57:9
 side-square-requires : tie.Need-side-square-requires
 side-square-requires c κs = search needs
 
--- src/lib.rt:59:18
 wide-requires-2 : tie.Need-wide-requires-2
 wide-requires-2 c κs = search needs
 
--- src/lib.rt:59:9
 sub-result : tie.Need-sub-result
-sub-result c = omega (arith, int)
+sub-result c = omega (arith, half-le-square (c .before .before .before .wide .result))
 
--- src/lib.rt:53:1
+-- up to 4
 returns : tie.Need-returns
-returns c = omega (arith, int)
+unfolding threshold
+returns c = rw (le-leb _ _ (c .before .if1 .taken)) (cc)
 
--- src/lib.rt:53:1
 returns-2 : tie.Need-returns-2
-returns-2 c = omega (arith, int)
+unfolding threshold
+returns-2 c = rw (lt-leb _ _ (c .if1 .left)) (cc)
 
 pub diameter-to-threshold-spec : {M : Type 1} → statement M
 diameter-to-threshold-spec =

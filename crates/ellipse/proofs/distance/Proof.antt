@@ -1,71 +1,69 @@
-use native.Mathlib.Omega.{arith}
-use Rattle.signed.proofs.Laws.{int}
+-- `ellipse::distance` meets its contract: by the point's own distance from the corner, on either side of it.
+-- Assumes nothing.
+use mir.Syntax.{w32}
+use mir.Val.{toZ, ofZ}
+use Rattle.signed.proofs.Laws.{int, magnitude-law}
+use Rattle.ellipse.proofs.Distances.{distance-from-corner}
 use borrow.Author.Needs.{needs}
+use native.Mathlib.Omega.{arith}
 use Rattle.ellipse.proofs.distance.Statement.{statement}
 use Rattle.ellipse.proofs.distance.Tie as tie
-use Rattle.ellipse.proofs.distance.Reads as reads
-use Rattle.ellipse.proofs.distance.Lts as lts
-use Rattle.ellipse.proofs.last_of.Reads as last-of-reads
-use Rattle.signed.proofs.floor0.Reads as floor0-reads
-use Rattle.signed.proofs.magnitude.Reads as magnitude-reads
-use Rattle.signed.proofs.sub.Reads as sub-reads
-use Rattle.signed.proofs.wide.Reads as wide-reads
 
--- src/lib.rt:126:9
 sub-requires : tie.Need-sub-requires
 sub-requires c κs = omega (arith, int)
 
--- src/lib.rt:127:9
 last-of-requires : tie.Need-last-of-requires
 last-of-requires c κs = search needs
 
--- src/lib.rt:129:33
 magnitude-requires : tie.Need-magnitude-requires
 magnitude-requires c κs = search needs
 
--- src/lib.rt:129:29
 mul-wide : tie.Need-mul-wide
-mul-wide c = omega (arith, int)
+mul-wide c = omega (arith, int, magnitude-law (toZ w32 (ofZ w32 (c .before .before .before .sub .result))))
 
--- src/lib.rt:129:29
 add-wide : tie.Need-add-wide
-add-wide c = omega (arith, int)
+add-wide c = omega (arith, int, magnitude-law (toZ w32 (ofZ w32 (c .before .before .before .sub .result))))
 
--- src/lib.rt:129:9
 wide-requires : tie.Need-wide-requires
 wide-requires c κs = search needs
 
--- src/lib.rt:129:9
+-- before the corner
 returns : tie.Need-returns
-returns c = omega (arith, int)
+returns c =
+    let entry = c .before .before .before .before .before .args in
+    let d = c .before .before .before .before .sub .result in
+    let far = distance-from-corner (entry .point) (entry .corner) d (entry .side) (omega (arith, int)) in
+    (omega (arith, int, magnitude-law (toZ w32 (ofZ w32 d))), omega (arith, int, magnitude-law (toZ w32 (ofZ w32 d))))
 
--- src/lib.rt:131:21
 floor0-requires : tie.Need-floor0-requires
 floor0-requires c κs = search needs
 
--- src/lib.rt:131:17
 mul-twice : tie.Need-mul-twice
 mul-twice c = omega (arith, int)
 
--- src/lib.rt:133:22
 sub-wide : tie.Need-sub-wide
 sub-wide c = search needs
 
--- src/lib.rt:133:9
 wide-requires-2 : tie.Need-wide-requires-2
 wide-requires-2 c κs = search needs
 
--- src/lib.rt:135:9
 wide-requires-3 : tie.Need-wide-requires-3
 wide-requires-3 c κs = search needs
 
--- src/lib.rt:120:1
+-- between the corner and the middle
 returns-2 : tie.Need-returns-2
-returns-2 c = omega (arith, int)
+returns-2 c =
+    let entry = c .before .before .before .before .before .before .args in
+    let d = c .before .before .before .before .before .sub .result in
+    let far = distance-from-corner (entry .point) (entry .corner) d (entry .side) (omega (arith, int)) in
+    (omega (arith, int), omega (arith, int))
 
--- src/lib.rt:120:1
 returns-3 : tie.Need-returns-3
-returns-3 c = omega (arith, int)
+returns-3 c =
+    let entry = c .before .before .before .before .before .before .args in
+    let d = c .before .before .before .before .before .sub .result in
+    let far = distance-from-corner (entry .point) (entry .corner) d (entry .side) (omega (arith, int)) in
+    (omega (arith, int), omega (arith, int))
 
 pub distance-spec : {M : Type 1} → statement M
 distance-spec =

@@ -1,85 +1,85 @@
+-- `ellipse::first_inside` meets its contract. The invariant: between lo and hi lies the first inside column; before lo all are
+-- outside, hi is inside.
+-- Assumes nothing.
+use mathlib.Core.Path.{_≡_, sym, ap, _∙_}
+use Prim.Native.Nat.{_-_}
+use borrow.Author.Tests.{not-true, not-false}
+use Rattle.scanline.proofs.Find.{find-none, Bracket, bracket-up, bracket-down, bracket-end}
+use Rattle.ellipse.specs.Relative.{columnInside}
+use Rattle.ellipse.proofs.Search.{columns-rise, nearest-outside}
 use native.Mathlib.Omega.{arith}
-use Rattle.signed.proofs.Laws.{int}
 use Rattle.ellipse.proofs.first_inside.Statement.{statement}
 use Rattle.ellipse.proofs.first_inside.Tie as tie
-use Rattle.ellipse.proofs.first_inside.Reads as reads
-use Rattle.ellipse.proofs.first_inside.Lts as lts
-use Rattle.ellipse.proofs.inside_left.Reads as inside-left-reads
-use Rattle.signed.proofs.least.Reads as least-reads
 
 abbrev Inv-loop : tie.InvT-loop
-Inv-loop test width y from count nearest lo₀ hi₀ lo hi = ?
+Inv-loop test width y from count nearest lo₀ hi₀ lo hi = Bracket (columnInside test width y) from nearest lo hi
 
 abbrev μ-loop : tie.MeasureT-loop
-μ-loop test width y from count nearest lo₀ hi₀ lo hi = ?
+μ-loop test width y from count nearest lo₀ hi₀ lo hi = hi - lo
 
--- src/lib.rt:171:9
 returns : tie.Need-returns Inv-loop μ-loop
-returns c = omega (arith, int)
+returns c = sym (find-none _ _ _ (λ i ki il. absurd (omega arith)))
 
--- src/lib.rt:173:34
 sub-least : tie.Need-sub-least Inv-loop μ-loop
-sub-least c = omega (arith, int)
+sub-least c = omega arith
 
--- src/lib.rt:173:50
 add-least : tie.Need-add-least Inv-loop μ-loop
-add-least c = omega (arith, int)
+add-least c = omega arith
 
--- src/lib.rt:173:50
 sub-least-2 : tie.Need-sub-least-2 Inv-loop μ-loop
-sub-least-2 c = omega (arith, int)
+sub-least-2 c = omega arith
 
--- src/lib.rt:173:9
 least-requires : tie.Need-least-requires Inv-loop μ-loop
-least-requires c κs = omega (arith, int)
+least-requires c κs = tt
 
--- src/lib.rt:174:9
 inside-left-requires : tie.Need-inside-left-requires Inv-loop μ-loop
-inside-left-requires c κs = omega (arith, int)
+inside-left-requires c κs = (c .before .before .pre .0, (omega arith, omega arith, omega arith, omega arith))
 
--- src/lib.rt:175:9
+-- the nearest column is outside
 returns-2 : tie.Need-returns-2 Inv-loop μ-loop
-returns-2 c = omega (arith, int)
+returns-2 c =
+    let entry = c .before .before .before .before .args in
+    sym (find-none _ _ _ (nearest-outside (entry .test) (entry .width) (entry .y) (entry .from) (entry .count) _ (c .before .before .least .ensures) (omega arith) (sym (c .before .inside-left .ensures) ∙ not-true _ (c .if2 .taken))))
 
--- src/lib.rt:179:5
 loop-holds : tie.Need-loop-holds Inv-loop μ-loop
-loop-holds c = omega (arith, int)
+loop-holds c =
+    record {
+      from-le = omega arith;
+      lo-le = omega arith;
+      hi-le = omega arith;
+      below = λ k f l. absurd (omega arith);
+      here = sym (c .before .inside-left .ensures) ∙ not-false _ (c .if2 .left);
+    }
 
--- src/lib.rt:180:23
 sub-k : tie.Need-sub-k Inv-loop μ-loop
-sub-k c = omega (arith, int)
+sub-k c = omega arith
 
--- src/lib.rt:180:17
 add-k : tie.Need-add-k Inv-loop μ-loop
-add-k c = omega (arith, int)
+add-k c = omega arith
 
--- src/lib.rt:181:12
 inside-left-requires-2 : tie.Need-inside-left-requires-2 Inv-loop μ-loop
-inside-left-requires-2 c κs = omega (arith, int)
+inside-left-requires-2 c κs = (c .before .before .before .before .before .before .pre .0, (omega arith, omega arith, omega arith, omega arith))
 
--- src/lib.rt:179:5
 loop-less : tie.Need-loop-less Inv-loop μ-loop
-loop-less c = omega (arith, int)
+loop-less c = omega arith
 
--- src/lib.rt:179:5
 loop-again : tie.Need-loop-again Inv-loop μ-loop
-loop-again c = omega (arith, int)
+loop-again c =
+    bracket-down (c .before .before .before .loop .inv) _ (omega arith) (omega arith) (sym (c .before .inside-left2 .ensures) ∙ c .if3 .taken)
 
--- src/lib.rt:184:18
 add-lo : tie.Need-add-lo Inv-loop μ-loop
-add-lo c = omega (arith, int)
+add-lo c = omega arith
 
--- src/lib.rt:179:5
 loop-less-2 : tie.Need-loop-less-2 Inv-loop μ-loop
-loop-less-2 c = omega (arith, int)
+loop-less-2 c = omega arith
 
--- src/lib.rt:179:5
 loop-again-2 : tie.Need-loop-again-2 Inv-loop μ-loop
-loop-again-2 c = omega (arith, int)
+loop-again-2 c =
+    bracket-up (c .before .before .before .loop .inv) _ (columns-rise _ _ _ _ _ (omega arith)) (omega arith) (omega arith)
+    (sym (c .before .inside-left2 .ensures) ∙ c .if3 .left)
 
--- src/lib.rt:164:1
 returns-3 : tie.Need-returns-3 Inv-loop μ-loop
-returns-3 c = omega (arith, int)
+returns-3 c = sym (bracket-end (c .before .loop .inv) _ (omega arith) (c .loop-test .left))
 
 pub first-inside-spec : {M : Type 1} → statement M
 first-inside-spec =

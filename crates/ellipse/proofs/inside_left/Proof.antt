@@ -1,36 +1,34 @@
-use native.Mathlib.Omega.{arith}
-use Rattle.signed.proofs.Laws.{int}
+-- `ellipse::inside_left` meets its contract: up to the middle the gap is the one difference.
+-- Assumes nothing.
+use mathlib.Core.Path.{_≡_, ap, _∙_}
+use Prim.Native.Nat.{ℕ}
+use Rattle.ellipse.specs.Relative.{gap, belowThreshold, columnInside}
 use borrow.Author.Needs.{needs}
+use native.Mathlib.Omega.{arith}
 use Rattle.ellipse.proofs.inside_left.Statement.{statement}
 use Rattle.ellipse.proofs.inside_left.Tie as tie
-use Rattle.ellipse.proofs.inside_left.Reads as reads
-use Rattle.ellipse.proofs.inside_left.Lts as lts
-use Rattle.ellipse.proofs.EllipseContains.contains.Reads as contains-reads
-use Rattle.signed.proofs.wide.Reads as wide-reads
 
--- src/lib.rt:159:32
 sub-wide : tie.Need-sub-wide
 sub-wide c = search needs
 
--- src/lib.rt:159:44
 mul-wide : tie.Need-mul-wide
 mul-wide c = search needs
 
--- src/lib.rt:159:32
 sub-wide-2 : tie.Need-sub-wide-2
 sub-wide-2 c = search needs
 
--- src/lib.rt:159:19
 wide-requires : tie.Need-wide-requires
 wide-requires c κs = search needs
 
--- src/lib.rt:159:5
 contains-requires : tie.Need-contains-requires
 contains-requires c κs = search needs
 
--- src/lib.rt:154:1
 returns : tie.Need-returns
-returns c = omega (arith, int)
+unfolding columnInside
+returns c =
+    let entry = c .before .before .args in
+    let near : c .before .wide .result ≡ gap (entry .width) (entry .k) = omega (arith, c .before .wide .ensures) in
+    c .contains .ensures ∙ ap (λ (x : ℕ). belowThreshold (entry .test) x (entry .y)) near
 
 pub inside-left-spec : {M : Type 1} → statement M
 inside-left-spec =

@@ -1,17 +1,16 @@
+-- `ellipse::times` meets its contract: the product of two bounded numbers is bounded by the bounds' product.
+-- Assumes nothing.
+use mathlib.Core.Path.{refl}
+use native.Mathlib.Nat.{mul-le-mul}
 use native.Mathlib.Omega.{arith}
-use Rattle.signed.proofs.Laws.{int}
 use Rattle.ellipse.proofs.times.Statement.{statement}
 use Rattle.ellipse.proofs.times.Tie as tie
-use Rattle.ellipse.proofs.times.Reads as reads
-use Rattle.ellipse.proofs.times.Lts as lts
 
--- src/lib.rt:49:5
 mul-result : tie.Need-mul-result
-mul-result c = omega (arith, int)
+mul-result c = record { fits = omega (arith, mul-le-mul (c .pre .0) (c .pre .1)) }
 
--- src/lib.rt:45:1
 returns : tie.Need-returns
-returns c = omega (arith, int)
+returns c = (refl, mul-le-mul (c .pre .0) (c .pre .1))
 
 pub times-spec : {M : Type 1} → statement M
 times-spec = tie.close (tie.spec mul-result returns)

@@ -1,44 +1,49 @@
+-- `ellipse::walk_right` meets its contract. The invariant: all columns after the start up to k are outside.
+-- Assumes nothing.
+use mathlib.Core.Path.{_≡_, sym, _∙_}
+use mathlib.Core.Bool.{false}
+use Prim.Native.Nat.{ℕ, _-_, _≤_, _<_}
+use native.Mathlib.Decide.{decLe}
+use Rattle.scanline.proofs.Find.{find-at, find-none}
+use Rattle.ellipse.specs.Relative.{columnInside}
+use Rattle.ellipse.proofs.Search.{passed-more}
 use native.Mathlib.Omega.{arith}
-use Rattle.signed.proofs.Laws.{int}
 use Rattle.ellipse.proofs.walk_right.Statement.{statement}
 use Rattle.ellipse.proofs.walk_right.Tie as tie
-use Rattle.ellipse.proofs.walk_right.Reads as reads
-use Rattle.ellipse.proofs.walk_right.Lts as lts
-use Rattle.ellipse.proofs.inside_left.Reads as inside-left-reads
 
 abbrev Inv-loop : tie.InvT-loop
-Inv-loop test width y start nearest k₀ k = ?
+Inv-loop test width y start nearest k₀ k =
+    (start ≤ k) × (k ≤ nearest) × ((i : ℕ) → start < i → i ≤ k → columnInside test width y i ≡ false)
 
 abbrev μ-loop : tie.MeasureT-loop
-μ-loop test width y start nearest k₀ k = ?
+μ-loop test width y start nearest k₀ k = nearest - k
 
--- src/lib.rt:216:5
 loop-holds : tie.Need-loop-holds Inv-loop μ-loop
-loop-holds c = omega (arith, int)
+loop-holds c = (omega arith, omega arith, λ i s l. absurd (omega arith))
 
--- src/lib.rt:217:9
 add-k : tie.Need-add-k Inv-loop μ-loop
-add-k c = omega (arith, int)
+add-k c = omega arith
 
--- src/lib.rt:218:12
 inside-left-requires : tie.Need-inside-left-requires Inv-loop μ-loop
-inside-left-requires c κs = omega (arith, int)
+inside-left-requires c κs = (c .before .before .pre .0, (omega arith, omega arith, omega arith, omega arith))
 
--- src/lib.rt:219:13
 returns : tie.Need-returns Inv-loop μ-loop
-returns c = omega (arith, int)
+returns c =
+    sym (find-at _ _ _ _ (omega arith) (omega arith) (λ i fi il. c .before .before .before .loop .inv .2 i (omega arith) (omega arith))
+    (sym (c .before .inside-left .ensures) ∙ c .if1 .taken))
 
--- src/lib.rt:216:5
 loop-less : tie.Need-loop-less Inv-loop μ-loop
-loop-less c = omega (arith, int)
+loop-less c = omega arith
 
--- src/lib.rt:216:5
 loop-again : tie.Need-loop-again Inv-loop μ-loop
-loop-again c = omega (arith, int)
+loop-again c = (
+  omega arith,
+  omega arith,
+  passed-more (c .before .before .before .loop .inv .2) (sym (c .before .inside-left .ensures) ∙ c .if1 .left),
+)
 
--- src/lib.rt:209:1
 returns-2 : tie.Need-returns-2 Inv-loop μ-loop
-returns-2 c = omega (arith, int)
+returns-2 c = sym (find-none _ _ _ (λ i fi il. c .before .loop .inv .2 i (omega arith) (omega arith)))
 
 pub walk-right-spec : {M : Type 1} → statement M
 walk-right-spec =

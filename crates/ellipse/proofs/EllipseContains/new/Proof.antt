@@ -1,46 +1,50 @@
-use native.Mathlib.Omega.{arith}
-use Rattle.signed.proofs.Laws.{int}
+-- `ellipse::EllipseContains::new` meets its contract: the test on the sides says which case of `containsOf` holds.
+-- Assumes nothing.
+use mathlib.Core.Path.{_≡_, refl, sym, ap, ap₂, _∙_}
+use Prim.Native.Nat.{_*_}
+use borrow.Author.Tests.{eq-eqb, ne-eqb}
+use Rattle.ellipse.specs.Relative.{containsOf}
+use Rattle.ellipse.proofs.Fields.{contains-by-fields}
 use borrow.Author.Needs.{needs}
 use Rattle.ellipse.proofs.EllipseContains.new.Statement.{statement}
 use Rattle.ellipse.proofs.EllipseContains.new.Tie as tie
-use Rattle.ellipse.proofs.EllipseContains.new.Reads as reads
-use Rattle.ellipse.proofs.EllipseContains.new.Lts as lts
-use Rattle.ellipse.proofs.diameter_to_threshold.Reads as diameter-to-threshold-reads
-use Rattle.ellipse.proofs.side_square.Reads as side-square-reads
-use Rattle.ellipse.proofs.times.Reads as times-reads
-use Rattle.signed.proofs.wide.Reads as wide-reads
 
--- src/lib.rt:71:17
 diameter-to-threshold-requires : tie.Need-diameter-to-threshold-requires
 diameter-to-threshold-requires c κs = search needs
 
--- src/lib.rt:72:13
+-- equal sides
 returns : tie.Need-returns
-returns c = omega (arith, int)
+unfolding containsOf
+returns c =
+    let equal = eq-eqb _ _ (c .before .if1 .taken) in (
+      contains-by-fields (rw equal) (rw equal) (rw equal (c .diameter-to-threshold .ensures)),
+      record { x-weight = search needs; y-weight = search needs },
+    )
 
--- src/lib.rt:78:29
 wide-requires : tie.Need-wide-requires
 wide-requires c κs = search needs
 
--- src/lib.rt:78:13
 side-square-requires : tie.Need-side-square-requires
 side-square-requires c κs = search needs
 
--- src/lib.rt:79:29
 wide-requires-2 : tie.Need-wide-requires-2
 wide-requires-2 c κs = search needs
 
--- src/lib.rt:79:13
 side-square-requires-2 : tie.Need-side-square-requires-2
 side-square-requires-2 c κs = search needs
 
--- src/lib.rt:80:13
 times-requires : tie.Need-times-requires
 times-requires c κs = search needs
 
--- src/lib.rt:66:5
 returns-2 : tie.Need-returns-2
-returns-2 c = omega (arith, int)
+unfolding containsOf
+returns-2 c =
+    let unequal = ne-eqb _ _ (c .before .before .before .before .before .if1 .left) in
+    let a = c .before .before .before .side-square .ensures .0 ∙ ap₂ _*_ (c .before .before .before .before .wide .ensures) (c .before .before .before .before .wide .ensures) in
+    let b = c .before .side-square2 .ensures .0 ∙ ap₂ _*_ (c .before .before .wide2 .ensures) (c .before .before .wide2 .ensures) in (
+      contains-by-fields (rw unequal b) (rw unequal a) (rw unequal (c .times .ensures .0 ∙ ap₂ _*_ a b)),
+      record { x-weight = c .before .side-square2 .ensures .1; y-weight = c .before .before .before .side-square .ensures .1 },
+    )
 
 pub new-spec : {M : Type 1} → statement M
 new-spec =

@@ -1,40 +1,39 @@
-use native.Mathlib.Omega.{arith}
-use Rattle.signed.proofs.Laws.{int}
+-- `ellipse::points::has_rows` meets its contract: the middle of the first row decides (`first-row-by-middle`).
+-- Assumes nothing.
+use mathlib.Core.Path.{_≡_, sym, ap, ap₂, _∙_}
+use Prim.Native.Nat.{ℕ}
+use Rattle.ellipse.specs.declared.EllipseContains.{EllipseContains}
+use Rattle.ellipse.specs.Relative.{belowThreshold, firstRowInside}
+use Rattle.ellipse.proofs.Rows.{first-row-by-middle, first-row-no-width, first-row-no-height}
 use borrow.Author.Needs.{needs}
+use native.Mathlib.Omega.{arith}
 use Rattle.ellipse.proofs.points.has_rows.Statement.{statement}
 use Rattle.ellipse.proofs.points.has_rows.Tie as tie
-use Rattle.ellipse.proofs.points.has_rows.Reads as reads
-use Rattle.ellipse.proofs.points.has_rows.Lts as lts
-use Rattle.ellipse.proofs.EllipseContains.contains.Reads as contains-reads
-use Rattle.ellipse.proofs.gap.Reads as gap-reads
 
--- src/points.rt:26:9
 returns : tie.Need-returns
-returns c = omega (arith, int)
+returns c = sym (ap (λ (n : ℕ). firstRowInside n (c .before .before .args .size .height)) (c .if1 .taken) ∙ first-row-no-width _)
 
--- src/points.rt:29:9
 returns-2 : tie.Need-returns-2
-returns-2 c = omega (arith, int)
+returns-2 c = sym (ap (firstRowInside (c .before .before .before .before .args .size .width)) (c .if2 .taken) ∙ first-row-no-height _)
 
--- src/points.rt:31:36
 sub-gap : tie.Need-sub-gap
 sub-gap c = search needs
 
--- src/points.rt:31:19
 gap-requires : tie.Need-gap-requires
 gap-requires c κs = search needs
 
--- src/points.rt:31:58
 gap-requires-2 : tie.Need-gap-requires-2
 gap-requires-2 c κs = search needs
 
--- src/points.rt:31:5
 contains-requires : tie.Need-contains-requires
 contains-requires c κs = search needs
 
--- src/points.rt:20:1
 returns-3 : tie.Need-returns-3
-returns-3 c = omega (arith, int)
+returns-3 c =
+    let entry = c .before .before .before .before .before .before .before .before in
+    c .contains .ensures
+    ∙ (λ i. belowThreshold (entry .pre .1 .0 i) (c .before .before .gap .ensures .0 i) (c .before .gap2 .ensures .0 i))
+    ∙ first-row-by-middle (entry .args .size .width) (entry .args .size .height) (omega arith)
 
 pub has-rows-spec : {M : Type 1} → statement M
 has-rows-spec =
