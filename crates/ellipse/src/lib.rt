@@ -248,3 +248,29 @@ pub fn next_inside(
     }
     walk_right(test, width, y, start, nearest)
 }
+
+// Where a search begins: anywhere, or near a column.
+pub enum Hint {
+    Unknown,
+    Near(u32),
+}
+
+// The first inside column of the `count` from `from` on, found as the hint says.
+pub fn find_inside(
+    test: EllipseContains,
+    width: u32,
+    y: u64,
+    from: u32,
+    count: u32,
+    hint: Hint,
+) -> Place
+    requires { ⌜ SmallWeights test ⌝ }
+    requires { ⌜ (0 < width) × (width ≤ wideSide) × (y ≤ wideDistance) ⌝ }
+    requires { ⌜ (from ≤ (width - 1) / 2) × (count ≤ wideSide) ⌝ }
+    ensures { λ r. ⌜ r ≡ findFrom (columnInside test width y) count from ⌝ }
+{
+    match hint {
+        Hint::Unknown => first_inside(test, width, y, from, count),
+        Hint::Near(k) => next_inside(test, width, y, from, count, k),
+    }
+}

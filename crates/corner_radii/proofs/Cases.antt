@@ -1,0 +1,143 @@
+-- The definitions computed: document 01's cases f and g, sides and radii of 0, ties between edges, offsets and limits at
+-- their ends.
+-- Assumes nothing.
+use mathlib.Core.Path.{_≡_, refl}
+use mathlib.Core.List.{List, [], _∷_, map}
+use Prim.Native.Nat.{ℕ}
+use lib.IntN.{ℤ, pos, negsuc}
+use Rattle.geometry.specs.declared.Size.{Size}
+use Rattle.geometry.specs.declared.refusal.Refusal.the-variants.{Radius}
+use Rattle.geometry.specs.declared.refusal.Checked.the-variants.{Passed, Refused}
+use Rattle.corner_radii.specs.declared.CornerRadii.{CornerRadii}
+use Rattle.corner_radii.specs.declared.Edge.{Edge}
+use Rattle.corner_radii.specs.declared.Edges.{Edges}
+use Rattle.corner_radii.specs.CornerRadii.{equalRadii, radiusCheck, radiiCheck, offsetRadius, offsetCorner, offset, overlap, furtherOver, mostOver, reduced, confine, tighter, tightest, someOver, scaledCorner, scaled, confineW3c}
+
+abbrev size : ℕ → ℕ → Size
+size w h = record { width = w; height = h }
+
+-- width and height of each corner, clockwise from top-left
+abbrev corners : ℕ → ℕ → ℕ → ℕ → ℕ → ℕ → ℕ → ℕ → CornerRadii
+corners a b c d e f g h =
+    record { «top_left» = size a b; «top_right» = size c d; «bottom_right» = size e f; «bottom_left» = size g h }
+
+abbrev all : ℕ → ℕ → CornerRadii
+all w h = equalRadii (size w h)
+
+-- ---- confined radii: a box, its radii, and what each rule makes of them
+record Case : Type 0 where
+  box : Size
+  radii : CornerRadii
+  crate : CornerRadii
+  w3c : CornerRadii
+
+abbrev case : Size → CornerRadii → CornerRadii → CornerRadii → Case
+case b r c w = record { box = b; radii = r; crate = c; w3c = w }
+
+abbrev cases : List Case
+cases =
+    -- f and g
+    case (size 10 100) (all 9 60) (all 7 50) (all 5 33)
+    -- nothing overlaps, at the last radius that does not, and one above it
+    ∷ case (size 10 100) (all 0 0) (all 0 0) (all 0 0)
+    ∷ case (size 10 100) (all 5 50) (all 5 50) (all 5 50)
+    ∷ case (size 10 100) (all 5 51) (all 4 50) (all 4 50)
+    -- sides of 0: an edge with S = 0 and L = 0 does not decide
+    ∷ case (size 0 0) (all 0 0) (all 0 0) (all 0 0)
+    ∷ case (size 0 0) (all 3 4) (all 0 0) (all 0 0)
+    ∷ case (size 0 10) (all 0 5) (all 0 5) (all 0 5)
+    ∷ case (size 0 10) (all 0 8) (all 0 5) (all 0 5)
+    ∷ case (size 10 0) (all 8 0) (all 5 0) (all 5 0)
+    -- top, right, bottom and left decide, each in its turn
+    ∷ case (size 10 10) (corners 15 2 5 1 3 1 2 1) (corners 7 1 2 0 1 0 1 0) (corners 7 1 2 0 1 0 1 0)
+    ∷ case (size 10 10) (corners 1 2 1 15 1 5 1 3) (corners 0 1 0 7 0 2 0 1) (corners 0 1 0 7 0 2 0 1)
+    ∷ case (size 10 10) (corners 3 1 2 1 5 1 15 2) (corners 1 0 1 0 2 0 7 1) (corners 1 0 1 0 2 0 7 1)
+    ∷ case (size 10 10) (corners 1 15 1 3 1 2 1 5) (corners 0 7 0 1 0 1 0 2) (corners 0 7 0 1 0 1 0 2)
+    -- equal overlaps on top and right: the top decides the crate rule
+    ∷ case (size 10 30) (all 10 20) (all 5 10) (all 5 10)
+    ∷ case (size 30 10) (all 20 10) (all 15 7) (all 10 5)
+    -- a corner that the crate rule leaves wider than its box
+    ∷ case (size 10 100) (corners 30 0 0 100 0 100 0 0) (corners 15 0 0 50 0 50 0 0) (corners 10 0 0 33 0 33 0 0)
+    -- the largest radii, and those of a stroke area
+    ∷ case (size 1024 1024) (all 1024 1024) (all 512 512) (all 512 512)
+    ∷ case (size 1536 1) (all 1280 1280) (all 0 0) (all 0 0)
+    ∷ []
+
+-- the case with what the definitions make of its radii
+abbrev computed : Case → Case
+computed c = case (c .box) (c .radii) (confine (c .radii) (c .box)) (confineW3c (c .radii) (c .box))
+
+cases-hold : map computed cases ≡ cases
+unfolding confine confineW3c reduced scaled scaledCorner someOver tighter furtherOver overlap
+cases-hold = refl
+
+-- ---- ties: four edges, and the edge that decides each rule
+record Tie : Type 0 where
+  among : Edges
+  crate : Edge
+  w3c : Edge
+
+-- S and L
+abbrev edge : ℕ → ℕ → Edge
+edge s l = record { radii = s; length = l }
+
+abbrev tie : Edge → Edge → Edge → Edge → Edge → Edge → Tie
+tie a b c d m t = record { among = record { top = a; right = b; bottom = c; left = d }; crate = m; w3c = t }
+
+abbrev ties : List Tie
+ties =
+    -- equal overlaps
+    tie (edge 20 10) (edge 40 30) (edge 50 40) (edge 60 50) (edge 20 10) (edge 20 10)
+    ∷ tie (edge 0 10) (edge 40 30) (edge 30 20) (edge 20 10) (edge 40 30) (edge 20 10)
+    ∷ tie (edge 0 10) (edge 5 30) (edge 30 20) (edge 20 10) (edge 30 20) (edge 20 10)
+    -- equal ratios
+    ∷ tie (edge 2 1) (edge 4 2) (edge 6 3) (edge 8 4) (edge 8 4) (edge 2 1)
+    ∷ tie (edge 0 0) (edge 4 2) (edge 0 0) (edge 8 4) (edge 8 4) (edge 4 2)
+    ∷ tie (edge 0 0) (edge 0 9) (edge 6 3) (edge 4 2) (edge 6 3) (edge 6 3)
+    ∷ []
+
+ties-hold : map (λ t. record { among = t .among; crate = mostOver (t .among); w3c = tightest (t .among) }) ties ≡ ties
+unfolding tighter furtherOver overlap
+ties-hold = refl
+
+-- ---- offset radii: radii, an offset, and the radii that it must give
+record Offset : Type 0 where
+  radii : CornerRadii
+  by : ℤ
+  gives : CornerRadii
+
+abbrev offset-case : CornerRadii → ℤ → CornerRadii → Offset
+offset-case r k e = record { radii = r; by = k; gives = e }
+
+abbrev offsets : List Offset
+offsets =
+    offset-case (all 0 7) (pos 0) (all 0 7)
+    ∷ offset-case (all 0 1) (pos 4) (all 4 5)
+    ∷ offset-case (corners 2 3 4 0 5 6 1 2) (negsuc 2) (corners 0 0 1 0 2 3 0 0)
+    ∷ offset-case (all 1024 255) (negsuc 255) (all 768 0)
+    ∷ offset-case (all 1024 0) (pos 256) (all 1280 256)
+    ∷ []
+
+offsets-hold : map (λ c. offset (c .radii) (c .by)) offsets ≡ map (λ c. c .gives) offsets
+unfolding offset offsetCorner offsetRadius
+offsets-hold = refl
+
+-- ---- refusal 2: at the limit, and one above it at each of the eight numbers
+abbrev within : CornerRadii
+within = all 1024 1024
+
+abbrev above : List CornerRadii
+above =
+    corners 1025 0 0 0 0 0 0 0
+    ∷ corners 0 1025 0 0 0 0 0 0
+    ∷ corners 0 0 1025 0 0 0 0 0
+    ∷ corners 0 0 0 1025 0 0 0 0
+    ∷ corners 0 0 0 0 1025 0 0 0
+    ∷ corners 0 0 0 0 0 1025 0 0
+    ∷ corners 0 0 0 0 0 0 1025 0
+    ∷ corners 0 0 0 0 0 0 0 1025
+    ∷ []
+
+checks-hold : map radiiCheck (within ∷ above) ≡ Passed ∷ map (λ _. Refused Radius) above
+unfolding radiiCheck radiusCheck
+checks-hold = refl

@@ -1,0 +1,44 @@
+-- `corner_radii::CornerRadii::offset` meets its contract: the four corners are those of `offsetCorner`.
+-- Assumes nothing.
+use mathlib.Core.Path.{ap, _∙_}
+use lib.IntN.{ℤ}
+use mir.Facts.{toZ-ofZ}
+use Rattle.corner_radii.specs.CornerRadii.{offsetCorner, offset}
+use Rattle.corner_radii.proofs.Fields.{corner-radii-by-fields}
+use borrow.Author.Needs.{needs}
+use Rattle.corner_radii.proofs.CornerRadii.offset.Statement.{statement}
+use Rattle.corner_radii.proofs.CornerRadii.offset.Tie as tie
+
+offset-corner-requires : tie.Need-offset-corner-requires
+offset-corner-requires c κs = search needs
+
+offset-corner-requires-2 : tie.Need-offset-corner-requires-2
+offset-corner-requires-2 c κs = search needs
+
+offset-corner-requires-3 : tie.Need-offset-corner-requires-3
+offset-corner-requires-3 c κs = search needs
+
+offset-corner-requires-4 : tie.Need-offset-corner-requires-4
+offset-corner-requires-4 c κs = search needs
+
+returns : tie.Need-returns
+unfolding offset
+returns c =
+    let entry = c .before .before .before .before in
+    let k-back = toZ-ofZ (entry .fits .k) in
+    let radii = entry .args .self in
+    corner-radii-by-fields
+    (c .before .before .before .offset-corner .ensures ∙ ap (λ (k : ℤ). offsetCorner k (radii .«top_left»)) k-back)
+    (c .before .before .offset-corner2 .ensures ∙ ap (λ (k : ℤ). offsetCorner k (radii .«top_right»)) k-back)
+    (c .before .offset-corner3 .ensures ∙ ap (λ (k : ℤ). offsetCorner k (radii .«bottom_right»)) k-back)
+    (c .offset-corner4 .ensures ∙ ap (λ (k : ℤ). offsetCorner k (radii .«bottom_left»)) k-back)
+
+pub offset-spec : {M : Type 1} → statement M
+offset-spec =
+    tie.close
+    (tie.spec
+    offset-corner-requires
+    offset-corner-requires-2
+    offset-corner-requires-3
+    offset-corner-requires-4
+    returns)

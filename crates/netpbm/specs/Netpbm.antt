@@ -1,0 +1,76 @@
+-- Document 01, end of 'Sheet': the bytes of a canvas that is written as Netpbm P5, and what the call that writes it promises.
+-- Assumes nothing.
+use mathlib.Core.Bool.{cond}
+use mathlib.Core.List.{List, [], _∷_, _++_}
+use Prim.Native.Nat.{ℕ, zero, suc, _+_, _/_, _%_}
+use lib.Dec.{ltb}
+use lib.IntN.{pos}
+use lib.ListN.{length}
+use lib.Seq.{sets}
+use Rattle.geometry.specs.declared.refusal.Refusal.the-variants.{BufferLength}
+use Rattle.geometry.specs.declared.refusal.Checked.{Checked}
+use Rattle.geometry.specs.declared.refusal.Checked.the-variants.{Passed, Refused}
+use Rattle.geometry.specs.Refusal.{number, refuseIf, orElse, above, Outcome, refused, answered, unless}
+use Rattle.netpbm.specs.declared.WriteAnswer.{WriteAnswer}
+use Rattle.netpbm.specs.declared.WriteAnswer.the-variants as write-answer
+use Rattle.netpbm.specs.CanvasSize.{canvasSizeCheck, canvasLengthCheck}
+
+-- the byte of a decimal digit; 48 is `0`
+abbrev pub digit : ℕ → ℕ
+digit d = 48 + d
+
+-- the decimal digits of n, the most significant first: n itself below ten, else those of n / 10 and then the last. The first
+-- number is how many digits there may be
+unfoldable pub decimalUpTo : ℕ → ℕ → List ℕ
+decimalUpTo zero n = []
+decimalUpTo (suc most) n =
+    let front = decimalUpTo most (n / 10) in
+    cond (ltb n 10) (digit n ∷ []) (front ++ (digit (n % 10) ∷ []))
+
+-- a number in decimal, without leading zeros. It never has more than n + 1 digits
+unfoldable pub decimal : ℕ → List ℕ
+decimal n = decimalUpTo (suc n) n
+
+-- the fixed parts of a header: `P5` and LF before W; space between W and H; LF, `255` and LF after H
+abbrev pub magic : List ℕ
+magic = 80 ∷ 53 ∷ 10 ∷ []
+
+abbrev pub space : List ℕ
+space = 32 ∷ []
+
+abbrev pub maximum : List ℕ
+maximum = 10 ∷ 50 ∷ 53 ∷ 53 ∷ 10 ∷ []
+
+-- `P5`, LF, W, space, H, LF, `255`, LF
+unfoldable pub header : ℕ → ℕ → List ℕ
+header W H = magic ++ decimal W ++ space ++ decimal H ++ maximum
+
+-- then the bytes of the canvas
+abbrev pub p5 : ℕ → ℕ → List ℕ → List ℕ
+p5 W H canvas = header W H ++ canvas
+
+-- 13: a file buffer of room bytes is too short for so many
+abbrev pub roomCheck : ℕ → ℕ → Checked
+roomCheck needed room = refuseIf (above room needed) BufferLength
+
+-- 6, 8 and 13 of a canvas that is written into a file buffer
+unfoldable pub writeCheck : ℕ → ℕ → List ℕ → List ℕ → Checked
+writeCheck W H canvas file =
+    orElse (orElse (canvasSizeCheck W H) (canvasLengthCheck W H (length canvas))) (roomCheck (length (p5 W H canvas)) (length file))
+
+-- what an answer says: a refusal its number, else the length of the file
+abbrev pub writeOutcome : WriteAnswer → Outcome
+writeOutcome (write-answer.Refused refusal) = refused (number refusal)
+writeOutcome (write-answer.Written n) = answered (pos n ∷ [])
+
+-- a lent buffer after a call: after a refusal as it was
+abbrev pub keeping : Checked → List ℕ → List ℕ → List ℕ
+keeping (Refused refusal) before after = before
+keeping Passed before after = after
+
+-- `write_p5`: its answer, and the file buffer afterwards, in which the bytes past the file stay
+abbrev pub writeCall : ℕ → ℕ → List ℕ → List ℕ → Outcome
+writeCall W H canvas file = unless (writeCheck W H canvas file) (pos (length (p5 W H canvas)) ∷ [])
+
+abbrev pub fileAfter : ℕ → ℕ → List ℕ → List ℕ → List ℕ
+fileAfter W H canvas file = keeping (writeCheck W H canvas file) file (sets file 0 (p5 W H canvas))

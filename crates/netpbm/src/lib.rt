@@ -1,0 +1,84 @@
+// A canvas as a Netpbm picture in a lent file buffer: P5, the grey format of the netpbm tools'
+// `pgm(5)`, with a byte for each pixel. Document 01 adds it; the Rust has no such file.
+//
+// The call that a host makes has no `requires`: it refuses by the lowest number that applies and
+// then has written nothing. The functions below it are for callers that have made the checks.
+pub mod canvas_size;
+pub mod text;
+
+use crate::canvas_size::CanvasSize;
+use crate::text::number_length;
+use crate::text::put;
+use crate::text::put_number;
+use geometry::refusal::Checked;
+use geometry::refusal::Refusal;
+ghost use mathlib.Core.Path.{_≡_};
+ghost use Prim.Native.Nat.{_≤_};
+ghost use lib.ListN.{length};
+ghost use Rattle.netpbm.specs.Netpbm.{header, p5, roomCheck, writeOutcome, writeCall, fileAfter};
+ghost use Rattle.netpbm.specs.Written.{Wrote};
+
+pub enum WriteAnswer {
+    Refused(Refusal),
+    // The length of the file, from the buffer's start.
+    Written(usize),
+}
+
+// The bytes of a header other than its two numbers.
+const HEADER_FIXED: usize = 9;
+
+fn header_length(size: CanvasSize) -> usize
+    ensures { λ r. ⌜ r ≡ length (header (size .width) (size .height)) ⌝ }
+{
+    HEADER_FIXED + number_length(size.width) + number_length(size.height)
+}
+
+// Puts `P5`, LF, W, space, H, LF, `255`, LF at the start of file.
+fn put_header(file: &mut [u8], size: CanvasSize) -> usize
+    requires { ⌜ length (header (size .width) (size .height)) ≤ length (now file) ⌝ }
+    ensures { λ r. ⌜ Wrote (now (file .entry)) 0 (header (size .width) (size .height)) (now (file .exit)) r ⌝ }
+{
+    let width_at = put(file, 0, b"P5\n");
+    let space_at = put_number(file, width_at, size.width);
+    let height_at = put(file, space_at, b" ");
+    let maximum_at = put_number(file, height_at, size.height);
+    put(file, maximum_at, b"\n255\n")
+}
+
+// Puts the header and then the canvas.
+fn put_p5(file: &mut [u8], size: CanvasSize, canvas: &[u8]) -> usize
+    requires { ⌜ length (p5 (size .width) (size .height) (now canvas)) ≤ length (now file) ⌝ }
+    ensures { λ r. ⌜ Wrote (now (file .entry)) 0 (p5 (size .width) (size .height) (now (canvas .entry))) (now (file .exit)) r ⌝ }
+{
+    let raster_at = put_header(file, size);
+    put(file, raster_at, canvas)
+}
+
+// Refusal 13 of a buffer that has room bytes where so many are needed.
+fn check_room(needed: usize, room: usize) -> Checked
+    ensures { λ r. ⌜ r ≡ roomCheck needed room ⌝ }
+{
+    if room < needed {
+        Checked::Refused(Refusal::BufferLength)
+    } else {
+        Checked::Passed
+    }
+}
+
+// Writes the canvas, width by height pixels, as P5 to the start of file. Refused by 6, 8 and 13.
+pub fn write_p5(width: u32, height: u32, canvas: &[u8], file: &mut [u8]) -> WriteAnswer
+    ensures { λ r. ⌜ writeOutcome r ≡ writeCall width height (now (canvas .entry)) (now (file .entry)) ⌝ }
+    ensures { λ r. ⌜ now (file .exit) ≡ fileAfter width height (now (canvas .entry)) (now (file .entry)) ⌝ }
+{
+    let size = CanvasSize {
+        width: width,
+        height: height,
+    };
+    let sides = size.check();
+    let pixels = size.check_length(canvas.len());
+    let room = check_room(header_length(size) + canvas.len(), file.len());
+    let Checked::Refused(refusal) = sides.or_else(pixels).or_else(room) else {
+        return WriteAnswer::Written(put_p5(file, size, canvas));
+    };
+    WriteAnswer::Refused(refusal)
+}

@@ -1,0 +1,73 @@
+// A corner of a box: the test of the whole ellipse of twice its radii, by columns and rows counted
+// from the corner inward, after embedded-graphics 0.8.2 `rounded_rectangle/ellipse_quadrant.rs`.
+use ellipse::EllipseContains;
+use ellipse::Hint;
+use geometry::Size;
+use scanline::Place;
+ghost use mathlib.Core.Path.{_≡_};
+ghost use mathlib.Core.Bool.{true};
+ghost use Prim.Native.Nat.{_<_, _≤_};
+ghost use Rattle.geometry.specs.Bounds.{wideSide, SizeUpTo};
+ghost use Rattle.corner_radii.specs.Bounds.{wideRadius};
+ghost use Rattle.rounded_rectangle.specs.Relative.{Ready, insideCorner, inQuadrant, inset as Relative·inset};
+
+pub struct EllipseQuadrant {
+    pub radius: Size,
+    pub test: EllipseContains,
+}
+
+// Whether column d and row e are within the quadrant.
+pub fn in_quadrant(radius: Size, d: u32, e: u32) -> bool
+    ensures { λ r. ⌜ r ≡ inQuadrant radius d e ⌝ }
+{
+    e < radius.height && d < radius.width
+}
+
+impl EllipseQuadrant {
+    pub fn new(radius: Size) -> EllipseQuadrant
+        requires { ⌜ SizeUpTo wideRadius radius ⌝ }
+        ensures { λ r. ⌜ (r .radius ≡ radius) × Ready r ⌝ }
+    {
+        let sides = Size {
+            width: 2 * radius.width,
+            height: 2 * radius.height,
+        };
+        EllipseQuadrant {
+            radius: radius,
+            test: EllipseContains::new(sides),
+        }
+    }
+
+    // The test at a column and a row of the quadrant.
+    pub fn contains(self, d: u32, e: u32) -> bool
+        requires { ⌜ Ready self ⌝ }
+        requires { ⌜ inQuadrant (self .radius) d e ≡ true ⌝ }
+        ensures { λ r. ⌜ r ≡ insideCorner (self .radius) d e ⌝ }
+    {
+        let radius = self.radius;
+        let test = self.test;
+        test.contains(
+            ellipse::gap(2 * radius.width, d),
+            ellipse::gap(2 * radius.height, e),
+        )
+    }
+
+    // How many of n columns from the corner on come before the first inside one on its row e, 0 if
+    // none is inside. The radius may be larger than n: the ellipse's middle then lies beyond them.
+    pub fn inset(self, e: u32, n: u32, hint: Hint) -> u32
+        requires { ⌜ Ready self ⌝ }
+        requires { ⌜ (e < self .radius .height) × (n ≤ wideSide) ⌝ }
+        ensures { λ r. ⌜ (r ≡ Relative·inset (self .radius) e n) × (r ≤ n) ⌝ }
+    {
+        let radius = self.radius;
+        if radius.width == 0 {
+            return 0;
+        }
+        let test = self.test;
+        let y = ellipse::gap(2 * radius.height, e);
+        let Place::At(k) = ellipse::find_inside(test, 2 * radius.width, y, 0, n, hint) else {
+            return 0;
+        };
+        k
+    }
+}

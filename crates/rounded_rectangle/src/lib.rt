@@ -1,0 +1,201 @@
+// The rounded box whose radii are confined: its test and its rows, after embedded-graphics 0.8.2
+// `rounded_rectangle/mod.rs` (`RoundedRectangleContains`) and `points.rs` (`Scanlines`). Columns and
+// rows are counted from the box's corners, unsigned; signed numbers come in with the asked point or
+// row, and go out with the run.
+use corner_radii::CornerRadii;
+use ellipse::Hint;
+use ellipse_quadrant::EllipseQuadrant;
+use ellipse_quadrant::in_quadrant;
+use geometry::Point;
+use geometry::Range;
+use geometry::Size;
+use geometry::rectangle::Rectangle;
+use scanline::Place;
+use scanline::Row;
+
+pub mod ellipse_quadrant;
+
+ghost use mathlib.Core.Path.{_≡_};
+ghost use Prim.Native.Nat.{_<_, _≤_};
+ghost use lib.IntN.{pos, _+ℤ_};
+ghost use Rattle.signed.specs.Signed.{Near};
+ghost use Rattle.geometry.specs.Bounds.{widePoint, wideSide, PointNear, SizeUpTo};
+ghost use Rattle.corner_radii.specs.Bounds.{wideRadius, wideStrokeSide, RadiiUpTo};
+ghost use Rattle.rounded_rectangle.specs.RoundedRectangle.{contains as RoundedRectangle·contains, run as RoundedRectangle·run, row as RoundedRectangle·row};
+ghost use Rattle.rounded_rectangle.specs.Relative.{BoundedBox, Ready, ReadyBox, radii, sideInset, containsAt, rowInsets, runBetween};
+
+pub struct RoundedRectangle {
+    pub rectangle: Rectangle,
+    pub corners: CornerRadii,
+}
+
+// A box made ready for many tests: its size and its quadrants.
+pub struct RoundedRectangleContains {
+    pub size: Size,
+    pub top_left: EllipseQuadrant,
+    pub top_right: EllipseQuadrant,
+    pub bottom_right: EllipseQuadrant,
+    pub bottom_left: EllipseQuadrant,
+}
+
+// How far a row's run stays within the box's columns, on the left and on the right.
+pub struct Insets {
+    pub left: u32,
+    pub right: u32,
+}
+
+// The inset on one side of the box, on its row dy of h, of n columns: by the upper corner, else by
+// the lower, else 0.
+fn side_inset(
+    upper: EllipseQuadrant,
+    lower: EllipseQuadrant,
+    h: u32,
+    n: u32,
+    dy: u32,
+    hint: Hint,
+) -> u32
+    requires { ⌜ Ready upper ⌝ }
+    requires { ⌜ Ready lower ⌝ }
+    requires { ⌜ (dy < h) × (n ≤ wideSide) ⌝ }
+    ensures { λ r. ⌜ (r ≡ sideInset (upper .radius) (lower .radius) h n dy) × (r ≤ n) ⌝ }
+{
+    let above = upper.radius;
+    if dy < above.height {
+        return upper.inset(dy, n, hint);
+    }
+    let below = lower.radius;
+    if h - 1 - dy < below.height {
+        return lower.inset(h - 1 - dy, n, hint);
+    }
+    0
+}
+
+impl RoundedRectangleContains {
+    pub fn new(size: Size, corners: CornerRadii) -> RoundedRectangleContains
+        requires { ⌜ SizeUpTo wideStrokeSide size ⌝ }
+        requires { ⌜ RadiiUpTo wideRadius corners ⌝ }
+        ensures { λ r. ⌜ (r .size ≡ size) × (radii r ≡ corners) × ReadyBox r ⌝ }
+    {
+        RoundedRectangleContains {
+            size: size,
+            top_left: EllipseQuadrant::new(corners.top_left),
+            top_right: EllipseQuadrant::new(corners.top_right),
+            bottom_right: EllipseQuadrant::new(corners.bottom_right),
+            bottom_left: EllipseQuadrant::new(corners.bottom_left),
+        }
+    }
+
+    // Whether the box contains its column dx on its row dy.
+    pub fn contains(self, dx: u32, dy: u32) -> bool
+        requires { ⌜ ReadyBox self ⌝ }
+        requires { ⌜ (dx < self .size .width) × (dy < self .size .height) ⌝ }
+        ensures { λ r. ⌜ r ≡ containsAt (radii self) (self .size .width) (self .size .height) dx dy ⌝ }
+    {
+        let size = self.size;
+        let beside = size.width - 1 - dx;
+        let below = size.height - 1 - dy;
+        let top_left = self.top_left;
+        if in_quadrant(top_left.radius, dx, dy) {
+            return top_left.contains(dx, dy);
+        }
+        let top_right = self.top_right;
+        if in_quadrant(top_right.radius, beside, dy) {
+            return top_right.contains(beside, dy);
+        }
+        let bottom_left = self.bottom_left;
+        if in_quadrant(bottom_left.radius, dx, below) {
+            return bottom_left.contains(dx, below);
+        }
+        let bottom_right = self.bottom_right;
+        if in_quadrant(bottom_right.radius, beside, below) {
+            return bottom_right.contains(beside, below);
+        }
+        true
+    }
+
+    // The insets of the box's row dy. The hints are the insets of a row nearby.
+    pub fn insets(self, dy: u32, left_hint: Hint, right_hint: Hint) -> Insets
+        requires { ⌜ ReadyBox self ⌝ }
+        requires { ⌜ dy < self .size .height ⌝ }
+        ensures { λ r. ⌜ (r ≡ rowInsets (radii self) (self .size .width) (self .size .height) dy) × (r .left ≤ self .size .width) × (r .right ≤ self .size .width) ⌝ }
+    {
+        let size = self.size;
+        let top_left = self.top_left;
+        let top_right = self.top_right;
+        let bottom_right = self.bottom_right;
+        let bottom_left = self.bottom_left;
+        Insets {
+            left: side_inset(
+                top_left,
+                bottom_left,
+                size.height,
+                size.width,
+                dy,
+                left_hint,
+            ),
+            right: side_inset(
+                top_right,
+                bottom_right,
+                size.height,
+                size.width,
+                dy,
+                right_hint,
+            ),
+        }
+    }
+}
+
+// The run between two insets of `width` columns from `left` on.
+pub fn run_between(left: i32, width: u32, insets: Insets) -> Range
+    requires { ⌜ Near widePoint left ⌝ }
+    requires { ⌜ width ≤ wideSide ⌝ }
+    requires { ⌜ (insets .left ≤ width) × (insets .right ≤ width) ⌝ }
+    ensures { λ r. ⌜ r ≡ runBetween left width insets ⌝ }
+{
+    Range {
+        start: scanline::from_first(left, insets.left),
+        end: scanline::before_end(left, width, insets.right),
+    }
+}
+
+impl RoundedRectangle {
+    // `RoundedRectangleContains::contains`, at any point.
+    pub fn contains(self, point: Point) -> bool
+        requires { ⌜ BoundedBox self ⌝ }
+        requires { ⌜ PointNear widePoint point ⌝ }
+        ensures { λ r. ⌜ r ≡ RoundedRectangle·contains self (point .x) (point .y) ⌝ }
+    {
+        let rectangle = self.rectangle;
+        let top_left = rectangle.top_left;
+        let size = rectangle.size;
+        let Place::At(dx) = scanline::place_of(top_left.x, size.width, point.x) else {
+            return false;
+        };
+        let Place::At(dy) = scanline::place_of(top_left.y, size.height, point.y) else {
+            return false;
+        };
+        let corners = self.corners;
+        RoundedRectangleContains::new(size, corners).contains(dx, dy)
+    }
+
+    // The row at y.
+    pub fn row(self, y: i32) -> Row
+        requires { ⌜ BoundedBox self ⌝ }
+        requires { ⌜ Near widePoint y ⌝ }
+        ensures { λ r. ⌜ r ≡ RoundedRectangle·row self y ⌝ }
+    {
+        let rectangle = self.rectangle;
+        let top_left = rectangle.top_left;
+        let size = rectangle.size;
+        let Place::At(dy) = scanline::place_of(top_left.y, size.height, y) else {
+            return Row::NoRow;
+        };
+        let corners = self.corners;
+        let insets = RoundedRectangleContains::new(size, corners).insets(
+            dy,
+            Hint::Unknown,
+            Hint::Unknown,
+        );
+        Row::Run(run_between(top_left.x, size.width, insets))
+    }
+}
