@@ -21,6 +21,7 @@ use Rattle.scanline.specs.declared.Row.{Row}
 use Rattle.scanline.specs.declared.Row.the-variants.{Run, NoRow}
 use Rattle.scanline.specs.Columns.{firstColumn}
 use Rattle.scanline.specs.Places.{findFrom, isAt, Placed}
+use Rattle.scanline.specs.Points.{EndsWithin}
 use Rattle.scanline.proofs.Find.{FoundAt, find-at, find-none, found-at, found-none}
 use Rattle.scanline.proofs.Columns.{fromLeft, first-from-edge, column-zero}
 use Rattle.scanline.proofs.Placed.{place-among}
@@ -100,6 +101,16 @@ first-row-wide (suc w) h e = omega arith
 pub first-row-no-height : (w : ℕ) → firstRowInside w 0 ≡ false
 unfolding firstRowInside firstInside columnInside
 first-row-no-height w = ap isAt (find-none (λ k. belowThreshold (containsOf w 0) (gap w k) (gap 0 0)) w 0 (λ i _ _. no-height-outside w (gap w i) (gap 0 0)))
+
+-- the run from a place of w columns keeps to them
+pub mirrored-within : (left : ℤ) (w k : ℕ) → k ≤ w → EndsWithin left w (mirroredRun left w k)
+mirrored-within left w k l =
+    record {
+      start-from = omega (arith, int, add-law left (pos k));
+      start-to = omega (arith, int, add-law left (pos k), add-law left (pos w));
+      end-from = omega (arith, int, add-law left (pos w), sub-law (left +ℤ pos w) (pos k));
+      end-to = omega (arith, int, add-law left (pos w), sub-law (left +ℤ pos w) (pos k));
+    }
 
 -- ---- from signed columns and rows to places
 -- the test of the ellipse of any sides about the C of a rectangle, at its column k and row j

@@ -12,6 +12,7 @@ ghost use mathlib.Core.Bool.{true, false};
 ghost use Prim.Native.Nat.{_<_, _≤_};
 ghost use Rattle.signed.specs.Signed.{Near};
 ghost use Rattle.geometry.specs.Bounds.{wideSide, widePoint, SizeUpTo, Bounded};
+ghost use Rattle.scanline.specs.Points.{RowWithin};
 ghost use Rattle.ellipse.specs.Ellipse.{row as Ellipse·row, rowCount};
 ghost use Rattle.ellipse.specs.Relative.{containsOf, SmallWeights, firstRowInside, mirroredRun};
 
@@ -60,7 +61,7 @@ pub fn mirrored(left: i32, width: u32, k: u32) -> Range
 pub fn row(ellipse: Rectangle, y: i32) -> Row
     requires { ⌜ Bounded ellipse ⌝ }
     requires { ⌜ Near widePoint y ⌝ }
-    ensures { λ r. ⌜ r ≡ Ellipse·row ellipse y ⌝ }
+    ensures { λ r. ⌜ (r ≡ Ellipse·row ellipse y) × RowWithin (ellipse .«top_left» .x) (ellipse .size .width) r ⌝ }
 {
     let top_left = ellipse.top_left;
     let size = ellipse.size;

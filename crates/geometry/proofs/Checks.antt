@@ -16,11 +16,11 @@ use Rattle.geometry.specs.declared.refusal.Refusal.{Refusal}
 use Rattle.geometry.specs.declared.refusal.Refusal.the-variants.{Side, Position}
 use Rattle.geometry.specs.declared.refusal.Checked.{Checked}
 use Rattle.geometry.specs.declared.refusal.Checked.the-variants.{Passed, Refused}
-use Rattle.geometry.specs.Limits.{maxSide, maxPosition, maxOffset}
+use Rattle.geometry.specs.Limits.{maxSide, maxPosition, maxAsked, maxOffset}
 use Rattle.geometry.specs.Bounds.{widePoint, wideSide, PointNear, SizeUpTo, Bounded}
 use Rattle.geometry.specs.Rectangle.{centerTerm, withCenter}
 use Rattle.geometry.specs.Refusal.{refuseIf, orElse, above, beyond}
-use Rattle.geometry.specs.Calls.{sizeCheck, positionCheck, rectangleCheck, centerCheck, offsetCheck}
+use Rattle.geometry.specs.Calls.{sizeCheck, positionCheck, rectangleCheck, centerCheck, askedCheck, pointCheck, offsetCheck}
 
 -- ---- checks in general
 pub passed-first : (a b : Checked) → orElse a b ≡ Passed → a ≡ Passed
@@ -74,6 +74,15 @@ rectangle-bounded r e =
 pub offset-passed : (k : ℤ) → offsetCheck k ≡ Passed → Near maxOffset k
 unfolding offsetCheck
 offset-passed k e = near-within maxOffset k (passed-beyond maxOffset k _ e) (omega arith)
+
+pub asked-passed : (z : ℤ) → askedCheck z ≡ Passed → Near maxAsked z
+unfolding askedCheck
+asked-passed z e = near-within maxAsked z (passed-beyond maxAsked z _ e) (omega arith)
+
+pub point-passed : (p : Point) → pointCheck p ≡ Passed → PointNear maxAsked p
+unfolding pointCheck
+point-passed p e =
+    record { x = asked-passed (p .x) (passed-first _ _ e); y = asked-passed (p .y) (passed-next (askedCheck (p .x)) _ e) }
 
 -- ---- a centre that passes is near
 pub center-passed : (c : Point) → centerCheck c ≡ Passed → PointNear (2 * widePoint) c

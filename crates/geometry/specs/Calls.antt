@@ -13,9 +13,9 @@ use Rattle.geometry.specs.declared.rectangle.RangeAnswer.{RangeAnswer}
 use Rattle.geometry.specs.declared.rectangle.RangeAnswer.the-variants as range-answer
 use Rattle.geometry.specs.declared.rectangle.RectangleAnswer.{RectangleAnswer}
 use Rattle.geometry.specs.declared.rectangle.RectangleAnswer.the-variants as rectangle-answer
-use Rattle.geometry.specs.declared.refusal.Refusal.the-variants.{Side, Position, Offset}
+use Rattle.geometry.specs.declared.refusal.Refusal.the-variants.{Side, Position, Asked, Offset}
 use Rattle.geometry.specs.declared.refusal.Checked.{Checked}
-use Rattle.geometry.specs.Limits.{maxSide, maxPosition, maxOffset}
+use Rattle.geometry.specs.Limits.{maxSide, maxPosition, maxAsked, maxOffset}
 use Rattle.geometry.specs.Rectangle.{center, withCenter, rows, columns, offset}
 use Rattle.geometry.specs.Refusal.{number, refuseIf, orElse, above, beyond, Outcome, refused, answered, unless}
 
@@ -60,6 +60,13 @@ rectangleCheck r = orElse (sizeCheck (r .size)) (positionCheck (r .«top_left»)
 unfoldable pub centerCheck : Point → Checked
 centerCheck c =
     orElse (refuseIf (beyond (maxPosition + maxSide) (c .x)) Position) (refuseIf (beyond (maxPosition + maxSide) (c .y)) Position)
+
+-- 4: an asked coordinate or row beyond the limit, and a point of two
+unfoldable pub askedCheck : ℤ → Checked
+askedCheck z = refuseIf (beyond maxAsked z) Asked
+
+unfoldable pub pointCheck : Point → Checked
+pointCheck p = orElse (askedCheck (p .x)) (askedCheck (p .y))
 
 -- 5: an offset beyond the limit
 unfoldable pub offsetCheck : ℤ → Checked

@@ -52,3 +52,12 @@ pub data Outcome : Type 0 where
 abbrev pub unless : Checked → List ℤ → Outcome
 unless (Refused refusal) values = refused (number refusal)
 unless Passed values = answered values
+
+-- a lent buffer after a call: after a refusal as it was
+abbrev pub keeping : {A : Type 0} → Checked → A → A → A
+keeping (Refused refusal) before after = before
+keeping Passed before after = after
+
+-- 13: a lent list or buffer with too little room for what is needed
+abbrev pub roomCheck : ℕ → ℕ → Checked
+roomCheck needed room = refuseIf (above room needed) BufferLength

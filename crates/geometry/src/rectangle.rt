@@ -10,7 +10,7 @@ use crate::refusal::refuse_above;
 use crate::refusal::refuse_beyond;
 ghost use mathlib.Core.Path.{_≡_};
 ghost use Rattle.geometry.specs.Refusal.{unless};
-ghost use Rattle.geometry.specs.Calls.{sizeCheck, positionCheck, rectangleCheck, centerCheck, offsetCheck, rectangleValues, pointOutcome, rangeOutcome, rectangleOutcome, centerCall, rowsCall, columnsCall, withCenterCall, offsetCall};
+ghost use Rattle.geometry.specs.Calls.{sizeCheck, positionCheck, rectangleCheck, centerCheck, askedCheck, pointCheck, offsetCheck, rectangleValues, pointOutcome, rangeOutcome, rectangleOutcome, centerCall, rowsCall, columnsCall, withCenterCall, offsetCall};
 
 pub struct Rectangle {
     pub top_left: Point,
@@ -48,6 +48,19 @@ pub fn check_position(top_left: Point) -> Checked
     let x = refuse_beyond(Rectangle::MAX_POSITION, top_left.x, Refusal::Position);
     let y = refuse_beyond(Rectangle::MAX_POSITION, top_left.y, Refusal::Position);
     x.or_else(y)
+}
+
+// Refusal 4 of an asked row, and of an asked point.
+pub fn check_row(y: i32) -> Checked
+    ensures { λ r. ⌜ r ≡ askedCheck y ⌝ }
+{
+    refuse_beyond(Point::MAX_ASKED, y, Refusal::Asked)
+}
+
+pub fn check_point(point: Point) -> Checked
+    ensures { λ r. ⌜ r ≡ pointCheck point ⌝ }
+{
+    check_row(point.x).or_else(check_row(point.y))
 }
 
 // Refusal 5 of an offset.

@@ -1,7 +1,7 @@
 // The refusals of document 01's table, and the checks that lead to them. A call makes its checks in
 // the table's order, so the first that fails gives the lowest number that applies.
 ghost use mathlib.Core.Path.{_≡_};
-ghost use Rattle.geometry.specs.Refusal.{number as Refusal·number, refuseIf, orElse, above, beyond};
+ghost use Rattle.geometry.specs.Refusal.{number as Refusal·number, refuseIf, orElse, above, beyond, roomCheck};
 
 pub enum Refusal {
     // A side above the limit.
@@ -89,4 +89,15 @@ pub fn refuse_beyond(limit: u32, value: i32, refusal: Refusal) -> Checked
     ensures { λ r. ⌜ r ≡ refuseIf (beyond limit value) refusal ⌝ }
 {
     refuse_above(limit, signed::magnitude(value), refusal)
+}
+
+// Refuses a lent list or buffer that has `room` places where so many are needed (refusal 13).
+pub fn check_room(needed: usize, room: usize) -> Checked
+    ensures { λ r. ⌜ r ≡ roomCheck needed room ⌝ }
+{
+    if room < needed {
+        Checked::Refused(Refusal::BufferLength)
+    } else {
+        Checked::Passed
+    }
 }

@@ -9,7 +9,7 @@ use Rattle.geometry.specs.declared.refusal.Refusal.the-variants.{BufferLength}
 use Rattle.geometry.specs.declared.refusal.Checked.the-variants.{Passed}
 use Rattle.geometry.specs.Refusal.{orElse}
 use Rattle.geometry.proofs.Checks.{passed-next, passed-above}
-use Rattle.netpbm.specs.CanvasSize.{canvasSizeCheck, canvasLengthCheck}
+use Rattle.canvas_size.specs.CanvasSize.{canvasSizeCheck, canvasLengthCheck}
 use Rattle.netpbm.specs.Netpbm.{decimal, header, p5, writeCheck, fileAfter}
 use Rattle.netpbm.proofs.Written.{sets-start}
 use Rattle.netpbm.proofs.Decimal.{length-decimal-least, length-decimal-most, length-decimal-u32}

@@ -1,6 +1,5 @@
--- `CanvasSize` tells what the checks of a canvas say; `Written` joins writes; `Decimal` has the laws of decimal numbers; `Header`
+-- `Written` joins writes; `Decimal` has the laws of decimal numbers; `Header`
 -- those of the header and of the file; `Pictures` computes the definitions at document 01's picture and at the ends.
-pub mod CanvasSize
 pub mod Written
 pub mod Decimal
 pub mod Header

@@ -7,7 +7,7 @@ use Prim.Native.Nat.{ℕ}
 use lib.IntN.{pos}
 use lib.ListN.{replicate}
 use Rattle.geometry.specs.Refusal.{refused, answered}
-use Rattle.netpbm.specs.CanvasSize.{canvasSizeCheck, canvasLengthCheck}
+use Rattle.canvas_size.specs.CanvasSize.{canvasSizeCheck, canvasLengthCheck}
 use Rattle.netpbm.specs.Netpbm.{decimalUpTo, decimal, header, writeCheck, writeCall, fileAfter}
 
 decimals-hold : map decimal (0 ∷ 1 ∷ 2 ∷ 3 ∷ 4 ∷ 5 ∷ 6 ∷ 7 ∷ 8 ∷ 9 ∷ 10 ∷ 99 ∷ 100 ∷ 999 ∷ 1000 ∷ 1024 ∷ 4096 ∷ [])

@@ -7,13 +7,11 @@ use lib.Dec.{ltb}
 use lib.IntN.{pos}
 use lib.ListN.{length}
 use lib.Seq.{sets}
-use Rattle.geometry.specs.declared.refusal.Refusal.the-variants.{BufferLength}
 use Rattle.geometry.specs.declared.refusal.Checked.{Checked}
-use Rattle.geometry.specs.declared.refusal.Checked.the-variants.{Passed, Refused}
-use Rattle.geometry.specs.Refusal.{number, refuseIf, orElse, above, Outcome, refused, answered, unless}
+use Rattle.geometry.specs.Refusal.{number, orElse, Outcome, refused, answered, unless, keeping, roomCheck}
 use Rattle.netpbm.specs.declared.WriteAnswer.{WriteAnswer}
 use Rattle.netpbm.specs.declared.WriteAnswer.the-variants as write-answer
-use Rattle.netpbm.specs.CanvasSize.{canvasSizeCheck, canvasLengthCheck}
+use Rattle.canvas_size.specs.CanvasSize.{canvasSizeCheck, canvasLengthCheck}
 
 -- the byte of a decimal digit; 48 is `0`
 abbrev pub digit : ℕ → ℕ
@@ -49,10 +47,6 @@ header W H = magic ++ decimal W ++ space ++ decimal H ++ maximum
 abbrev pub p5 : ℕ → ℕ → List ℕ → List ℕ
 p5 W H canvas = header W H ++ canvas
 
--- 13: a file buffer of room bytes is too short for so many
-abbrev pub roomCheck : ℕ → ℕ → Checked
-roomCheck needed room = refuseIf (above room needed) BufferLength
-
 -- 6, 8 and 13 of a canvas that is written into a file buffer
 unfoldable pub writeCheck : ℕ → ℕ → List ℕ → List ℕ → Checked
 writeCheck W H canvas file =
@@ -62,11 +56,6 @@ writeCheck W H canvas file =
 abbrev pub writeOutcome : WriteAnswer → Outcome
 writeOutcome (write-answer.Refused refusal) = refused (number refusal)
 writeOutcome (write-answer.Written n) = answered (pos n ∷ [])
-
--- a lent buffer after a call: after a refusal as it was
-abbrev pub keeping : Checked → List ℕ → List ℕ → List ℕ
-keeping (Refused refusal) before after = before
-keeping Passed before after = after
 
 -- `write_p5`: its answer, and the file buffer afterwards, in which the bytes past the file stay
 abbrev pub writeCall : ℕ → ℕ → List ℕ → List ℕ → Outcome

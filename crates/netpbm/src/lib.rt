@@ -3,19 +3,19 @@
 //
 // The call that a host makes has no `requires`: it refuses by the lowest number that applies and
 // then has written nothing. The functions below it are for callers that have made the checks.
-pub mod canvas_size;
 pub mod text;
 
-use crate::canvas_size::CanvasSize;
 use crate::text::number_length;
 use crate::text::put;
 use crate::text::put_number;
+use canvas_size::CanvasSize;
 use geometry::refusal::Checked;
 use geometry::refusal::Refusal;
+use geometry::refusal::check_room;
 ghost use mathlib.Core.Path.{_≡_};
 ghost use Prim.Native.Nat.{_≤_};
 ghost use lib.ListN.{length};
-ghost use Rattle.netpbm.specs.Netpbm.{header, p5, roomCheck, writeOutcome, writeCall, fileAfter};
+ghost use Rattle.netpbm.specs.Netpbm.{header, p5, writeOutcome, writeCall, fileAfter};
 ghost use Rattle.netpbm.specs.Written.{Wrote};
 
 pub enum WriteAnswer {
@@ -52,17 +52,6 @@ fn put_p5(file: &mut [u8], size: CanvasSize, canvas: &[u8]) -> usize
 {
     let raster_at = put_header(file, size);
     put(file, raster_at, canvas)
-}
-
-// Refusal 13 of a buffer that has room bytes where so many are needed.
-fn check_room(needed: usize, room: usize) -> Checked
-    ensures { λ r. ⌜ r ≡ roomCheck needed room ⌝ }
-{
-    if room < needed {
-        Checked::Refused(Refusal::BufferLength)
-    } else {
-        Checked::Passed
-    }
 }
 
 // Writes the canvas, width by height pixels, as P5 to the start of file. Refused by 6, 8 and 13.

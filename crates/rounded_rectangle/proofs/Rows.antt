@@ -20,6 +20,7 @@ use Rattle.scanline.specs.declared.Place.the-variants.{At, Nowhere}
 use Rattle.scanline.specs.declared.Row.the-variants.{Run, NoRow}
 use Rattle.scanline.specs.Columns.{firstColumn, lastColumn, columnElse, columnAfterElse}
 use Rattle.scanline.specs.Places.{findFrom, placeElse0, Placed}
+use Rattle.scanline.specs.Points.{EndsWithin}
 use Rattle.scanline.proofs.Find.{find-none, found-at}
 use Rattle.scanline.proofs.Columns.{fromLeft, fromRight, first-from-edge, last-from-edge}
 use Rattle.scanline.proofs.Placed.{place-among}
@@ -27,6 +28,7 @@ use Rattle.ellipse.specs.declared.EllipseContains.{EllipseContains}
 use Rattle.ellipse.specs.Relative.{gap, containsOf, columnInside}
 use Rattle.ellipse.proofs.Distances.{no-width-outside}
 use Rattle.rounded_rectangle.specs.declared.RoundedRectangle.{RoundedRectangle}
+use Rattle.rounded_rectangle.specs.declared.Insets.{Insets}
 use Rattle.rounded_rectangle.specs.Quadrants.{left, top, width, height, insideTopLeft, insideTopRight, insideBottomRight, insideBottomLeft}
 use Rattle.rounded_rectangle.specs.RoundedRectangle.{runStart, runEnd, run, row}
 use Rattle.rounded_rectangle.specs.Relative.{insideCorner, inset, sideInset, rowInsets, runBetween}
@@ -134,6 +136,16 @@ module _ (b : RoundedRectangle) (dy : ℕ) (in-box : dy < height b) where
   pub run-relative : runBetween (left b) (width b) (rowInsets (b .corners) (width b) (height b) dy) ≡ run b y
   run-relative = sym (range-by-fields start-relative end-relative)
 
+-- the run between two insets of w columns keeps to them
+pub between-within : (left : ℤ) (w : ℕ) (insets : Insets) → insets .left ≤ w → insets .right ≤ w → EndsWithin left w (runBetween left w insets)
+between-within left w insets l r =
+    record {
+      start-from = omega (arith, int, add-law left (pos (insets .left)));
+      start-to = omega (arith, int, add-law left (pos (insets .left)), add-law left (pos w));
+      end-from = omega (arith, int, add-law left (pos w), sub-law (left +ℤ pos w) (pos (insets .right)));
+      end-to = omega (arith, int, add-law left (pos w), sub-law (left +ℤ pos w) (pos (insets .right)));
+    }
+
 -- ---- the ways to a row
 module _ (b : RoundedRectangle) (y : ℤ) where
   pub row-out : Placed (top b) (height b) y Nowhere → NoRow ≡ row b y
@@ -161,3 +173,12 @@ module _ (upper lower : Size) (h n dy : ℕ) where
   pub side-straight : upper .height ≤ dy → lower .height ≤ h - 1 - dy → 0 ≡ sideInset upper lower h n dy
   unfolding sideInset
   side-straight l m = rw (le-ltb _ _ l, le-ltb _ _ m)
+
+pub side-inset-le : (upper lower : Size) (h n dy : ℕ) → sideInset upper lower h n dy ≤ n
+unfolding sideInset
+side-inset-le upper lower h n dy = by-tests (ltb dy (upper .height)) (ltb (h - 1 - dy) (lower .height))
+  where
+    by-tests : (t u : Bool) → cond t (inset upper dy n) (cond u (inset lower (h - 1 - dy) n) 0) ≤ n
+    by-tests true u = inset-le upper dy n
+    by-tests false true = inset-le lower (h - 1 - dy) n
+    by-tests false false = omega arith

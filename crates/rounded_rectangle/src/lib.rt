@@ -20,6 +20,7 @@ ghost use Prim.Native.Nat.{_<_, _≤_};
 ghost use lib.IntN.{pos, _+ℤ_};
 ghost use Rattle.signed.specs.Signed.{Near};
 ghost use Rattle.geometry.specs.Bounds.{widePoint, wideSide, PointNear, SizeUpTo};
+ghost use Rattle.scanline.specs.Points.{RowWithin};
 ghost use Rattle.corner_radii.specs.Bounds.{wideRadius, wideStrokeSide, RadiiUpTo};
 ghost use Rattle.rounded_rectangle.specs.RoundedRectangle.{contains as RoundedRectangle·contains, run as RoundedRectangle·run, row as RoundedRectangle·row};
 ghost use Rattle.rounded_rectangle.specs.Relative.{BoundedBox, Ready, ReadyBox, radii, sideInset, containsAt, rowInsets, runBetween};
@@ -182,7 +183,7 @@ impl RoundedRectangle {
     pub fn row(self, y: i32) -> Row
         requires { ⌜ BoundedBox self ⌝ }
         requires { ⌜ Near widePoint y ⌝ }
-        ensures { λ r. ⌜ r ≡ RoundedRectangle·row self y ⌝ }
+        ensures { λ r. ⌜ (r ≡ RoundedRectangle·row self y) × RowWithin (self .rectangle .«top_left» .x) (self .rectangle .size .width) r ⌝ }
     {
         let rectangle = self.rectangle;
         let top_left = rectangle.top_left;

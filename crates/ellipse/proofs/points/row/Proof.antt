@@ -1,7 +1,7 @@
 -- `ellipse::points::row` meets its contract: the place of the asked row, the test of the first row and the search say which case of
 -- `row` holds.
 -- Assumes nothing.
-use mathlib.Core.Path.{_≡_, sym, ap, ap₂, _∙_}
+use mathlib.Core.Path.{_≡_, sym, ap, subst, _∙_}
 use mathlib.Core.Bool.{true}
 use Prim.Native.Nat.{ℕ, _<_}
 use lib.IntN.{ℤ, pos, _+ℤ_, _-ℤ_}
@@ -11,10 +11,11 @@ use Rattle.geometry.proofs.Fields.{range-by-fields}
 use Rattle.scanline.specs.declared.Place.the-variants.{At, Nowhere}
 use Rattle.scanline.specs.declared.Row.the-variants.{Run}
 use Rattle.scanline.specs.Places.{Placed}
+use Rattle.scanline.specs.Points.{EndsWithin}
 use Rattle.scanline.proofs.Placed.{placed-told}
 use Rattle.scanline.proofs.Find.{found-at}
 use Rattle.ellipse.specs.Relative.{firstRowInside, mirroredRun}
-use Rattle.ellipse.proofs.Rows.{first-row-wide, row-out, row-lacking, row-found}
+use Rattle.ellipse.proofs.Rows.{first-row-wide, row-out, row-lacking, row-found, mirrored-within}
 use borrow.Author.Needs.{needs}
 use native.Mathlib.Omega.{arith}
 use Rattle.signed.proofs.Laws.{int}
@@ -42,8 +43,10 @@ enum-told c = search needs
 
 returns : tie.Need-returns
 returns c =
-    let entry = c .before .before .before .before .before .before in
-    sym (row-out (entry .args .ellipse) (entry .args .y) (placed-told _ _ _ (entry .pre .0 .at .y .fits) (entry .pre .1 .fits) (c .before .before .place-of .ensures) (c .enum-told .given .1)))
+    let entry = c .before .before .before .before .before .before in (
+      sym (row-out (entry .args .ellipse) (entry .args .y) (placed-told _ _ _ (entry .pre .0 .at .y .fits) (entry .pre .1 .fits) (c .before .before .place-of .ensures) (c .enum-told .given .1))),
+      tt,
+    )
 
 new-requires : tie.Need-new-requires
 new-requires c κs = search needs
@@ -53,8 +56,10 @@ has-rows-requires c κs = search needs
 
 returns-2 : tie.Need-returns-2
 returns-2 c =
-    let entry = c .before .before .before .before .before .before .before .before .before .before in
-    sym (row-lacking (entry .args .ellipse) (entry .args .y) (sym (c .before .has-rows .ensures) ∙ not-true _ (c .if1 .taken)))
+    let entry = c .before .before .before .before .before .before .before .before .before .before in (
+      sym (row-lacking (entry .args .ellipse) (entry .args .y) (sym (c .before .has-rows .ensures) ∙ not-true _ (c .if1 .taken))),
+      tt,
+    )
 
 gap-requires : tie.Need-gap-requires
 gap-requires c κs = let placed = row-place (c .before .before .before) in (placed .1, c .before .before .before .before .before .before .before .before .before .before .pre .0 .size .height)
@@ -74,10 +79,12 @@ enum-told-2 c = search needs
 
 returns-3 : tie.Need-returns-3
 returns-3 c =
-    let entry = c .before .before .before .before .before .before .before .before .before .before .before .before .before .before in
-    row-found (entry .args .ellipse) (entry .args .y) _ _ _ Nowhere (row-place (c .before .before .before .before .before .before .before))
-    (rows-there (c .before .before .before .before)) (c .before .before .before .before .before .before .new .ensures .0)
-    (c .before .before .before .gap .ensures .0) (sym (c .enum-told2 .given .1) ∙ c .before .before .first-inside .ensures)
+    let entry = c .before .before .before .before .before .before .before .before .before .before .before .before .before .before in (
+      row-found (entry .args .ellipse) (entry .args .y) _ _ _ Nowhere (row-place (c .before .before .before .before .before .before .before))
+          (rows-there (c .before .before .before .before)) (c .before .before .before .before .before .before .new .ensures .0)
+          (c .before .before .before .gap .ensures .0) (sym (c .enum-told2 .given .1) ∙ c .before .before .first-inside .ensures),
+      tt,
+    )
 
 mirrored-requires : tie.Need-mirrored-requires
 mirrored-requires c κs =
@@ -88,12 +95,18 @@ mirrored-requires c κs =
 returns-4 : tie.Need-returns-4
 returns-4 c =
     let entry = c .before .before .before .before .before .before .before .before .before .before .before .before .before .before .before .before .before in
-    ap Run (c .mirrored .ensures ∙ ap (λ (z : ℤ). mirroredRun z (entry .args .ellipse .size .width) (c .before .before .before .k .given .0 .0)) (toZ-ofZ (entry .pre .0 .at .x .fits)))
-    ∙ row-found (entry .args .ellipse) (entry .args .y) _ _ _ (At (c .before .before .before .k .given .0 .0))
-    (row-place (c .before .before .before .before .before .before .before .before .before .before))
-    (rows-there (c .before .before .before .before .before .before .before)) (c .before .before .before .before .before .before .before .before .before .new .ensures .0)
-    (c .before .before .before .before .before .before .gap .ensures .0)
-    (sym (c .before .before .before .k .given .1) ∙ c .before .before .before .before .before .first-inside .ensures)
+    let k = c .before .before .before .k .given .0 .0 in
+    let e = entry .args .ellipse in
+    let run = c .mirrored .ensures ∙ ap (λ (z : ℤ). mirroredRun z (e .size .width) k) (toZ-ofZ (entry .pre .0 .at .x .fits)) in
+    let found = found-at _ _ _ _ (sym (c .before .before .before .before .before .first-inside .ensures) ∙ c .before .before .before .k .given .1) .below in (
+      ap Run run
+          ∙ row-found (entry .args .ellipse) (entry .args .y) _ _ _ (At (c .before .before .before .k .given .0 .0))
+          (row-place (c .before .before .before .before .before .before .before .before .before .before))
+          (rows-there (c .before .before .before .before .before .before .before)) (c .before .before .before .before .before .before .before .before .before .new .ensures .0)
+          (c .before .before .before .before .before .before .gap .ensures .0)
+          (sym (c .before .before .before .k .given .1) ∙ c .before .before .before .before .before .first-inside .ensures),
+      subst (EndsWithin (e .«top_left» .x) (e .size .width)) (sym run) (mirrored-within (e .«top_left» .x) (e .size .width) k (omega arith)),
+    )
 
 pub row-spec : {M : Type 1} → statement M
 row-spec =

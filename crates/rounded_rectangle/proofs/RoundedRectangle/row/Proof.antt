@@ -7,9 +7,10 @@ use Rattle.geometry.specs.declared.Size.{Size}
 use Rattle.scanline.specs.declared.Place.the-variants.{At}
 use Rattle.scanline.specs.Places.{Placed}
 use Rattle.scanline.specs.declared.Row.the-variants.{Run}
+use Rattle.scanline.specs.Points.{EndsWithin}
 use Rattle.scanline.proofs.Placed.{placed-told}
 use Rattle.rounded_rectangle.specs.Relative.{rowInsets, runBetween}
-use Rattle.rounded_rectangle.proofs.Rows.{row-out, row-placed}
+use Rattle.rounded_rectangle.proofs.Rows.{row-out, row-placed, between-within, side-inset-le}
 use borrow.Author.Needs.{needs}
 use native.Mathlib.Omega.{arith}
 use Rattle.signed.proofs.Laws.{int}
@@ -34,8 +35,10 @@ enum-told c = search needs
 
 returns : tie.Need-returns
 returns c =
-    let entry = c .before .before .before .before .before .before .before in
-    row-out _ _ (placed-told _ _ _ (entry .pre .0 .at .y .fits) (entry .pre .1 .fits) (c .before .before .place-of .ensures) (c .enum-told .given .1))
+    let entry = c .before .before .before .before .before .before .before in (
+      row-out _ _ (placed-told _ _ _ (entry .pre .0 .at .y .fits) (entry .pre .1 .fits) (c .before .before .place-of .ensures) (c .enum-told .given .1)),
+      tt,
+    )
 
 new-requires : tie.Need-new-requires
 new-requires c κs = search needs
@@ -60,11 +63,15 @@ run-between-requires c κs =
 returns-2 : tie.Need-returns-2
 returns-2 c =
     let entry = c .before .before .before .before .before .before .before .before .before .before .before .before .before in
-    ap Run
-    (c .run-between .ensures
-    ∙ (λ i. runBetween (toZ-ofZ (entry .pre .0 .at .x .fits) i) (entry .args .self .rectangle .size .width) (c .before .before .insets .ensures .0 i))
-    ∙ (λ i. runBetween (entry .args .self .rectangle .«top_left» .x) (entry .args .self .rectangle .size .width) (rowInsets (c .before .before .before .new .ensures .1 i) (c .before .before .before .new .ensures .0 i .width) (c .before .before .before .new .ensures .0 i .height) (c .before .before .before .before .before .before .dy .given .0 .0))))
-    ∙ row-placed _ _ _ (row-place (c .before .before .before .before))
+    let b = entry .args .self in
+    let run =
+    c .run-between .ensures
+    ∙ (λ i. runBetween (toZ-ofZ (entry .pre .0 .at .x .fits) i) (b .rectangle .size .width) (c .before .before .insets .ensures .0 i))
+    ∙ (λ i. runBetween (b .rectangle .«top_left» .x) (b .rectangle .size .width) (rowInsets (c .before .before .before .new .ensures .1 i) (c .before .before .before .new .ensures .0 i .width) (c .before .before .before .new .ensures .0 i .height) (c .before .before .before .before .before .before .dy .given .0 .0))) in (
+      ap Run run ∙ row-placed _ _ _ (row-place (c .before .before .before .before)),
+      subst (EndsWithin (b .rectangle .«top_left» .x) (b .rectangle .size .width)) (sym run)
+          (between-within (b .rectangle .«top_left» .x) (b .rectangle .size .width) _ (side-inset-le _ _ _ _ _) (side-inset-le _ _ _ _ _)),
+    )
 
 pub row-spec : {M : Type 1} → statement M
 row-spec =

@@ -1,9 +1,9 @@
--- `netpbm::canvas_size::check_side` meets its contract: the two tests are those of the definition, in its order.
+-- `canvas_size::check_side` meets its contract: the two tests are those of the definition, in its order.
 -- Assumes nothing.
 use borrow.Author.Needs.{needs}
 use borrow.Author.Tests.{lt-ltb, le-ltb}
-use Rattle.netpbm.proofs.canvas_size.check_side.Statement.{statement}
-use Rattle.netpbm.proofs.canvas_size.check_side.Tie as tie
+use Rattle.canvas_size.proofs.check_side.Statement.{statement}
+use Rattle.canvas_size.proofs.check_side.Tie as tie
 
 -- below the least side
 returns : tie.Need-returns

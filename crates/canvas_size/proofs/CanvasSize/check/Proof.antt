@@ -1,11 +1,11 @@
--- `netpbm::canvas_size::CanvasSize::check` meets its contract: the checks called are those of the definition.
+-- `canvas_size::CanvasSize::check` meets its contract: the checks called are those of the definition.
 -- Assumes nothing.
 use mathlib.Core.Path.{ap₂, _∙_}
 use borrow.Author.Needs.{needs}
 use Rattle.geometry.specs.Refusal.{orElse}
-use Rattle.netpbm.specs.CanvasSize.{canvasSizeCheck}
-use Rattle.netpbm.proofs.canvas_size.CanvasSize.check.Statement.{statement}
-use Rattle.netpbm.proofs.canvas_size.CanvasSize.check.Tie as tie
+use Rattle.canvas_size.specs.CanvasSize.{canvasSizeCheck}
+use Rattle.canvas_size.proofs.CanvasSize.check.Statement.{statement}
+use Rattle.canvas_size.proofs.CanvasSize.check.Tie as tie
 
 check-side-requires : tie.Need-check-side-requires
 check-side-requires c κs = search needs

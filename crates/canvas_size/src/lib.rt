@@ -4,7 +4,7 @@ use geometry::refusal::Checked;
 use geometry::refusal::Refusal;
 use geometry::refusal::refuse_above;
 ghost use mathlib.Core.Path.{_≡_};
-ghost use Rattle.netpbm.specs.CanvasSize.{sideCheck, canvasSizeCheck, canvasLengthCheck};
+ghost use Rattle.canvas_size.specs.CanvasSize.{sideCheck, canvasSizeCheck, canvasLengthCheck};
 
 pub struct CanvasSize {
     pub width: u32,

@@ -1,14 +1,14 @@
--- `netpbm::canvas_size::CanvasSize::check_length` meets its contract: the test is the definition's own, and the product of two
+-- `canvas_size::CanvasSize::check_length` meets its contract: the test is the definition's own, and the product of two
 -- sides of 32 bits fits 64.
 -- Assumes nothing.
 use Prim.Native.Nat.{_^_, _<_}
 use borrow.Author.Needs.{needs}
 use borrow.Author.Tests.{eq-eqb, ne-eqb}
 use native.Mathlib.Omega.{arith}
-use Rattle.netpbm.specs.CanvasSize.{canvasLengthCheck}
-use Rattle.netpbm.proofs.CanvasSize.{product-fits}
-use Rattle.netpbm.proofs.canvas_size.CanvasSize.check_length.Statement.{statement}
-use Rattle.netpbm.proofs.canvas_size.CanvasSize.check_length.Tie as tie
+use Rattle.canvas_size.specs.CanvasSize.{canvasLengthCheck}
+use Rattle.canvas_size.proofs.Sides.{product-fits}
+use Rattle.canvas_size.proofs.CanvasSize.check_length.Statement.{statement}
+use Rattle.canvas_size.proofs.CanvasSize.check_length.Tie as tie
 
 cast-if1 : tie.Need-cast-if1
 cast-if1 c = search needs

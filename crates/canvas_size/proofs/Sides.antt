@@ -12,7 +12,7 @@ use Rattle.geometry.specs.declared.refusal.Checked.the-variants.{Passed}
 use Rattle.geometry.specs.Limits.{maxCanvasSide}
 use Rattle.geometry.specs.Refusal.{refuseIf}
 use Rattle.geometry.proofs.Checks.{passed-first, passed-next, passed-condition, passed-above}
-use Rattle.netpbm.specs.CanvasSize.{sideCheck, canvasSizeCheck, canvasLengthCheck, CanvasSides}
+use Rattle.canvas_size.specs.CanvasSize.{sideCheck, canvasSizeCheck, canvasLengthCheck, CanvasSides}
 
 pub side-passed-least : (n : ℕ) → sideCheck n ≡ Passed → 1 ≤ n
 side-passed-least n e = ltb-false n 1 (passed-condition (ltb n 1) CanvasSide (passed-first _ _ e))
