@@ -1,0 +1,70 @@
+-- `figure::Figure::contains` meets its contract: passed checks bound the figure and the point, and a refusal is the checks' own.
+-- Assumes nothing.
+use mathlib.Core.Path.{_≡_, sym, ap, ap₂, subst, _∙_}
+use mathlib.Core.Bool.{Bool}
+use mathlib.Core.List.{[], _∷_}
+use Rattle.geometry.specs.Refusal.{orElse, answered}
+use Rattle.geometry.specs.Calls.{pointCheck}
+use Rattle.geometry.proofs.Checks.{passed-first, passed-next, point-passed}
+use Rattle.figure.specs.declared.Shape.{Shape}
+use Rattle.figure.specs.Calls.{figureCheck, flag}
+use Rattle.figure.specs.Figure.{containsShape}
+use Rattle.figure.proofs.Within.{figure-passed, own-figure-bounded, point-wider}
+use borrow.Author.Needs.{needs}
+use native.Mathlib.Omega.{arith}
+use Rattle.figure.proofs.Figure.contains.Statement.{statement}
+use Rattle.figure.proofs.Figure.contains.Tie as tie
+
+-- the check made is the definition's
+checked : (c : tie.After-or-else) → c .or-else .result ≡ orElse (figureCheck (c .before .before .before .args .self)) (pointCheck (c .before .before .before .args .point))
+checked c = c .or-else .ensures ∙ ap₂ orElse (c .before .before .check .ensures) (c .before .check-point .ensures)
+
+check-requires : tie.Need-check-requires
+check-requires c κs = search needs
+
+check-point-requires : tie.Need-check-point-requires
+check-point-requires c κs = search needs
+
+or-else-requires : tie.Need-or-else-requires
+or-else-requires c κs = search needs
+
+enum-known-refusal : tie.Need-enum-known-refusal
+enum-known-refusal c = search needs
+
+enum-told : tie.Need-enum-told
+enum-told c = search needs
+
+shape-requires : tie.Need-shape-requires
+shape-requires c κs =
+    let entry = c .before .before .before .before .before in
+    let f = entry .args .self in
+    own-figure-bounded f (figure-passed f (passed-first (figureCheck f) (pointCheck (entry .args .point)) (sym (checked (c .before .before)) ∙ c .enum-told .given .1)))
+
+contains-requires : tie.Need-contains-requires
+contains-requires c κs =
+    let entry = c .before .before .before .before .before .before in
+    (c .shape .ensures .1, point-wider (omega arith) (point-passed (entry .args .point) (passed-next (figureCheck (entry .args .self)) _ (sym (checked (c .before .before .before)) ∙ c .before .enum-told .given .1))))
+
+returns : tie.Need-returns
+returns c =
+    let entry = c .before .before .before .before .before .before .before in
+    rw (sym (checked (c .before .before .before .before)) ∙ c .before .before .enum-told .given .1)
+    (ap (λ (b : Bool). answered (flag b ∷ [])) (c .contains .ensures ∙ ap (λ (s : Shape). containsShape s (entry .args .point)) (c .before .shape .ensures .0)))
+
+-- refused
+returns-2 : tie.Need-returns-2
+returns-2 c = rw (sym (checked (c .before .before .before)) ∙ c .before .refusal .given .1)
+
+pub contains-spec : {M : Type 1} → statement M
+contains-spec =
+    tie.close
+    (tie.spec
+    check-requires
+    check-point-requires
+    or-else-requires
+    enum-known-refusal
+    enum-told
+    shape-requires
+    contains-requires
+    returns
+    returns-2)

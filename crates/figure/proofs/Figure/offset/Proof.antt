@@ -1,0 +1,65 @@
+-- `figure::Figure::offset` meets its contract: passed checks bound the figure and the offset, and a refusal is the checks' own.
+-- Assumes nothing.
+use mathlib.Core.Path.{_≡_, sym, ap, ap₂, _∙_}
+use mir.Facts.{toZ-ofZ}
+use Rattle.geometry.specs.Refusal.{orElse, answered}
+use Rattle.geometry.specs.Calls.{offsetCheck}
+use Rattle.geometry.proofs.Checks.{passed-first, passed-next, offset-passed}
+use Rattle.figure.specs.declared.Figure.{Figure}
+use Rattle.figure.specs.Calls.{figureCheck, figureValues}
+use Rattle.figure.specs.Figure.{offset as Figure·offset}
+use Rattle.figure.proofs.Within.{figure-passed}
+use borrow.Author.Needs.{needs}
+use native.Mathlib.Omega.{arith}
+use Rattle.signed.proofs.Laws.{int}
+use Rattle.figure.proofs.Figure.offset.Statement.{statement}
+use Rattle.figure.proofs.Figure.offset.Tie as tie
+
+-- the check made is the definition's
+checked : (c : tie.After-or-else) → c .or-else .result ≡ orElse (figureCheck (c .before .before .before .args .self)) (offsetCheck (c .before .before .before .args .k))
+checked c = c .or-else .ensures ∙ ap₂ orElse (c .before .before .check .ensures) (c .before .check-offset .ensures ∙ ap offsetCheck (toZ-ofZ (c .before .before .before .fits .k)))
+
+check-requires : tie.Need-check-requires
+check-requires c κs = search needs
+
+check-offset-requires : tie.Need-check-offset-requires
+check-offset-requires c κs = search needs
+
+or-else-requires : tie.Need-or-else-requires
+or-else-requires c κs = search needs
+
+enum-known-refusal : tie.Need-enum-known-refusal
+enum-known-refusal c = search needs
+
+enum-told : tie.Need-enum-told
+enum-told c = search needs
+
+offset-by-requires : tie.Need-offset-by-requires
+offset-by-requires c κs =
+    let entry = c .before .before .before .before .before in
+    let told = sym (checked (c .before .before)) ∙ c .enum-told .given .1 in
+    let near = offset-passed (entry .args .k) (passed-next (figureCheck (entry .args .self)) _ told) in
+    (figure-passed (entry .args .self) (passed-first (figureCheck (entry .args .self)) (offsetCheck (entry .args .k)) told), omega (arith, int))
+
+returns : tie.Need-returns
+returns c =
+    let entry = c .before .before .before .before .before .before in
+    rw (sym (checked (c .before .before .before)) ∙ c .before .enum-told .given .1)
+    (ap (λ (f : Figure). answered (figureValues f)) (c .offset-by .ensures .0 ∙ ap (Figure·offset (entry .args .self)) (toZ-ofZ (entry .fits .k))))
+
+-- refused
+returns-2 : tie.Need-returns-2
+returns-2 c = rw (sym (checked (c .before .before .before)) ∙ c .before .refusal .given .1)
+
+pub offset-spec : {M : Type 1} → statement M
+offset-spec =
+    tie.close
+    (tie.spec
+    check-requires
+    check-offset-requires
+    or-else-requires
+    enum-known-refusal
+    enum-told
+    offset-by-requires
+    returns
+    returns-2)

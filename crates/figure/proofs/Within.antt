@@ -1,0 +1,164 @@
+-- Bounds: a figure that passes its check is within the wide bounds of a figure's own numbers; an offset area of it, and a confined
+-- box, are within those of an area.
+-- Assumes nothing.
+use mathlib.Core.Path.{_≡_, refl, sym, ap}
+use mathlib.Core.List.{List, [], _∷_}
+use Prim.Native.Nat.{ℕ, _+_, _*_, _≤_}
+use native.Mathlib.Omega.{arith}
+use lib.IntN.{ℤ, pos}
+use Rattle.signed.specs.Signed.{Near}
+use Rattle.geometry.specs.declared.Point.{Point}
+use Rattle.geometry.specs.declared.Size.{Size}
+use Rattle.geometry.specs.declared.rectangle.Rectangle.{Rectangle}
+use Rattle.geometry.specs.declared.refusal.Checked.{Checked}
+use Rattle.geometry.specs.declared.refusal.Checked.the-variants.{Passed, Refused}
+use Rattle.geometry.specs.Limits.{maxSide, maxRadius, maxPosition}
+use Rattle.geometry.specs.Bounds.{widePoint, wideSide, PointNear, SizeUpTo, Bounded}
+use Rattle.geometry.specs.Refusal.{orElse, refused, answered, unless}
+use Rattle.geometry.specs.Calls.{rectangleValues, sizeCheck, positionCheck, rectangleCheck}
+use Rattle.geometry.specs.Rectangle.{withCenter, offset as Rectangle·offset}
+use Rattle.geometry.proofs.Offset.{offset-size-up-to, offset-position-near}
+use Rattle.geometry.proofs.Checks.{passed-first, passed-next, size-passed, position-passed}
+use Rattle.corner_radii.specs.declared.CornerRadii.{CornerRadii}
+use Rattle.corner_radii.specs.Bounds.{wideRadius, wideStrokeSide, RadiiUpTo}
+use Rattle.corner_radii.specs.CornerRadii.{radiiCheck}
+use Rattle.corner_radii.proofs.Bounds.{confine-up-to, w3c-up-to, offset-up-to, radii-up-to-wider}
+use Rattle.corner_radii.proofs.Checks.{radii-passed}
+use Rattle.rounded_rectangle.specs.declared.RoundedRectangle.{RoundedRectangle}
+use Rattle.rounded_rectangle.specs.Relative.{BoundedBox}
+use Rattle.figure.specs.declared.Figure.{Figure}
+use Rattle.figure.specs.declared.Figure.the-variants.{Ellipse, CrateBox, W3cBox}
+use Rattle.figure.specs.declared.Shape.the-variants as shape-of
+use Rattle.figure.specs.Figure.{confined, confinedW3c, offsetBox, shape}
+use Rattle.figure.specs.Bounds.{widePosition, wideOwnSide, wideOffset, OwnRectangle, OwnBox, OwnFigure, AreaRectangle, AreaBox, BoundedFigure}
+use Rattle.figure.specs.Calls.{boxCheck, figureCheck, radiiValues, figureValues, confinedValues}
+
+-- ---- wider bounds
+near-wider : {m n : ℕ} {z : ℤ} → m ≤ n → Near m z → Near n z
+near-wider l a =
+    record { above = let h = a .above in omega arith; below = let h = a .below in omega arith; fits = a .fits }
+
+pub point-wider : {m n : ℕ} {p : Point} → m ≤ n → PointNear m p → PointNear n p
+point-wider l a = record { x = near-wider l (a .x); y = near-wider l (a .y) }
+
+pub size-wider : {m n : ℕ} {s : Size} → m ≤ n → SizeUpTo m s → SizeUpTo n s
+size-wider l a = record { width = let h = a .width in omega arith; height = let h = a .height in omega arith }
+
+-- ---- what passes its check
+own-by-checks : (r : Rectangle) → sizeCheck (r .size) ≡ Passed → positionCheck (r .«top_left») ≡ Passed → OwnRectangle r
+own-by-checks r size at =
+    record {
+      at = point-wider (omega arith) (position-passed (r .«top_left») at);
+      size = size-wider (omega arith) (size-passed (r .size) size);
+    }
+
+own-box-passed : (b : RoundedRectangle) → boxCheck b ≡ Passed → OwnBox b
+unfolding boxCheck
+own-box-passed b e =
+    let sizes = passed-first (orElse (sizeCheck (b .rectangle .size)) (radiiCheck (b .corners))) (positionCheck (b .rectangle .«top_left»)) e in
+    let at = passed-next (orElse (sizeCheck (b .rectangle .size)) (radiiCheck (b .corners))) (positionCheck (b .rectangle .«top_left»)) e in
+    record {
+      rectangle = own-by-checks (b .rectangle) (passed-first (sizeCheck (b .rectangle .size)) (radiiCheck (b .corners)) sizes) at;
+      corners = radii-up-to-wider maxRadius wideOwnSide (b .corners) (omega arith) (radii-passed (b .corners) (passed-next (sizeCheck (b .rectangle .size)) (radiiCheck (b .corners)) sizes));
+    }
+
+own-rectangle-passed : (r : Rectangle) → rectangleCheck r ≡ Passed → OwnRectangle r
+unfolding rectangleCheck
+own-rectangle-passed r e =
+    own-by-checks r (passed-first (sizeCheck (r .size)) (positionCheck (r .«top_left»)) e) (passed-next (sizeCheck (r .size)) (positionCheck (r .«top_left»)) e)
+
+pub figure-passed : (f : Figure) → figureCheck f ≡ Passed → OwnFigure f
+figure-passed (Ellipse r) e = own-rectangle-passed r e
+figure-passed (CrateBox b) e = own-box-passed b e
+figure-passed (W3cBox b) e = own-box-passed b e
+
+-- ---- a figure's own numbers are an area's
+pub own-area : (r : Rectangle) → OwnRectangle r → AreaRectangle r
+own-area r o = record { at = point-wider (omega arith) (o .at); size = size-wider (omega arith) (o .size) }
+
+pub own-box-bounded : (b : RoundedRectangle) → OwnBox b → AreaBox b
+own-box-bounded b o =
+    record {
+      rectangle = own-area (b .rectangle) (o .rectangle);
+      corners = radii-up-to-wider wideOwnSide wideRadius (b .corners) (omega arith) (o .corners);
+    }
+
+pub own-figure-bounded : (f : Figure) → OwnFigure f → BoundedFigure f
+own-figure-bounded (Ellipse r) o = own-area r o
+own-figure-bounded (CrateBox b) o = own-box-bounded b o
+own-figure-bounded (W3cBox b) o = own-box-bounded b o
+
+pub area-bounded : (r : Rectangle) → AreaRectangle r → Bounded r
+area-bounded r a = record { at = point-wider (omega arith) (a .at); size = size-wider (omega arith) (a .size) }
+
+pub area-box-bounded : (b : RoundedRectangle) → AreaBox b → BoundedBox b
+area-box-bounded b a =
+    record { at = point-wider (omega arith) (a .rectangle .at); size = a .rectangle .size; corners = a .corners }
+
+-- ---- offset and confined
+pub offset-area : (r : Rectangle) (k : ℤ) → OwnRectangle r → Near wideOffset k → AreaRectangle (Rectangle·offset r k)
+offset-area r k o near =
+    record {
+      at = offset-position-near widePosition wideOffset r k (o .at) near (omega arith);
+      size = unfold Rectangle·offset withCenter in size-wider (omega arith) (offset-size-up-to wideOwnSide wideOffset (r .size) k (o .size) near);
+    }
+
+pub offset-box-bounded : (b : RoundedRectangle) (k : ℤ) → OwnBox b → Near wideOffset k → AreaBox (offsetBox b k)
+unfolding offsetBox
+offset-box-bounded b k o near =
+    record {
+      rectangle = offset-area (b .rectangle) k (o .rectangle) near;
+      corners = radii-up-to-wider (wideOwnSide + wideOffset) wideRadius _ (omega arith) (offset-up-to wideOwnSide wideOffset (b .corners) k (o .corners) near);
+    }
+
+pub confined-bounded : (b : RoundedRectangle) → AreaBox b → AreaBox (confined b)
+unfolding confined
+confined-bounded b o =
+    record { rectangle = o .rectangle; corners = confine-up-to wideRadius (b .corners) (b .rectangle .size) (o .corners) }
+
+pub confined-w3c-bounded : (b : RoundedRectangle) → AreaBox b → AreaBox (confinedW3c b)
+unfolding confinedW3c
+confined-w3c-bounded b o =
+    record { rectangle = o .rectangle; corners = w3c-up-to wideRadius (b .corners) (b .rectangle .size) (o .corners) }
+
+pub confined-w3c-own : (b : RoundedRectangle) → OwnBox b → OwnBox (confinedW3c b)
+unfolding confinedW3c
+confined-w3c-own b o = record { rectangle = o .rectangle; corners = w3c-up-to wideOwnSide (b .corners) (b .rectangle .size) (o .corners) }
+
+-- ---- confined radii by the shape
+pub no-corners : (f : Figure) (r : Rectangle) → shape f ≡ shape-of.Ellipse r → answered [] ≡ answered (confinedValues f)
+no-corners (Ellipse q) r e = refl
+no-corners (CrateBox b) r e = let z : _≡_ {A = ℕ} 0 1 = cc in absurd (omega arith)
+no-corners (W3cBox b) r e = let z : _≡_ {A = ℕ} 0 1 = cc in absurd (omega arith)
+
+pub shape-corners : (f : Figure) (q : RoundedRectangle) → shape f ≡ shape-of.RoundedBox q
+    → answered (radiiValues (q .corners)) ≡ answered (confinedValues f)
+shape-corners (Ellipse r) q e = let z : _≡_ {A = ℕ} 0 1 = cc in absurd (omega arith)
+shape-corners (CrateBox b) q e =
+    let is : confined b ≡ q = cc in
+    ap (λ (p : RoundedRectangle). answered (radiiValues (p .corners))) (sym is)
+shape-corners (W3cBox b) q e =
+    let is : confinedW3c b ≡ q = cc in
+    ap (λ (p : RoundedRectangle). answered (radiiValues (p .corners))) (sym is)
+
+-- the check of an ellipse about a centre
+abbrev pub centerAnswer : Point → Size → Checked
+centerAnswer c s = orElse (sizeCheck s) (positionCheck (withCenter c s .«top_left»))
+
+-- ---- an ellipse about a centre answers as its rectangle does
+module _ (check : Checked) (r : Rectangle) where
+  pub ellipse-outcome-refused : (n : ℕ) → refused n ≡ unless check (rectangleValues r) → refused n ≡ unless check (figureValues (Ellipse r))
+  ellipse-outcome-refused n e = by-check check e
+    where
+      by-check : (c : Checked) → refused n ≡ unless c (rectangleValues r) → refused n ≡ unless c (figureValues (Ellipse r))
+      by-check (Refused refusal) e = e
+      by-check Passed e = let z : _≡_ {A = ℕ} 0 1 = cc in absurd (omega arith)
+
+  pub ellipse-outcome-answered : (q : Rectangle) → answered (rectangleValues q) ≡ unless check (rectangleValues r)
+      → answered (figureValues (Ellipse q)) ≡ unless check (figureValues (Ellipse r))
+  ellipse-outcome-answered q e = by-check check e
+    where
+      by-check : (c : Checked) → answered (rectangleValues q) ≡ unless c (rectangleValues r)
+          → answered (figureValues (Ellipse q)) ≡ unless c (figureValues (Ellipse r))
+      by-check (Refused refusal) e = let z : _≡_ {A = ℕ} 0 1 = cc in absurd (omega arith)
+      by-check Passed e = let same : rectangleValues q ≡ rectangleValues r = cc in ap (λ (vs : List ℤ). answered (pos 0 ∷ vs)) same

@@ -1,0 +1,129 @@
+-- What the calls on figures promise: the lowest of the refusals 1, 2, 3, 4, 5 and 13 that applies, else the values of `Figure`.
+-- Assumes nothing.
+use mathlib.Core.Bool.{Bool, true, false}
+use mathlib.Core.List.{List, [], _∷_, _++_}
+use Prim.Native.Nat.{ℕ, _*_}
+use lib.IntN.{ℤ, pos}
+use lib.ListN.{length}
+use lib.Seq.{sets}
+use Rattle.geometry.specs.declared.Point.{Point}
+use Rattle.geometry.specs.declared.Size.{Size}
+use Rattle.geometry.specs.declared.refusal.Checked.{Checked}
+use Rattle.geometry.specs.declared.rectangle.Rectangle.{Rectangle}
+use Rattle.geometry.specs.Refusal.{number, orElse, Outcome, refused, answered, unless, keeping, roomCheck}
+use Rattle.geometry.specs.Calls.{rangeValues, rectangleValues, sizeCheck, positionCheck, rectangleCheck, askedCheck, pointCheck, offsetCheck}
+use Rattle.geometry.specs.Rectangle.{withCenter}
+use Rattle.scanline.specs.declared.Row.{Row}
+use Rattle.scanline.specs.declared.Row.the-variants as row-of
+use Rattle.scanline.specs.Points.{entries}
+use Rattle.corner_radii.specs.declared.CornerRadii.{CornerRadii}
+use Rattle.corner_radii.specs.CornerRadii.{radiiCheck}
+use Rattle.rounded_rectangle.specs.declared.RoundedRectangle.{RoundedRectangle}
+use Rattle.figure.specs.declared.Figure.{Figure}
+use Rattle.figure.specs.declared.Figure.the-variants.{Ellipse, CrateBox, W3cBox}
+use Rattle.figure.specs.declared.calls.ContainsAnswer.{ContainsAnswer}
+use Rattle.figure.specs.declared.calls.ContainsAnswer.the-variants as contains-answer
+use Rattle.figure.specs.declared.calls.RowAnswer.{RowAnswer}
+use Rattle.figure.specs.declared.calls.RowAnswer.the-variants as row-answer
+use Rattle.figure.specs.declared.calls.PointsAnswer.{PointsAnswer}
+use Rattle.figure.specs.declared.calls.PointsAnswer.the-variants as points-answer
+use Rattle.figure.specs.declared.calls.FigureAnswer.{FigureAnswer}
+use Rattle.figure.specs.declared.calls.FigureAnswer.the-variants as figure-answer
+use Rattle.figure.specs.declared.calls.RadiiAnswer.{RadiiAnswer}
+use Rattle.figure.specs.declared.calls.RadiiAnswer.the-variants as radii-answer
+use Rattle.figure.specs.Figure.{confined, confinedW3c, offset, contains, row, points}
+
+-- 1 a side, 2 a radius, 3 a position of a box above its limit
+unfoldable pub boxCheck : RoundedRectangle → Checked
+boxCheck b =
+    orElse (orElse (sizeCheck (b .rectangle .size)) (radiiCheck (b .corners))) (positionCheck (b .rectangle .«top_left»))
+
+-- 1, 2 and 3 of a figure; an ellipse has no radii
+abbrev pub figureCheck : Figure → Checked
+figureCheck (Ellipse r) = rectangleCheck r
+figureCheck (CrateBox b) = boxCheck b
+figureCheck (W3cBox b) = boxCheck b
+
+-- ---- what each answer says
+-- 1 for inside, 0 for outside
+abbrev pub flag : Bool → ℤ
+flag true = pos 1
+flag false = pos 0
+
+abbrev pub containsOutcome : ContainsAnswer → Outcome
+containsOutcome (contains-answer.Refused refusal) = refused (number refusal)
+containsOutcome (contains-answer.Answered inside) = answered (flag inside ∷ [])
+
+-- a row: the run's ends as computed; no values for 'no row'
+abbrev pub rowValues : Row → List ℤ
+rowValues (row-of.Run r) = rangeValues r
+rowValues row-of.NoRow = []
+
+abbrev pub rowOutcome : RowAnswer → Outcome
+rowOutcome (row-answer.Refused refusal) = refused (number refusal)
+rowOutcome (row-answer.Answered r) = answered (rowValues r)
+
+-- the number of pairs
+abbrev pub pointsOutcome : PointsAnswer → Outcome
+pointsOutcome (points-answer.Refused refusal) = refused (number refusal)
+pointsOutcome (points-answer.Pairs n) = answered (pos n ∷ [])
+
+-- radii: width and height of each corner, clockwise from the top-left
+abbrev pub sizeValues : Size → List ℤ
+sizeValues s = pos (s .width) ∷ pos (s .height) ∷ []
+
+abbrev pub radiiValues : CornerRadii → List ℤ
+radiiValues r = sizeValues (r .«top_left») ++ sizeValues (r .«top_right») ++ sizeValues (r .«bottom_right») ++ sizeValues (r .«bottom_left»)
+
+-- a figure: 0, 1 or 2 for its kind, then its rectangle and a box's radii
+abbrev pub figureValues : Figure → List ℤ
+figureValues (Ellipse r) = pos 0 ∷ rectangleValues r
+figureValues (CrateBox b) = pos 1 ∷ rectangleValues (b .rectangle) ++ radiiValues (b .corners)
+figureValues (W3cBox b) = pos 2 ∷ rectangleValues (b .rectangle) ++ radiiValues (b .corners)
+
+abbrev pub figureOutcome : FigureAnswer → Outcome
+figureOutcome (figure-answer.Refused refusal) = refused (number refusal)
+figureOutcome (figure-answer.Answered f) = answered (figureValues f)
+
+-- no values where the figure has no corners
+abbrev pub radiiOutcome : RadiiAnswer → Outcome
+radiiOutcome (radii-answer.Refused refusal) = refused (number refusal)
+radiiOutcome radii-answer.NoCorners = answered []
+radiiOutcome (radii-answer.Radii r) = answered (radiiValues r)
+
+-- ---- the calls
+-- `contains`: 1, 2, 3, 4
+abbrev pub containsCall : Figure → Point → Outcome
+containsCall f p = unless (orElse (figureCheck f) (pointCheck p)) (flag (contains f p) ∷ [])
+
+-- `row`: 1, 2, 3, 4
+abbrev pub rowCall : Figure → ℤ → Outcome
+rowCall f y = unless (orElse (figureCheck f) (askedCheck y)) (rowValues (row f y))
+
+-- `points`: 1, 2, 3, 13; the list needs two entries for each pair, and entries past the pairs stay
+unfoldable pub pointsCheck : Figure → ℕ → Checked
+pointsCheck f room = orElse (figureCheck f) (roomCheck (2 * length (points f)) room)
+
+abbrev pub pointsCall : Figure → List ℤ → Outcome
+pointsCall f list = unless (pointsCheck f (length list)) (pos (length (points f)) ∷ [])
+
+abbrev pub listAfter : Figure → List ℤ → List ℤ
+listAfter f list = keeping (pointsCheck f (length list)) list (sets list 0 (entries (points f)))
+
+-- `offset`: 1, 2, 3, 5
+abbrev pub offsetCall : Figure → ℤ → Outcome
+offsetCall f k = unless (orElse (figureCheck f) (offsetCheck k)) (figureValues (offset f k))
+
+-- the confined radii: 1, 2, 3
+abbrev pub confinedValues : Figure → List ℤ
+confinedValues (Ellipse r) = []
+confinedValues (CrateBox b) = radiiValues (confined b .corners)
+confinedValues (W3cBox b) = radiiValues (confinedW3c b .corners)
+
+abbrev pub confinedRadiiCall : Figure → Outcome
+confinedRadiiCall f = unless (figureCheck f) (confinedValues f)
+
+-- an ellipse about a centre: 1, and 3 for the rectangle that is made
+abbrev pub withCenterCall : Point → Size → Outcome
+withCenterCall c s =
+    unless (orElse (sizeCheck s) (positionCheck (withCenter c s .«top_left»))) (figureValues (Ellipse (withCenter c s)))

@@ -1,0 +1,70 @@
+-- Document 01: figures, their offset, their test, rows and points ('The records', 'Rectangle and offset', 'Corners', 'Box rows and
+-- points').
+-- Assumes nothing.
+use mathlib.Core.Bool.{Bool}
+use mathlib.Core.List.{List}
+use Prim.Native.Nat.{ℕ}
+use lib.IntN.{ℤ}
+use Rattle.geometry.specs.declared.Point.{Point}
+use Rattle.geometry.specs.declared.rectangle.Rectangle.{Rectangle}
+use Rattle.geometry.specs.Rectangle.{rows, offset as Rectangle·offset}
+use Rattle.scanline.specs.declared.Row.{Row}
+use Rattle.scanline.specs.Points.{pointsFrom}
+use Rattle.ellipse.specs.Ellipse.{contains as Ellipse·contains, row as Ellipse·row}
+use Rattle.corner_radii.specs.CornerRadii.{offset as CornerRadii·offset, confine, confineW3c}
+use Rattle.rounded_rectangle.specs.declared.RoundedRectangle.{RoundedRectangle}
+use Rattle.rounded_rectangle.specs.RoundedRectangle.{contains as RoundedRectangle·contains, row as RoundedRectangle·row}
+use Rattle.figure.specs.declared.Figure.{Figure}
+use Rattle.figure.specs.declared.Figure.the-variants.{Ellipse, CrateBox, W3cBox}
+use Rattle.figure.specs.declared.Shape.{Shape}
+use Rattle.figure.specs.declared.Shape.the-variants as shape-of
+
+-- a box with its radii confined to its size, by the crate rule and by the W3C rule
+unfoldable pub confined : RoundedRectangle → RoundedRectangle
+confined b = record { rectangle = b .rectangle; corners = confine (b .corners) (b .rectangle .size) }
+
+unfoldable pub confinedW3c : RoundedRectangle → RoundedRectangle
+confinedW3c b = record { rectangle = b .rectangle; corners = confineW3c (b .corners) (b .rectangle .size) }
+
+-- a box offset like a crate box: the rectangle about its centre, the radii by k, not confined
+unfoldable pub offsetBox : RoundedRectangle → ℤ → RoundedRectangle
+offsetBox b k = record { rectangle = Rectangle·offset (b .rectangle) k; corners = CornerRadii·offset (b .corners) k }
+
+-- a figure offset by k: a crate box is not confined; a W3C box is confined, offset like a crate box, confined again
+abbrev pub offset : Figure → ℤ → Figure
+offset (Ellipse r) k = Ellipse (Rectangle·offset r k)
+offset (CrateBox b) k = CrateBox (offsetBox b k)
+offset (W3cBox b) k = W3cBox (confinedW3c (offsetBox (confinedW3c b) k))
+
+-- the shape that a figure's rows and test go by: its radii are confined by its own rule
+abbrev pub shape : Figure → Shape
+shape (Ellipse r) = shape-of.Ellipse r
+shape (CrateBox b) = shape-of.RoundedBox (confined b)
+shape (W3cBox b) = shape-of.RoundedBox (confinedW3c b)
+
+abbrev pub rectangle : Shape → Rectangle
+rectangle (shape-of.Ellipse r) = r
+rectangle (shape-of.RoundedBox b) = b .rectangle
+
+-- `contains`, by the figure's kind
+abbrev pub containsShape : Shape → Point → Bool
+containsShape (shape-of.Ellipse r) p = Ellipse·contains r p
+containsShape (shape-of.RoundedBox b) p = RoundedRectangle·contains b (p .x) (p .y)
+
+abbrev pub contains : Figure → Point → Bool
+contains f p = containsShape (shape f) p
+
+-- the row at y, by the figure's kind; 'no row' where the figure lacks it
+abbrev pub rowOfShape : Shape → ℤ → Row
+rowOfShape (shape-of.Ellipse r) y = Ellipse·row r y
+rowOfShape (shape-of.RoundedBox b) y = RoundedRectangle·row b y
+
+abbrev pub row : Figure → ℤ → Row
+row f y = rowOfShape (shape f) y
+
+-- the points, row by row, up to the first empty row
+unfoldable pub pointsOfShape : Shape → List Point
+pointsOfShape s = pointsFrom (rowOfShape s) (rows (rectangle s) .start) (rectangle s .size .height)
+
+abbrev pub points : Figure → List Point
+points f = pointsOfShape (shape f)

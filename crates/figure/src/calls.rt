@@ -1,0 +1,123 @@
+// The calls on figures that a host makes: none has a `requires`, each refuses by the lowest number
+// that applies.
+use crate::Figure;
+use crate::Shape;
+use crate::points::count_points;
+use crate::points::put_points;
+use corner_radii::CornerRadii;
+use geometry::Point;
+use geometry::Size;
+use geometry::rectangle::Rectangle;
+use geometry::rectangle::RectangleAnswer;
+use geometry::rectangle::check_offset;
+use geometry::rectangle::check_point;
+use geometry::rectangle::check_row;
+use geometry::refusal::Checked;
+use geometry::refusal::Refusal;
+use geometry::refusal::check_room;
+use scanline::Row;
+ghost use mathlib.Core.Path.{_≡_};
+ghost use Rattle.figure.specs.Calls.{containsOutcome, rowOutcome, pointsOutcome, figureOutcome, radiiOutcome, containsCall, rowCall, pointsCall, listAfter, offsetCall, confinedRadiiCall, withCenterCall};
+
+pub enum ContainsAnswer {
+    Refused(Refusal),
+    Answered(bool),
+}
+
+pub enum RowAnswer {
+    Refused(Refusal),
+    Answered(Row),
+}
+
+pub enum PointsAnswer {
+    Refused(Refusal),
+    // The number of x, y pairs, from the list's start on.
+    Pairs(u32),
+}
+
+pub enum FigureAnswer {
+    Refused(Refusal),
+    Answered(Figure),
+}
+
+pub enum RadiiAnswer {
+    Refused(Refusal),
+    NoCorners,
+    Radii(CornerRadii),
+}
+
+impl Figure {
+    // Whether a point is inside. Refused by 1, 2, 3 and 4.
+    pub fn contains(self, point: Point) -> ContainsAnswer
+        ensures { λ r. ⌜ containsOutcome r ≡ containsCall self point ⌝ }
+    {
+        let Checked::Refused(refusal) = self.check().or_else(check_point(point)) else {
+            return ContainsAnswer::Answered(self.shape().contains(point));
+        };
+        ContainsAnswer::Refused(refusal)
+    }
+
+    // The row at y, or that there is none. Refused by 1, 2, 3 and 4.
+    pub fn row(self, y: i32) -> RowAnswer
+        ensures { λ r. ⌜ rowOutcome r ≡ rowCall self y ⌝ }
+    {
+        let Checked::Refused(refusal) = self.check().or_else(check_row(y)) else {
+            return RowAnswer::Answered(self.shape().row(y));
+        };
+        RowAnswer::Refused(refusal)
+    }
+
+    // Lists the points as x, y pairs. Refused by 1, 2, 3 and 13; then the list stays as it is.
+    pub fn points(self, list: &mut [i32]) -> PointsAnswer
+        ensures { λ r. ⌜ pointsOutcome r ≡ pointsCall self (now (list .entry)) ⌝ }
+        ensures { λ r. ⌜ now (list .exit) ≡ listAfter self (now (list .entry)) ⌝ }
+    {
+        let Checked::Refused(refusal) = self.check() else {
+            let shape = self.shape();
+            let count = count_points(shape);
+            let Checked::Refused(short) = check_room(2 * (count as usize), list.len()) else {
+                put_points(shape, list);
+                return PointsAnswer::Pairs(count);
+            };
+            return PointsAnswer::Refused(short);
+        };
+        PointsAnswer::Refused(refusal)
+    }
+
+    // The figure offset by k. Refused by 1, 2, 3 and 5.
+    pub fn offset(self, k: i32) -> FigureAnswer
+        ensures { λ r. ⌜ figureOutcome r ≡ offsetCall self k ⌝ }
+    {
+        let Checked::Refused(refusal) = self.check().or_else(check_offset(k)) else {
+            return FigureAnswer::Answered(self.offset_by(k));
+        };
+        FigureAnswer::Refused(refusal)
+    }
+
+    // The radii as they are confined to the box. Refused by 1, 2 and 3.
+    pub fn confined_radii(self) -> RadiiAnswer
+        ensures { λ r. ⌜ radiiOutcome r ≡ confinedRadiiCall self ⌝ }
+    {
+        let Checked::Refused(refusal) = self.check() else {
+            let Shape::RoundedBox(b) = self.shape() else {
+                return RadiiAnswer::NoCorners;
+            };
+            let corners = b.corners;
+            return RadiiAnswer::Radii(corners);
+        };
+        RadiiAnswer::Refused(refusal)
+    }
+
+    // The ellipse of a size about a centre. Refused by 1, and by 3 for the rectangle that it makes.
+    pub fn ellipse_with_center(center: Point, size: Size) -> FigureAnswer
+        ensures { λ r. ⌜ figureOutcome r ≡ withCenterCall center size ⌝ }
+    {
+        let made = Rectangle::with_center(center, size);
+        match made {
+            RectangleAnswer::Refused(refusal) => FigureAnswer::Refused(refusal),
+            RectangleAnswer::Answered(rectangle) => FigureAnswer::Answered(Figure::Ellipse(
+                rectangle,
+            )),
+        }
+    }
+}

@@ -1,0 +1,154 @@
+// Figures: an ellipse, a crate box or a W3C box. Where the Rust has traits and generics there is a
+// match on the figure. After embedded-graphics 0.8.2 `ellipse/mod.rs`, `rounded_rectangle/mod.rs`
+// (`OffsetOutline`, `confine_radii`); the W3C box is not in the source.
+use geometry::Point;
+use geometry::rectangle::Rectangle;
+use geometry::refusal::Checked;
+use rounded_rectangle::RoundedRectangle;
+use scanline::Row;
+
+pub mod calls;
+pub mod points;
+
+ghost use mathlib.Core.Path.{_≡_};
+ghost use Rattle.signed.specs.Signed.{Near};
+ghost use Rattle.geometry.specs.Bounds.{widePoint, PointNear};
+ghost use Rattle.scanline.specs.Points.{RowWithin};
+ghost use Rattle.figure.specs.Bounds.{wideOffset, OwnBox, AreaBox, OwnFigure, BoundedFigure, BoundedShape};
+ghost use Rattle.figure.specs.Figure.{confined as Figure·confined, confinedW3c, offsetBox, offset as Figure·offset, shape as Figure·shape, rectangle as Shape·rectangle, containsShape, rowOfShape};
+ghost use Rattle.figure.specs.Calls.{boxCheck, figureCheck};
+
+pub enum Figure {
+    Ellipse(Rectangle),
+    CrateBox(RoundedRectangle),
+    W3cBox(RoundedRectangle),
+}
+
+// A figure whose radii are confined: what rows and tests go by.
+pub enum Shape {
+    Ellipse(Rectangle),
+    RoundedBox(RoundedRectangle),
+}
+
+// A box with its radii confined by the crate rule.
+fn confined(b: RoundedRectangle) -> RoundedRectangle
+    requires { ⌜ AreaBox b ⌝ }
+    ensures { λ r. ⌜ r ≡ Figure·confined b ⌝ }
+{
+    let rectangle = b.rectangle;
+    let corners = b.corners;
+    RoundedRectangle {
+        rectangle: rectangle,
+        corners: corners.confine(rectangle.size),
+    }
+}
+
+// The same by the W3C rule.
+fn confined_w3c(b: RoundedRectangle) -> RoundedRectangle
+    requires { ⌜ AreaBox b ⌝ }
+    ensures { λ r. ⌜ r ≡ confinedW3c b ⌝ }
+{
+    let rectangle = b.rectangle;
+    let corners = b.corners;
+    RoundedRectangle {
+        rectangle: rectangle,
+        corners: corners.confine_w3c(rectangle.size),
+    }
+}
+
+// A box offset about its centre, its radii with it.
+fn offset_box(b: RoundedRectangle, k: i32) -> RoundedRectangle
+    requires { ⌜ OwnBox b ⌝ }
+    requires { ⌜ Near wideOffset k ⌝ }
+    ensures { λ r. ⌜ r ≡ offsetBox b k ⌝ }
+{
+    let rectangle = b.rectangle;
+    let corners = b.corners;
+    RoundedRectangle {
+        rectangle: geometry::bounded::offset(rectangle, k),
+        corners: corners.offset(k),
+    }
+}
+
+// Refusals 1, 2 and 3 of a box.
+fn check_box(b: RoundedRectangle) -> Checked
+    ensures { λ r. ⌜ r ≡ boxCheck b ⌝ }
+{
+    let rectangle = b.rectangle;
+    let corners = b.corners;
+    let size = geometry::rectangle::check_size(rectangle.size);
+    let position = geometry::rectangle::check_position(rectangle.top_left);
+    size.or_else(corners.check()).or_else(position)
+}
+
+impl Figure {
+    // Refusals 1, 2 and 3.
+    pub fn check(self) -> Checked
+        ensures { λ r. ⌜ r ≡ figureCheck self ⌝ }
+    {
+        match self {
+            Figure::Ellipse(rectangle) => rectangle.check(),
+            Figure::CrateBox(b) => check_box(b),
+            Figure::W3cBox(b) => check_box(b),
+        }
+    }
+
+    // The figure offset by k. A W3C box is confined before and after.
+    pub fn offset_by(self, k: i32) -> Figure
+        requires { ⌜ OwnFigure self ⌝ }
+        requires { ⌜ Near wideOffset k ⌝ }
+        ensures { λ r. ⌜ (r ≡ Figure·offset self k) × BoundedFigure r ⌝ }
+    {
+        match self {
+            Figure::Ellipse(rectangle) => Figure::Ellipse(geometry::bounded::offset(rectangle, k)),
+            Figure::CrateBox(b) => Figure::CrateBox(offset_box(b, k)),
+            Figure::W3cBox(b) => Figure::W3cBox(confined_w3c(offset_box(confined_w3c(b), k))),
+        }
+    }
+
+    // The shape of the figure: each kind of box confines its radii by its own rule.
+    pub fn shape(self) -> Shape
+        requires { ⌜ BoundedFigure self ⌝ }
+        ensures { λ r. ⌜ (r ≡ Figure·shape self) × BoundedShape r ⌝ }
+    {
+        match self {
+            Figure::Ellipse(rectangle) => Shape::Ellipse(rectangle),
+            Figure::CrateBox(b) => Shape::RoundedBox(confined(b)),
+            Figure::W3cBox(b) => Shape::RoundedBox(confined_w3c(b)),
+        }
+    }
+}
+
+impl Shape {
+    pub fn rectangle(self) -> Rectangle
+        ensures { λ r. ⌜ r ≡ Shape·rectangle self ⌝ }
+    {
+        match self {
+            Shape::Ellipse(rectangle) => rectangle,
+            Shape::RoundedBox(b) => b.rectangle,
+        }
+    }
+
+    pub fn contains(self, point: Point) -> bool
+        requires { ⌜ BoundedShape self ⌝ }
+        requires { ⌜ PointNear widePoint point ⌝ }
+        ensures { λ r. ⌜ r ≡ containsShape self point ⌝ }
+    {
+        match self {
+            Shape::Ellipse(rectangle) => ellipse::contains(rectangle, point),
+            Shape::RoundedBox(b) => b.contains(point),
+        }
+    }
+
+    // The row at y.
+    pub fn row(self, y: i32) -> Row
+        requires { ⌜ BoundedShape self ⌝ }
+        requires { ⌜ Near widePoint y ⌝ }
+        ensures { λ r. ⌜ (r ≡ rowOfShape self y) × RowWithin (Shape·rectangle self .«top_left» .x) (Shape·rectangle self .size .width) r ⌝ }
+    {
+        match self {
+            Shape::Ellipse(rectangle) => ellipse::points::row(rectangle, y),
+            Shape::RoundedBox(b) => b.row(y),
+        }
+    }
+}

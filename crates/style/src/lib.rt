@@ -1,0 +1,127 @@
+// Paints and styles, after embedded-graphics 0.8.2 `primitives/primitive_style.rs`. A colour is one
+// byte, so `Option<C>` is the enum `Paint`, and the builder is left out.
+use geometry::refusal::Checked;
+use geometry::refusal::Refusal;
+use geometry::refusal::refuse_above;
+ghost use mathlib.Core.Path.{_≡_};
+ghost use Rattle.style.specs.Style.{defaultAlignment, styled, styledByDefault, styleCheck, outsideStrokeWidth, insideStrokeWidth, widthsOutcome, widthsCall};
+
+// What a run is painted with: nothing, or a colour byte.
+pub enum Paint {
+    Absent,
+    Colour(u8),
+}
+
+// Where the stroke lies about the outline.
+pub enum StrokeAlignment {
+    Inside,
+    Center,
+    Outside,
+}
+
+impl StrokeAlignment {
+    // The alignment of a style that is made without one.
+    pub fn default_alignment() -> StrokeAlignment
+        ensures { λ r. ⌜ r ≡ defaultAlignment ⌝ }
+    {
+        StrokeAlignment::Center
+    }
+}
+
+pub struct Style {
+    pub stroke: Paint,
+    pub fill: Paint,
+    pub stroke_width: u32,
+    pub alignment: StrokeAlignment,
+}
+
+// How a stroke width is shared out about the outline.
+pub struct Widths {
+    pub outside: u32,
+    pub inside: u32,
+}
+
+pub enum WidthsAnswer {
+    Refused(Refusal),
+    Answered(Widths),
+}
+
+impl Style {
+    // The largest stroke width (refusal 5).
+    pub const MAX_STROKE_WIDTH: u32 = 256;
+
+    // A style with the default alignment.
+    pub fn new(stroke: Paint, fill: Paint, stroke_width: u32) -> Style
+        ensures { λ r. ⌜ r ≡ styledByDefault stroke fill «stroke_width» ⌝ }
+    {
+        Style::with_alignment(
+            stroke,
+            fill,
+            stroke_width,
+            StrokeAlignment::default_alignment(),
+        )
+    }
+
+    // A style that names its alignment.
+    pub fn with_alignment(
+        stroke: Paint,
+        fill: Paint,
+        stroke_width: u32,
+        alignment: StrokeAlignment,
+    ) -> Style
+        ensures { λ r. ⌜ r ≡ styled stroke fill «stroke_width» alignment ⌝ }
+    {
+        Style {
+            stroke: stroke,
+            fill: fill,
+            stroke_width: stroke_width,
+            alignment: alignment,
+        }
+    }
+
+    // Refusal 5.
+    pub fn check(self) -> Checked
+        ensures { λ r. ⌜ r ≡ styleCheck self ⌝ }
+    {
+        refuse_above(Style::MAX_STROKE_WIDTH, self.stroke_width, Refusal::Offset)
+    }
+
+    // The part of the stroke width outside the outline.
+    pub fn outside_stroke_width(self) -> u32
+        ensures { λ r. ⌜ r ≡ outsideStrokeWidth self ⌝ }
+    {
+        let alignment = self.alignment;
+        match alignment {
+            StrokeAlignment::Inside => 0,
+            StrokeAlignment::Center => self.stroke_width / 2,
+            StrokeAlignment::Outside => self.stroke_width,
+        }
+    }
+
+    // The part of the stroke width inside the outline, with Center's odd pixel. The Rust adds 1 and
+    // halves, with a cap at the type's end; the remainder added to the half needs no cap.
+    pub fn inside_stroke_width(self) -> u32
+        ensures { λ r. ⌜ r ≡ insideStrokeWidth self ⌝ }
+    {
+        let alignment = self.alignment;
+        let width = self.stroke_width;
+        match alignment {
+            StrokeAlignment::Inside => width,
+            StrokeAlignment::Center => width / 2 + width % 2,
+            StrokeAlignment::Outside => 0,
+        }
+    }
+
+    // Refused by 5.
+    pub fn widths(self) -> WidthsAnswer
+        ensures { λ r. ⌜ widthsOutcome r ≡ widthsCall self ⌝ }
+    {
+        let Checked::Refused(refusal) = self.check() else {
+            return WidthsAnswer::Answered(Widths {
+                outside: self.outside_stroke_width(),
+                inside: self.inside_stroke_width(),
+            });
+        };
+        WidthsAnswer::Refused(refusal)
+    }
+}
