@@ -1,21 +1,17 @@
--- What the calls on figures promise: the lowest of the refusals 1, 2, 3, 4, 5 and 13 that applies, else the values of `Figure`.
+-- What the calls on figures promise: the lowest of the refusals 1, 2, 3, 4 and 5 that applies, else the values of `Figure`.
 -- Assumes nothing.
 use mathlib.Core.Bool.{Bool, true, false}
 use mathlib.Core.List.{List, [], _∷_, _++_}
-use Prim.Native.Nat.{ℕ, _*_}
 use lib.IntN.{ℤ, pos}
-use lib.ListN.{length}
-use lib.Seq.{sets}
 use Rattle.geometry.specs.declared.Point.{Point}
 use Rattle.geometry.specs.declared.Size.{Size}
 use Rattle.geometry.specs.declared.refusal.Checked.{Checked}
 use Rattle.geometry.specs.declared.rectangle.Rectangle.{Rectangle}
-use Rattle.geometry.specs.Refusal.{number, orElse, Outcome, refused, answered, unless, keeping, roomCheck}
+use Rattle.geometry.specs.Refusal.{number, orElse, Outcome, refused, answered, unless}
 use Rattle.geometry.specs.Calls.{rangeValues, rectangleValues, sizeCheck, positionCheck, rectangleCheck, askedCheck, pointCheck, offsetCheck}
 use Rattle.geometry.specs.Rectangle.{withCenter}
 use Rattle.scanline.specs.declared.Row.{Row}
 use Rattle.scanline.specs.declared.Row.the-variants as row-of
-use Rattle.scanline.specs.Points.{entries}
 use Rattle.corner_radii.specs.declared.CornerRadii.{CornerRadii}
 use Rattle.corner_radii.specs.CornerRadii.{radiiCheck}
 use Rattle.rounded_rectangle.specs.declared.RoundedRectangle.{RoundedRectangle}
@@ -25,13 +21,11 @@ use Rattle.figure.specs.declared.calls.ContainsAnswer.{ContainsAnswer}
 use Rattle.figure.specs.declared.calls.ContainsAnswer.the-variants as contains-answer
 use Rattle.figure.specs.declared.calls.RowAnswer.{RowAnswer}
 use Rattle.figure.specs.declared.calls.RowAnswer.the-variants as row-answer
-use Rattle.figure.specs.declared.calls.PointsAnswer.{PointsAnswer}
-use Rattle.figure.specs.declared.calls.PointsAnswer.the-variants as points-answer
 use Rattle.figure.specs.declared.calls.FigureAnswer.{FigureAnswer}
 use Rattle.figure.specs.declared.calls.FigureAnswer.the-variants as figure-answer
 use Rattle.figure.specs.declared.calls.RadiiAnswer.{RadiiAnswer}
 use Rattle.figure.specs.declared.calls.RadiiAnswer.the-variants as radii-answer
-use Rattle.figure.specs.Figure.{confined, confinedW3c, offset, contains, row, points}
+use Rattle.figure.specs.Figure.{confined, confinedW3c, offset, contains, row}
 
 -- 1 a side, 2 a radius, 3 a position of a box above its limit
 unfoldable pub boxCheck : RoundedRectangle → Checked
@@ -62,11 +56,6 @@ rowValues row-of.NoRow = []
 abbrev pub rowOutcome : RowAnswer → Outcome
 rowOutcome (row-answer.Refused refusal) = refused (number refusal)
 rowOutcome (row-answer.Answered r) = answered (rowValues r)
-
--- the number of pairs
-abbrev pub pointsOutcome : PointsAnswer → Outcome
-pointsOutcome (points-answer.Refused refusal) = refused (number refusal)
-pointsOutcome (points-answer.Pairs n) = answered (pos n ∷ [])
 
 -- radii: width and height of each corner, clockwise from the top-left
 abbrev pub sizeValues : Size → List ℤ
@@ -99,16 +88,6 @@ containsCall f p = unless (orElse (figureCheck f) (pointCheck p)) (flag (contain
 -- `row`: 1, 2, 3, 4
 abbrev pub rowCall : Figure → ℤ → Outcome
 rowCall f y = unless (orElse (figureCheck f) (askedCheck y)) (rowValues (row f y))
-
--- `points`: 1, 2, 3, 13; the list needs two entries for each pair, and entries past the pairs stay
-unfoldable pub pointsCheck : Figure → ℕ → Checked
-pointsCheck f room = orElse (figureCheck f) (roomCheck (2 * length (points f)) room)
-
-abbrev pub pointsCall : Figure → List ℤ → Outcome
-pointsCall f list = unless (pointsCheck f (length list)) (pos (length (points f)) ∷ [])
-
-abbrev pub listAfter : Figure → List ℤ → List ℤ
-listAfter f list = keeping (pointsCheck f (length list)) list (sets list 0 (entries (points f)))
 
 -- `offset`: 1, 2, 3, 5
 abbrev pub offsetCall : Figure → ℤ → Outcome

@@ -2,8 +2,6 @@
 // that applies.
 use crate::Figure;
 use crate::Shape;
-use crate::points::count_points;
-use crate::points::put_points;
 use corner_radii::CornerRadii;
 use geometry::Point;
 use geometry::Size;
@@ -14,10 +12,9 @@ use geometry::rectangle::check_point;
 use geometry::rectangle::check_row;
 use geometry::refusal::Checked;
 use geometry::refusal::Refusal;
-use geometry::refusal::check_room;
 use scanline::Row;
 ghost use mathlib.Core.Path.{_≡_};
-ghost use Rattle.figure.specs.Calls.{containsOutcome, rowOutcome, pointsOutcome, figureOutcome, radiiOutcome, containsCall, rowCall, pointsCall, listAfter, offsetCall, confinedRadiiCall, withCenterCall};
+ghost use Rattle.figure.specs.Calls.{containsOutcome, rowOutcome, figureOutcome, radiiOutcome, containsCall, rowCall, offsetCall, confinedRadiiCall, withCenterCall};
 
 pub enum ContainsAnswer {
     Refused(Refusal),
@@ -27,12 +24,6 @@ pub enum ContainsAnswer {
 pub enum RowAnswer {
     Refused(Refusal),
     Answered(Row),
-}
-
-pub enum PointsAnswer {
-    Refused(Refusal),
-    // The number of x, y pairs, from the list's start on.
-    Pairs(u32),
 }
 
 pub enum FigureAnswer {
@@ -65,23 +56,6 @@ impl Figure {
             return RowAnswer::Answered(self.shape().row(y));
         };
         RowAnswer::Refused(refusal)
-    }
-
-    // Lists the points as x, y pairs. Refused by 1, 2, 3 and 13; then the list stays as it is.
-    pub fn points(self, list: &mut [i32]) -> PointsAnswer
-        ensures { λ r. ⌜ pointsOutcome r ≡ pointsCall self (now (list .entry)) ⌝ }
-        ensures { λ r. ⌜ now (list .exit) ≡ listAfter self (now (list .entry)) ⌝ }
-    {
-        let Checked::Refused(refusal) = self.check() else {
-            let shape = self.shape();
-            let count = count_points(shape);
-            let Checked::Refused(short) = check_room(2 * (count as usize), list.len()) else {
-                put_points(shape, list);
-                return PointsAnswer::Pairs(count);
-            };
-            return PointsAnswer::Refused(short);
-        };
-        PointsAnswer::Refused(refusal)
     }
 
     // The figure offset by k. Refused by 1, 2, 3 and 5.

@@ -8,7 +8,6 @@ use rounded_rectangle::RoundedRectangle;
 use scanline::Row;
 
 pub mod calls;
-pub mod points;
 
 ghost use mathlib.Core.Path.{_≡_};
 ghost use Rattle.signed.specs.Signed.{Near};

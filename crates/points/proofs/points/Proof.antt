@@ -1,4 +1,4 @@
--- `figure::Figure::points` meets its contract: a passed check bounds the figure, the count decides whether the list has room, and
+-- `points::points` meets its contract: a passed check bounds the figure, the count decides whether the list has room, and
 -- only then is anything written.
 -- Assumes nothing.
 use mathlib.Core.Path.{_≡_, refl, sym, ap, _∙_}
@@ -10,24 +10,24 @@ use lib.Seq.{sets}
 use Rattle.geometry.specs.declared.refusal.Checked.the-variants.{Passed}
 use Rattle.geometry.specs.Refusal.{answered, roomCheck}
 use Rattle.scanline.specs.Points.{entries}
 use Rattle.figure.specs.declared.Shape.{Shape}
 use Rattle.figure.specs.Figure.{points, pointsOfShape}
 use Rattle.figure.specs.Calls.{figureCheck}
 use Rattle.figure.proofs.Within.{figure-passed, own-figure-bounded}
-use Rattle.figure.proofs.Listed.{points-check-room, points-check-figure, room-passed}
+use Rattle.points.proofs.Listed.{points-check-room, points-check-figure, room-passed}
 use borrow.Author.Needs.{needs}
 use native.Mathlib.Omega.{arith}
-use Rattle.figure.proofs.Figure.points.Statement.{statement}
-use Rattle.figure.proofs.Figure.points.Tie as tie
+use Rattle.points.proofs.points.Statement.{statement}
+use Rattle.points.proofs.points.Tie as tie
 
 -- the figure passed, the points counted are the figure's, and the room checked is what they need
-figure-passed-here : (c : tie.After-enum-told) → figureCheck (c .before .before .before .args .self) ≡ Passed
+figure-passed-here : (c : tie.After-enum-told) → figureCheck (c .before .before .before .args .figure) ≡ Passed
 figure-passed-here c = sym (c .before .before .check .ensures) ∙ c .enum-told .given .1
 
-count-is : (c : tie.After-count-points) → c .count-points .result ≡ length (points (c .before .before .before .before .before .args .self))
+count-is : (c : tie.After-count-points) → c .count-points .result ≡ length (points (c .before .before .before .before .before .args .figure))
 count-is c = c .count-points .ensures .0 ∙ ap (λ (s : Shape). length (pointsOfShape s)) (c .before .shape .ensures .0)
 
-room-is : (c : tie.After-check-room) → c .check-room .result ≡ roomCheck (2 * length (points (c .before .before .before .before .before .before .args .self))) (length (c .before .before .before .before .before .before .args .list .now))
+room-is : (c : tie.After-check-room) → c .check-room .result ≡ roomCheck (2 * length (points (c .before .before .before .before .before .before .args .figure))) (length (c .before .before .before .before .before .before .args .list .now))
 room-is c = c .check-room .ensures ∙ ap (λ (n : ℕ). roomCheck (2 * n) (length (c .before .before .before .before .before .before .args .list .now))) (count-is (c .before))
 
 check-requires : tie.Need-check-requires
@@ -40,7 +40,7 @@ enum-told : tie.Need-enum-told
 enum-told c = search needs
 
 shape-requires : tie.Need-shape-requires
-shape-requires c κs = own-figure-bounded (c .before .before .before .args .self) (figure-passed (c .before .before .before .args .self) (figure-passed-here c))
+shape-requires c κs = own-figure-bounded (c .before .before .before .args .figure) (figure-passed (c .before .before .before .args .figure) (figure-passed-here c))
 
 count-points-requires : tie.Need-count-points-requires
 count-points-requires c κs = c .shape .ensures .1
@@ -71,7 +71,7 @@ same-length c = search needs
 returns : tie.Need-returns
 returns c =
     let entry = c .before .before .before .before .before .before .before .before .before .before .before in
-    let passed = points-check-room (entry .args .self) (length (entry .args .list .now)) Passed (figure-passed-here (c .before .before .before .before .before .before .before .before)) (sym (room-is (c .before .before .before .before .before)) ∙ c .before .before .before .enum-told2 .given .1) in (
+    let passed = points-check-room (entry .args .figure) (length (entry .args .list .now)) Passed (figure-passed-here (c .before .before .before .before .before .before .before .before)) (sym (room-is (c .before .before .before .before .before)) ∙ c .before .before .before .enum-told2 .given .1) in (
       rw passed (ap (λ (n : ℕ). answered (pos n ∷ [])) (count-is (c .before .before .before .before .before .before))),
       rw passed (c .before .put-points .ensures ∙ ap (λ (s : Shape). sets (entry .args .list .now) 0 (entries (pointsOfShape s))) (c .before .before .before .before .before .before .before .shape .ensures .0)),
     )
@@ -80,14 +80,14 @@ returns c =
 returns-2 : tie.Need-returns-2
 returns-2 c =
     let entry = c .before .before .before .before .before .before .before .before .before in
-    let short = points-check-room (entry .args .self) (length (entry .args .list .now)) _ (figure-passed-here (c .before .before .before .before .before .before)) (sym (room-is (c .before .before .before)) ∙ c .before .short .given .1) in
+    let short = points-check-room (entry .args .figure) (length (entry .args .list .now)) _ (figure-passed-here (c .before .before .before .before .before .before)) (sym (room-is (c .before .before .before)) ∙ c .before .short .given .1) in
     (rw short, rw short)
 
 -- refused
 returns-3 : tie.Need-returns-3
 returns-3 c =
     let entry = c .before .before .before .before in
-    let refused = points-check-figure (entry .args .self) (length (entry .args .list .now)) _ (sym (c .before .before .before .check .ensures) ∙ c .before .refusal .given .1) in
+    let refused = points-check-figure (entry .args .figure) (length (entry .args .list .now)) _ (sym (c .before .before .before .check .ensures) ∙ c .before .refusal .given .1) in
     (rw refused, rw refused)
 
 pub points-spec : {M : Type 1} → statement M

@@ -27,12 +27,13 @@ use Rattle.scanline.specs.declared.Row.the-variants.{Run}
 use Rattle.scanline.specs.Points.{runLength, EndsWithin, pointsFrom}
 use Rattle.scanline.proofs.Listing.{pointsAfter, points-after-none, length-after-run}
 use Rattle.corner_radii.specs.Bounds.{wideStrokeSide}
 use Rattle.figure.specs.declared.Figure.{Figure}
 use Rattle.figure.specs.declared.Shape.{Shape}
 use Rattle.figure.specs.declared.Shape.the-variants.{Ellipse, RoundedBox}
 use Rattle.figure.specs.Bounds.{wideAreaPosition, AreaRectangle, BoundedShape}
 use Rattle.figure.specs.Figure.{rectangle, rowOfShape, pointsOfShape, points}
-use Rattle.figure.specs.Calls.{figureCheck, pointsCheck}
+use Rattle.figure.specs.Calls.{figureCheck}
+use Rattle.points.specs.Points.{pointsCheck}
 
 -- the rectangle of a bounded shape is bounded
 pub shape-area : (s : Shape) → BoundedShape s → AreaRectangle (rectangle s)

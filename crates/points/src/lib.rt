@@ -1,8 +1,12 @@
-// The points of a shape as x, y pairs, after embedded-graphics 0.8.2 both `points.rs` (`Points`): a
+// The points of a figure as x, y pairs, after embedded-graphics 0.8.2 both `points.rs` (`Points`): a
 // pass that counts, so that a list too short is refused before anything is written, and one that
 // writes.
-use crate::Shape;
+use figure::Figure;
+use figure::Shape;
 use geometry::Range;
+use geometry::refusal::Checked;
+use geometry::refusal::Refusal;
+use geometry::refusal::check_room;
 use scanline::Row;
 ghost use mathlib.Core.Path.{_≡_};
 ghost use Prim.Native.Nat.{_*_, _≤_};
@@ -11,8 +15,15 @@ ghost use lib.Seq.{sets};
 ghost use Rattle.signed.specs.Signed.{Near};
 ghost use Rattle.geometry.specs.Bounds.{wideSide, widePoint};
 ghost use Rattle.scanline.specs.Points.{runLength, entries};
 ghost use Rattle.figure.specs.Bounds.{BoundedShape};
 ghost use Rattle.figure.specs.Figure.{pointsOfShape};
+ghost use Rattle.points.specs.Points.{pointsOutcome, pointsCall, listAfter};
+
+pub enum PointsAnswer {
+    Refused(Refusal),
+    // The number of x, y pairs, from the list's start on.
+    Pairs(u32),
+}
 
 // The number of columns in a run.
 fn run_length(run: Range) -> u32
@@ -24,7 +35,7 @@ fn run_length(run: Range) -> u32
 }
 
 // The number of points.
-pub fn count_points(shape: Shape) -> u32
+fn count_points(shape: Shape) -> u32
     requires { ⌜ BoundedShape shape ⌝ }
     ensures { λ r. ⌜ (r ≡ length (pointsOfShape shape)) × (r ≤ wideSide * wideSide) ⌝ }
 {
@@ -49,7 +60,7 @@ pub fn count_points(shape: Shape) -> u32
 }
 
 // Writes the points from the list's start on.
-pub fn put_points(shape: Shape, list: &mut [i32])
+fn put_points(shape: Shape, list: &mut [i32])
     requires { ⌜ BoundedShape shape ⌝ }
     requires { ⌜ 2 * length (pointsOfShape shape) ≤ length (now list) ⌝ }
     ensures { λ r. ⌜ now (list .exit) ≡ sets (now (list .entry)) 0 (entries (pointsOfShape shape)) ⌝ }
@@ -72,4 +83,21 @@ pub fn put_points(shape: Shape, list: &mut [i32])
         at = scanline::put_run(list, at, y, run.start, run_length(run));
         dy += 1;
     }
+}
+
+// Lists the points as x, y pairs. Refused by 1, 2, 3 and 13; then the list stays as it is.
+pub fn points(figure: Figure, list: &mut [i32]) -> PointsAnswer
+    ensures { λ r. ⌜ pointsOutcome r ≡ pointsCall figure (now (list .entry)) ⌝ }
+    ensures { λ r. ⌜ now (list .exit) ≡ listAfter figure (now (list .entry)) ⌝ }
+{
+    let Checked::Refused(refusal) = figure.check() else {
+        let shape = figure.shape();
+        let count = count_points(shape);
+        let Checked::Refused(short) = check_room(2 * (count as usize), list.len()) else {
+            put_points(shape, list);
+            return PointsAnswer::Pairs(count);
+        };
+        return PointsAnswer::Refused(short);
+    };
+    PointsAnswer::Refused(refusal)
 }

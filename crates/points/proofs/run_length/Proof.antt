@@ -1,10 +1,10 @@
--- `figure::points::run_length` meets its contract: the difference fits by the bounds, and is cut off at 0.
+-- `points::run_length` meets its contract: the difference fits by the bounds, and is cut off at 0.
 -- Assumes nothing.
 use Rattle.signed.proofs.Laws.{int, sub-law}
 use borrow.Author.Needs.{needs}
 use native.Mathlib.Omega.{arith}
-use Rattle.figure.proofs.points.run_length.Statement.{statement}
-use Rattle.figure.proofs.points.run_length.Tie as tie
+use Rattle.points.proofs.run_length.Statement.{statement}
+use Rattle.points.proofs.run_length.Tie as tie
 
 sub-requires : tie.Need-sub-requires
 sub-requires c κs = omega (arith, int)

@@ -1,4 +1,4 @@
--- `figure::points::count_points` meets its contract. The invariant: n points stand in the dy rows passed, and with those left they
+-- `points::count_points` meets its contract. The invariant: n points stand in the dy rows passed, and with those left they
 -- are all (`CountLeft`).
 -- Assumes nothing.
 use mathlib.Core.Path.{_≡_, sym, ap, subst, _∙_}
@@ -13,14 +13,14 @@ use Rattle.scanline.specs.declared.Row.the-variants.{Run}
 use Rattle.scanline.specs.Points.{EndsWithin, RowWithin, pointsFrom}
 use Rattle.scanline.proofs.Listing.{points-after-all, points-after-empty, points-after-no-row}
 use Rattle.corner_radii.specs.Bounds.{wideStrokeSide}
 use Rattle.figure.specs.Bounds.{AreaRectangle}
 use Rattle.figure.specs.Figure.{rowOfShape}
-use Rattle.figure.proofs.Listed.{shape-area, points-by-rectangle, run-length-le, start-is-near, end-is-near, CountLeft, count-start, count-done, count-next}
+use Rattle.points.proofs.Listed.{shape-area, points-by-rectangle, run-length-le, start-is-near, end-is-near, CountLeft, count-start, count-done, count-next}
 use borrow.Author.Needs.{needs}
 use native.Mathlib.Omega.{arith}
 use Rattle.signed.proofs.Laws.{int}
-use Rattle.figure.proofs.points.count_points.Statement.{statement}
-use Rattle.figure.proofs.points.count_points.Tie as tie
+use Rattle.points.proofs.count_points.Statement.{statement}
+use Rattle.points.proofs.count_points.Tie as tie
 
 abbrev Inv-loop : tie.InvT-loop
 Inv-loop shape top height n₀ dy₀ n dy = CountLeft shape (toZ w32 top) height n dy

@@ -1,4 +1,4 @@
--- `figure::points::put_points` meets its contract. The invariant: the rows from dy on are left to write, from index `at` on
+-- `points::put_points` meets its contract. The invariant: the rows from dy on are left to write, from index `at` on
 -- (`RowsLeft`).
 -- Assumes nothing.
 use mathlib.Core.Path.{_≡_, sym, ap, subst, _∙_}
@@ -16,14 +16,14 @@ use Rattle.geometry.specs.declared.rectangle.Rectangle.{Rectangle}
 use Rattle.scanline.specs.declared.Row.the-variants.{Run}
 use Rattle.scanline.specs.Points.{EndsWithin, RowWithin, pointsFrom, runPoints, runLength, entries}
 use Rattle.scanline.proofs.Listing.{RowsLeft, rows-left-start, rows-left-done, rows-left-room, rows-left-next, points-after-all, points-after-empty, points-after-no-row}
 use Rattle.figure.specs.Bounds.{AreaRectangle}
 use Rattle.figure.specs.Figure.{rowOfShape, pointsOfShape}
-use Rattle.figure.proofs.Listed.{shape-area, points-by-rectangle, run-length-le, start-is-near, end-is-near}
+use Rattle.points.proofs.Listed.{shape-area, points-by-rectangle, run-length-le, start-is-near, end-is-near}
 use borrow.Author.Needs.{needs}
 use native.Mathlib.Omega.{arith}
 use Rattle.signed.proofs.Laws.{int}
-use Rattle.figure.proofs.points.put_points.Statement.{statement}
-use Rattle.figure.proofs.points.put_points.Tie as tie
+use Rattle.points.proofs.put_points.Statement.{statement}
+use Rattle.points.proofs.put_points.Tie as tie
 
 abbrev Inv-loop : tie.InvT-loop
 Inv-loop shape list₀ top height at₀ dy₀ list at dy = RowsLeft (rowOfShape shape) (toZ w32 top) height list₀ list at dy
