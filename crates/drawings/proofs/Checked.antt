@@ -1,0 +1,17 @@
+-- The checked drawings hold: each definition computes to what the paper says.
+-- Assumes nothing.
+use mathlib.Core.Path.{_≡_, refl}
+use mathlib.Core.List.{map}
+use Rattle.geometry.specs.Rectangle.{center, withCenter, offsetSide, offset}
+use Rattle.scanline.specs.Columns.{firstColumn, lastColumn}
+use Rattle.scanline.specs.Points.{runPoints, pointsFrom}
+use Rattle.ellipse.specs.Ellipse.{center2x, fromCenter2x, threshold, inside, insideAbout, scanline, hasRows, rowCount}
+use Rattle.corner_radii.specs.CornerRadii.{scaledCorner, scaled, reduced, overlap, furtherOver, tighter, someOver, confine, confineW3c}
+use Rattle.rounded_rectangle.specs.Quadrants.{insideTopLeft, insideTopRight, insideBottomRight, insideBottomLeft}
+use Rattle.rounded_rectangle.specs.RoundedRectangle.{runStart, runEnd, row}
+use Rattle.figure.specs.Figure.{confined, confinedW3c, pointsOfShape}
+use Rattle.drawings.specs.Cases.{cases}
+
+pub checked-drawings : map (λ c. c .drawn) cases ≡ map (λ c. c .said) cases
+unfolding center withCenter offsetSide offset firstColumn lastColumn runPoints pointsFrom center2x fromCenter2x threshold inside insideAbout scanline hasRows rowCount scaledCorner scaled reduced overlap furtherOver tighter someOver confine confineW3c insideTopLeft insideTopRight insideBottomRight insideBottomLeft runStart runEnd row confined confinedW3c pointsOfShape
+checked-drawings = refl

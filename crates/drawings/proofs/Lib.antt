@@ -1,0 +1,2 @@
+-- `Checked` shows the cases by computing them.
+pub mod Checked

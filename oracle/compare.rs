@@ -1,0 +1,1027 @@
+//! `oracle compare [SEED [EFFORT]]`: the original against the reference, query by query.
+//! Exhaustive over small figures, random up to the limits. EFFORT 100 is the standard run; it
+//! scales the random parts; with 0 only the small exhaustive parts run.
+
+use crate::{
+    findings,
+    original::Original,
+    query::{attempt, first_lent, panic_place, reply, Answers, Figure, Kind, Side, Style},
+    reference::{self, area, fill_area, stroke_area, styled_row, Area, Book, Call, Reference},
+};
+use std::{collections::BTreeMap, fmt::Debug, time::Instant};
+
+// ---- counting ----
+
+#[derive(Default)]
+struct Tally {
+    equal: u64,
+    panics: u64,
+    different: u64,
+}
+
+struct Class {
+    count: u64,
+    size: i64,
+    text: String,
+}
+
+#[derive(Default)]
+struct Forecast {
+    right: u64,
+    wrong: u64,
+    examples: Vec<String>,
+}
+
+#[derive(Default)]
+struct Report {
+    tallies: BTreeMap<&'static str, Tally>,
+    /// per query, figure kind and place: how often, and the smallest input
+    panics: BTreeMap<(&'static str, &'static str, String), Class>,
+    /// per query: the smallest inputs with different answers
+    different: BTreeMap<&'static str, Vec<(i64, String)>>,
+    forecasts: BTreeMap<&'static str, Forecast>,
+    /// `draw` beside `paint`, both of the original: no demand, only a note
+    draw_equal: u64,
+    draw_other: u64,
+    draw_smallest: Option<(i64, String)>,
+}
+
+fn size_of(f: &Figure) -> i64 {
+    let radii: i64 = f.radii.iter().map(|r| r.0 + r.1).sum();
+    // position counts little: a smaller figure at another place is still smaller
+    64 * (f.w + f.h + if f.kind == Kind::Ellipse { 0 } else { radii }) + (f.x.abs() + f.y.abs()) / 128
+}
+
+fn name(f: &Figure) -> &'static str {
+    match f.kind {
+        Kind::Ellipse => "ellipse",
+        Kind::Crate => "box",
+        Kind::W3c => "W3C box",
+    }
+}
+
+impl Report {
+    fn equal(&mut self, query: &'static str, count: u64) {
+        self.tallies.entry(query).or_default().equal += count;
+    }
+
+    fn differs(&mut self, query: &'static str, f: &Figure, extra: i64, text: String) {
+        self.tallies.entry(query).or_default().different += 1;
+        let list = self.different.entry(query).or_default();
+        list.push((size_of(f) + 64 * extra, text));
+        list.sort();
+        list.truncate(5);
+    }
+
+    fn panicked(&mut self, query: &'static str, f: &Figure, extra: i64, place: String, text: impl Fn() -> String) {
+        self.tallies.entry(query).or_default().panics += 1;
+        let size = size_of(f) + 64 * extra;
+        let class = self.panics.entry((query, name(f), place)).or_insert(Class {
+            count: 0,
+            size: i64::MAX,
+            text: String::new(),
+        });
+        class.count += 1;
+        if size < class.size {
+            class.size = size;
+            class.text = text();
+        }
+    }
+
+    /// One answer of each side.
+    fn check<T: PartialEq + Debug>(
+        &mut self,
+        query: &'static str,
+        f: &Figure,
+        extra: i64,
+        original: Result<T, String>,
+        reference: T,
+        text: impl Fn() -> String,
+    ) {
+        match original {
+            Err(place) => self.panicked(query, f, extra, place, text),
+            Ok(v) if v == reference => self.equal(query, 1),
+            Ok(v) => {
+                let mut t = format!("{v:?} / {reference:?}");
+                t.truncate(200);
+                self.differs(query, f, extra, format!("{}: original / reference {t}", text()));
+            }
+        }
+    }
+
+    fn forecast(&mut self, what: &'static str, right: bool, text: impl Fn() -> String) {
+        let f = self.forecasts.entry(what).or_default();
+        if right {
+            f.right += 1;
+        } else {
+            f.wrong += 1;
+            if f.examples.len() < 3 {
+                f.examples.push(text());
+            }
+        }
+    }
+
+    // ---- the queries ----
+
+    /// Every row of the plain figure, and two above and below it.
+    fn rows(&mut self, f: &Figure) {
+        let a = area(f, 0);
+        let original = attempt(|| Original.rows(f));
+        let foretold = findings::rows(&a);
+        self.forecast("rows of a figure", foretold == original.is_err(), || format!("rows {}", f.text()));
+        if f.kind == Kind::Crate {
+            let said = findings::box_rows(&a, false);
+            self.forecast("rows of a box, the sentence as it stands", said == original.is_err(), || {
+                format!("rows {}", f.text())
+            });
+        }
+        let rows = match original {
+            Err(place) => return self.panicked("row", f, 0, place, || format!("row {} {}", f.text(), f.y + f.h - 1)),
+            Ok(rows) => rows,
+        };
+        if rows.iter().enumerate().any(|(i, r)| r.0 != f.y + i as i64) {
+            self.differs("row", f, 0, format!("rows {} come in another order", f.text()));
+        }
+        let mut equal = 0;
+        for y in f.y - 2..f.y + f.h + 2 {
+            let original = rows.get((y - f.y) as usize).filter(|_| y >= f.y).map(|r| (r.1, r.2));
+            let reference = a.row(y);
+            if original == reference {
+                equal += 1;
+            } else {
+                let t = format!("row {} {y}: original / reference {original:?} / {reference:?}", f.text());
+                self.differs("row", f, 0, t);
+            }
+        }
+        self.equal("row", equal);
+    }
+
+    fn contains(&mut self, f: &Figure, a: &Area, px: i64, py: i64) {
+        let original = attempt(|| Original.contains(f, px, py));
+        let right = foretold_contains(f, a, px, py) == original.is_err();
+        let text = || format!("contains {} {px} {py}", f.text());
+        self.forecast("contains", right, text);
+        self.check("contains", f, px.abs() + py.abs(), original, a.contains(px, py), text);
+    }
+
+    fn contains_all(&mut self, f: &Figure, margin: i64) {
+        let a = area(f, 0);
+        for py in f.y - margin..f.y + f.h + margin {
+            for px in f.x - margin..f.x + f.w + margin {
+                self.contains(f, &a, px, py);
+            }
+        }
+    }
+
+    fn points(&mut self, f: &Figure) {
+        let original = attempt(|| Original.points(f));
+        if f.kind == Kind::Ellipse {
+            let right = findings::rows(&area(f, 0)) == original.is_err();
+            self.forecast("points of an ellipse", right, || format!("points {}", f.text()));
+        } else if original.is_err() {
+            let right = findings::rows(&area(f, 0));
+            self.forecast("points of a box fail only where its rows do", right, || format!("points {}", f.text()));
+        }
+        let reference = Reference.points(f);
+        self.check("points", f, 0, original, reference, || format!("points {}", f.text()));
+    }
+
+    fn offset(&mut self, f: &Figure, k: i64) {
+        let original = attempt(|| Original.offset(f, k));
+        let text = || format!("offset {} {k}", f.text());
+        self.check("offset", f, k.abs(), original, Reference.offset(f, k), text);
+    }
+
+    fn confine(&mut self, f: &Figure) {
+        let original = attempt(|| Original.confine(f));
+        self.check("confine", f, 0, original, Reference.confine(f), || format!("confine {}", f.text()));
+    }
+
+    /// Every styled row, two above and below, and the styled bounding box.
+    fn styled(&mut self, f: &Figure, s: &Style) {
+        let with = |q: &str| format!("{q} {} {} {}", f.text(), s.width, s.align);
+        self.check("bbox", f, s.width, attempt(|| Original.bbox(f, s)), Reference.bbox(f, s), || with("bbox"));
+
+        let (stroke, fill) = (stroke_area(f, s), fill_area(f, s));
+        let original = attempt(|| Original.srows(f, s));
+        let (sure, may) = findings::styled(&stroke, &fill);
+        let right = if original.is_err() { may } else { !sure };
+        self.forecast("styled rows (between surely and at most)", right, || with("srows"));
+        let top = stroke.top_left().1;
+        let bottom = top + stroke.sides().1;
+        let rows = match original {
+            Err(place) => {
+                return self.panicked("srow", f, s.width, place, || format!("{} {}", with("srow"), bottom - 1))
+            }
+            Ok(rows) => rows,
+        };
+        if rows.iter().enumerate().any(|(i, r)| r.0 != top + i as i64) {
+            self.differs("srow", f, s.width, format!("{}: rows in another order", with("srows")));
+        }
+        let mut equal = 0;
+        for y in top - 2..bottom + 2 {
+            let original = rows.get((y - top) as usize).filter(|_| y >= top).map(|r| r.1);
+            let reference = styled_row(&stroke, &fill, y);
+            if original == reference {
+                equal += 1;
+            } else {
+                let t = format!("{} {y}: original / reference {original:?} / {reference:?}", with("srow"));
+                self.differs("srow", f, s.width, t);
+            }
+        }
+        self.equal("srow", equal);
+    }
+
+    fn paint(&mut self, f: &Figure, s: &Style, w: i64, h: i64) {
+        let lent = first_lent(w, h, Some(101));
+        let canvas = |paint: &dyn Fn(&mut [u8])| {
+            let mut bytes = lent.clone();
+            paint(&mut bytes);
+            bytes
+        };
+        let colour = |c: Option<u8>| c.map_or(-1, |c| c as i64);
+        let text = || {
+            let (a, b) = (colour(s.stroke), colour(s.fill));
+            format!("paint {} {a} {b} {} {} {w} {h}", f.text(), s.width, s.align)
+        };
+        let original = attempt(|| canvas(&|b| Original.paint(f, s, w, h, b)));
+        let drawn = attempt(|| canvas(&|b| Original.draw(f, s, w, h, b)));
+        if let (Ok(p), Ok(d)) = (&original, &drawn) {
+            if p == d {
+                self.draw_equal += 1;
+            } else {
+                self.draw_other += 1;
+                let size = size_of(f) + s.width;
+                if self.draw_smallest.as_ref().map_or(true, |(least, _)| size < *least) {
+                    self.draw_smallest = Some((size, text()));
+                }
+            }
+        }
+        let reference = canvas(&|b| Reference.paint(f, s, w, h, b));
+        self.check("paint", f, s.width, original, reference, text);
+    }
+
+    /// A W3C box is not in the original. Its rule is held against another wording of it, and its
+    /// rows, points and contained points against the original's box of the confined radii, which
+    /// the crate's rule leaves as they are.
+    fn w3c(&mut self, of: &Figure, k: i64, fully: bool) {
+        let f = Figure { kind: Kind::W3c, ..*of };
+        let sums = |r: &[(i64, i64); 4]| {
+            [(r[0].0 + r[1].0, f.w), (r[1].1 + r[2].1, f.h), (r[2].0 + r[3].0, f.w), (r[3].1 + r[0].1, f.h)]
+        };
+        let confined = Reference.confine(&f).unwrap();
+        // the largest whole number that is at most r * L / S for every edge with S > 0
+        let edges = sums(&f.radii);
+        let least = |r: i64| edges.iter().filter(|(s, _)| *s > 0).map(|(s, l)| r * l / s).min().unwrap_or(r);
+        let other = if edges.iter().any(|(s, l)| s > l) { f.radii.map(|(a, b)| (least(a), least(b))) } else { f.radii };
+        let fits = sums(&confined).iter().all(|(s, l)| s <= l);
+        let text = || format!("confine {}", f.text());
+        self.check("w3c rule", &f, 0, Ok((other, true)), (confined, fits), text);
+
+        // offset by k: the area of a stroke or fill
+        let grown = Reference.offset(&f, k);
+        let same = Figure { kind: Kind::Crate, ..grown };
+        let untouched = attempt(|| Original.confine(&same));
+        self.check("w3c rule", &f, k.abs(), untouched, Some(grown.radii), || format!("offset {} {k}", f.text()));
+        if !fully {
+            return;
+        }
+        let a = area(&f, k);
+        match attempt(|| Original.rows(&same)) {
+            Err(place) => self.panicked("w3c row", &same, 0, place, || format!("row {} {}", same.text(), same.y + same.h - 1)),
+            Ok(rows) => {
+                let reference: Vec<_> = a.rows().map(|y| (y, a.row(y).unwrap().0, a.row(y).unwrap().1)).collect();
+                if rows == reference {
+                    self.equal("w3c row", rows.len() as u64);
+                } else {
+                    self.differs("w3c row", &f, k.abs(), format!("rows {} offset {k}", f.text()));
+                }
+            }
+        }
+        if k == 0 {
+            let original = attempt(|| Original.points(&same));
+            let text = || format!("points {}", same.text());
+            self.check("w3c points", &same, 0, original, Reference.points(&f), text);
+        }
+        for (px, py) in [(0, 0), (1, 0), (0, 1), (grown.w - 1, 0), (grown.w - 1, grown.h - 1), (0, grown.h - 1), (grown.w / 3, grown.h / 7)] {
+            let (px, py) = (grown.x + px, grown.y + py);
+            let original = attempt(|| Original.contains(&same, px, py));
+            let text = || format!("contains {} {px} {py}", same.text());
+            self.check("w3c contains", &same, 0, original, a.contains(px, py), text);
+        }
+    }
+
+    // ---- what is printed ----
+
+    fn print(&self) -> bool {
+        let mut sum = Tally::default();
+        println!("{:<10} {:>12} {:>10} {:>10}", "query", "equal", "panics", "DIFFERENT");
+        for (query, t) in &self.tallies {
+            println!("{query:<10} {:>12} {:>10} {:>10}", t.equal, t.panics, t.different);
+            sum.equal += t.equal;
+            sum.panics += t.panics;
+            sum.different += t.different;
+        }
+        println!("{:<10} {:>12} {:>10} {:>10}", "all", sum.equal, sum.panics, sum.different);
+        for (query, list) in &self.different {
+            for (_, text) in list {
+                println!("DIFFERENT {query}: {text}");
+            }
+        }
+        println!("panics by query, figure and place, with the smallest input met and what it shrinks to:");
+        for ((query, kind, place), class) in &self.panics {
+            println!("  {query}, {kind}, {place}: {}", class.count);
+            println!("    met {}", class.text);
+            println!("    shrunk {}", shrink(&class.text, place));
+        }
+        println!("sentences of rust-findings.md held against the original:");
+        for (what, f) in &self.forecasts {
+            println!("  {what}: {} as said, {} not", f.right, f.wrong);
+            for e in &f.examples {
+                println!("    not: {e}");
+            }
+        }
+        println!(
+            "draw beside paint (both original, no demand): {} equal, {} other, smallest {}",
+            self.draw_equal,
+            self.draw_other,
+            self.draw_smallest.as_ref().map_or("none", |(_, t)| t)
+        );
+        sum.different == 0
+    }
+}
+
+/// Makes single numbers of a query line smaller as long as the original panics at the same place.
+fn shrink(line: &str, place: &str) -> String {
+    let mut words: Vec<String> = line.split(' ').map(|w| w.to_string()).collect();
+    let fails = |words: &[String]| panic_place(&words.join(" ")).as_deref() == Some(place);
+    if !fails(&words) {
+        return format!("(does not fail as a text query) {line}");
+    }
+    let mut again = true;
+    while again {
+        again = false;
+        for i in 0..words.len() {
+            let Ok(v) = words[i].parse::<i64>() else { continue };
+            // towards 0: all of it, a half, a quarter, ... one
+            let mut by = v;
+            while by != 0 {
+                let kept = core::mem::replace(&mut words[i], (v - by).to_string());
+                if fails(&words) {
+                    again = true;
+                    break;
+                }
+                words[i] = kept;
+                by /= 2;
+            }
+        }
+    }
+    words.join(" ")
+}
+
+/// What rust-findings.md says of `contains`.
+fn foretold_contains(f: &Figure, a: &Area, px: i64, py: i64) -> bool {
+    if f.kind == Kind::Ellipse {
+        // "`new`, or the test at p"
+        let (x, y) = (2 * px - (2 * f.x + (f.w - 1).max(0)), 2 * py - (2 * f.y + (f.h - 1).max(0)));
+        return findings::new(f.w, f.h) || findings::test(f.w, f.h, x, y);
+    }
+    if findings::box_any(a) {
+        return true;
+    }
+    // the test of the corner that decides, if any
+    let (w, h) = a.sides();
+    let (dx, dy) = (px - f.x, py - f.y);
+    if dx < 0 || dy < 0 || dx >= w || dy >= h {
+        return false;
+    }
+    let [tl, tr, br, bl] = a.corner_radii();
+    // distance in half pixels from a corner's ellipse centre
+    let near = |r: (i64, i64), x: i64, y: i64| {
+        findings::test(2 * r.0, 2 * r.1, if r.0 == 0 { 2 * x } else { 2 * x - (2 * r.0 - 1) }, if r.1 == 0 { 2 * y } else { 2 * y - (2 * r.1 - 1) })
+    };
+    if dy < tl.1 && dx < tl.0 {
+        near(tl, dx, dy)
+    } else if dy < tr.1 && dx >= w - tr.0 {
+        near(tr, w - 1 - dx, dy)
+    } else if dy >= h - bl.1 && dx < bl.0 {
+        near(bl, dx, h - 1 - dy)
+    } else if dy >= h - br.1 && dx >= w - br.0 {
+        near(br, w - 1 - dx, h - 1 - dy)
+    } else {
+        false
+    }
+}
+
+// ---- random numbers ----
+
+struct Rng(u64);
+
+impl Rng {
+    fn next(&mut self) -> u64 {
+        // splitmix64
+        self.0 = self.0.wrapping_add(0x9e37_79b9_7f4a_7c15);
+        let mut z = self.0;
+        z = (z ^ (z >> 30)).wrapping_mul(0xbf58_476d_1ce4_e5b9);
+        z = (z ^ (z >> 27)).wrapping_mul(0x94d0_49bb_1331_11eb);
+        z ^ (z >> 31)
+    }
+
+    /// a..=b
+    fn within(&mut self, a: i64, b: i64) -> i64 {
+        a + (self.next() % (b - a + 1) as u64) as i64
+    }
+
+    fn of(&mut self, list: &[i64]) -> i64 {
+        list[self.within(0, list.len() as i64 - 1) as usize]
+    }
+
+    /// A side, biased to small ones and to the limit.
+    fn side(&mut self) -> i64 {
+        match self.within(0, 9) {
+            0 | 1 => self.within(0, 16),
+            2 | 3 | 4 => self.within(0, 100),
+            5 | 6 => self.within(0, 260),
+            7 => self.within(0, 1024),
+            8 => self.within(1000, 1024),
+            _ => self.of(&[0, 1, 2, 3, 4, 5, 255, 256, 257, 512, 1023, 1024]),
+        }
+    }
+
+    fn place(&mut self) -> i64 {
+        match self.within(0, 5) {
+            0 => 0,
+            1 | 2 => self.within(-20, 20),
+            3 => self.within(-1200, 200),
+            4 => self.within(-4096, 4096),
+            _ => self.of(&[-4096, -4095, -1, 1, 4095, 4096]),
+        }
+    }
+
+    /// A radius number for an edge of length l, biased to two that collide there.
+    fn radius(&mut self, l: i64) -> i64 {
+        let r = match self.within(0, 8) {
+            0 => 0,
+            1 | 2 => self.within(0, 6),
+            3 => l / 2 + self.within(-2, 2),
+            4 => l + self.within(-2, 2),
+            5 => self.within(0, l),
+            6 => self.within(0, 120),
+            7 => self.within(0, 1024),
+            _ => self.within(1018, 1024),
+        };
+        r.clamp(0, 1024)
+    }
+
+    fn figure(&mut self, boxes_of_ten: i64) -> Figure {
+        let (x, y) = (self.place(), self.place());
+        let (mut w, mut h) = (self.side(), self.side());
+        if self.within(0, 9) >= boxes_of_ten {
+            match self.within(0, 3) {
+                0 => h = w,
+                1 => {
+                    // about as large as the original can
+                    w = self.within(1, 300);
+                    h = (46000 / w + self.within(-3, 3)).clamp(0, 1024);
+                }
+                _ => {}
+            }
+            return Figure { kind: Kind::Ellipse, x, y, w, h, radii: [(0, 0); 4] };
+        }
+        let mut radii = [(0, 0); 4];
+        let mode = self.within(0, 5);
+        let same = (self.radius(w), self.radius(h));
+        for r in &mut radii {
+            *r = match mode {
+                // equal corners
+                0 => same,
+                // round corners, equal or not: the original finishes at every size
+                1 => (same.0, same.0),
+                2 => {
+                    let a = self.radius(w.min(h));
+                    (a, a)
+                }
+                // small ones
+                3 => (self.within(0, 40), self.within(0, 40)),
+                // sharp ones among others
+                4 if self.within(0, 1) == 0 => (0, 0),
+                _ => (self.radius(w), self.radius(h)),
+            };
+        }
+        if self.within(0, 3) == 0 {
+            // make one edge collide by a little
+            let by = self.within(-2, 3);
+            match self.within(0, 3) {
+                0 => radii[1].0 = (w - radii[0].0 + by).clamp(0, 1024),
+                1 => radii[2].1 = (h - radii[1].1 + by).clamp(0, 1024),
+                2 => radii[3].0 = (w - radii[2].0 + by).clamp(0, 1024),
+                _ => radii[0].1 = (h - radii[3].1 + by).clamp(0, 1024),
+            }
+        }
+        Figure { kind: Kind::Crate, x, y, w, h, radii }
+    }
+
+    fn colour(&mut self) -> Option<u8> {
+        (self.within(0, 3) > 0).then(|| self.within(0, 255) as u8)
+    }
+
+    fn style(&mut self) -> Style {
+        let width = match self.within(0, 5) {
+            0 => 0,
+            1 | 2 => self.within(0, 4),
+            3 => self.within(0, 30),
+            4 => self.within(0, 256),
+            _ => self.of(&[1, 2, 255, 256]),
+        };
+        Style { stroke: self.colour(), fill: self.colour(), width, align: self.within(0, 2) }
+    }
+}
+
+// ---- the parts ----
+
+fn ellipse(x: i64, y: i64, w: i64, h: i64) -> Figure {
+    Figure { kind: Kind::Ellipse, x, y, w, h, radii: [(0, 0); 4] }
+}
+
+fn crate_box(x: i64, y: i64, w: i64, h: i64, radii: [(i64, i64); 4]) -> Figure {
+    Figure { kind: Kind::Crate, x, y, w, h, radii }
+}
+
+fn styles() -> Vec<Style> {
+    let mut list = Vec::new();
+    for width in 0..=4 {
+        for align in 0..=2 {
+            list.push(Style { stroke: None, fill: None, width, align });
+        }
+    }
+    list
+}
+
+/// Both paints there or absent.
+fn painted(s: &Style) -> [Style; 4] {
+    [(None, None), (Some(1), None), (None, Some(2)), (Some(1), Some(2))].map(|(stroke, fill)| Style { stroke, fill, ..*s })
+}
+
+const PLACES: [(i64, i64); 4] = [(0, 0), (-5, -3), (6, 2), (-1, 4)];
+
+/// Every ellipse with sides 0..12, at four places, every offset −8..8, every style.
+fn small_ellipses(r: &mut Report) {
+    for w in 0..=12 {
+        for h in 0..=12 {
+            for (x, y) in PLACES {
+                let f = ellipse(x, y, w, h);
+                r.rows(&f);
+                r.contains_all(&f, 2);
+                r.points(&f);
+                for k in -8..=8 {
+                    r.offset(&f, k);
+                }
+                for s in styles() {
+                    r.styled(&f, &s);
+                    for s in painted(&s) {
+                        r.paint(&f, &s, 14, 13);
+                    }
+                }
+            }
+        }
+    }
+}
+
+/// Every ellipse size within limits: its first row, on which everything hangs.
+fn all_ellipse_sizes(r: &mut Report) {
+    let mut failing = 0u64;
+    let mut least: Option<(i64, i64)> = None;
+    for w in 0..=1024 {
+        for h in 0..=1024 {
+            let f = ellipse(-7, 11, w, h);
+            let original = attempt(|| Original.first_row(&f).map(|(_, a, b)| (a, b)));
+            let foretold = findings::ellipse_rows(w, h);
+            r.forecast("first row of every ellipse size", foretold == original.is_err(), || f.text());
+            if original.is_err() {
+                failing += 1;
+                if least.map_or(true, |(a, b)| w + h < a + b) {
+                    least = Some((w, h));
+                }
+            }
+            let y = f.y;
+            r.check("first row", &f, 0, original, area(&f, 0).row(y), || format!("row {} {y}", f.text()));
+        }
+    }
+    println!("ellipse sizes whose first row fails: {failing} of 1050625, smallest w + h: {least:?}");
+}
+
+/// Every corner (a, b) within limits, as the top-left one of a box just as large: its first row.
+fn all_corners(r: &mut Report) {
+    let mut failing = 0u64;
+    let mut least: Option<(i64, i64)> = None;
+    for a in 0..=1024 {
+        for b in 0..=1024 {
+            let f = crate_box(3, -5, a, b, [(a, b), (0, 0), (0, 0), (0, 0)]);
+            let original = attempt(|| Original.first_row(&f).map(|(_, a, b)| (a, b)));
+            let foretold = findings::rows(&area(&f, 0));
+            r.forecast("first row of every top-left corner", foretold == original.is_err(), || f.text());
+            if original.is_err() {
+                failing += 1;
+                if least.map_or(true, |(c, d)| a + b < c + d) {
+                    least = Some((a, b));
+                }
+            }
+            let y = f.y;
+            r.check("first row", &f, 0, original, area(&f, 0).row(y), || format!("row {} {y}", f.text()));
+        }
+    }
+    println!("top-left corners whose first row fails: {failing} of 1050625, smallest a + b: {least:?}");
+}
+
+/// Boxes with sides 0..12 and equal corners 0..6 by 0..6: every style, two places, paints too.
+fn small_equal_boxes(r: &mut Report) {
+    for w in 0..=12 {
+        for h in 0..=12 {
+            for a in 0..=6 {
+                for b in 0..=6 {
+                    for (x, y) in &PLACES[1..3] {
+                        let f = crate_box(*x, *y, w, h, [(a, b); 4]);
+                        r.rows(&f);
+                        r.contains_all(&f, 2);
+                        r.points(&f);
+                        r.confine(&f);
+                        for k in -8..=8 {
+                            r.offset(&f, k);
+                        }
+                        for s in styles() {
+                            r.styled(&f, &s);
+                            for s in painted(&s) {
+                                r.paint(&f, &s, 14, 13);
+                            }
+                        }
+                    }
+                }
+            }
+        }
+    }
+}
+
+/// Boxes with sides 0..12: any two corners 0..6 by 0..6 each, the other two sharp; one of the 15
+/// styles each in turn.
+fn small_pairs(r: &mut Report) {
+    let styles = styles();
+    let mut at = 0;
+    for w in 0..=12 {
+        for h in 0..=12 {
+            for (i, j) in [(0, 1), (0, 2), (0, 3), (1, 2), (1, 3), (2, 3)] {
+                for n in 0..7 * 7 * 7 * 7 {
+                    let mut radii = [(0, 0); 4];
+                    radii[i] = (n % 7, n / 7 % 7);
+                    radii[j] = (n / 49 % 7, n / 343);
+                    at += 1;
+                    let (x, y) = PLACES[at % 4];
+                    let f = crate_box(x, y, w, h, radii);
+                    r.rows(&f);
+                    r.confine(&f);
+                    r.styled(&f, &styles[at / 4 % 15]);
+                    if at % 8 == 0 {
+                        r.points(&f);
+                        r.contains_all(&f, 1);
+                    }
+                }
+            }
+        }
+    }
+}
+
+/// Boxes with sides 0..4 and all eight radii 0..2: everything, every style.
+fn tiny_boxes(r: &mut Report) {
+    for w in 0..=4 {
+        for h in 0..=4 {
+            for n in 0..6561 {
+                let mut rest = n;
+                let mut digit = || {
+                    let d = rest % 3;
+                    rest /= 3;
+                    d
+                };
+                let radii = [(); 4].map(|_| (digit(), digit()));
+                let f = crate_box(-2, 1, w, h, radii);
+                r.rows(&f);
+                r.points(&f);
+                r.confine(&f);
+                r.contains_all(&f, 1);
+                for k in [-3, -1, 1, 2] {
+                    r.offset(&f, k);
+                }
+                for s in styles() {
+                    r.styled(&f, &s);
+                }
+            }
+        }
+    }
+}
+
+/// Sides 0..12 and all eight radii 0..6 at random, with a random small style.
+fn random_small(r: &mut Report, rng: &mut Rng, count: u64) {
+    for n in 0..count {
+        let radii = [(); 4].map(|_| (rng.within(0, 6), rng.within(0, 6)));
+        let f = crate_box(rng.within(-8, 8), rng.within(-8, 8), rng.within(0, 12), rng.within(0, 12), radii);
+        let s = Style { stroke: rng.colour(), fill: rng.colour(), width: rng.within(0, 4), align: rng.within(0, 2) };
+        r.rows(&f);
+        r.confine(&f);
+        r.styled(&f, &s);
+        r.w3c(&f, rng.within(-4, 4), true);
+        if n % 4 == 1 {
+            // the single row, as the text queries ask for it
+            let y = f.y + rng.within(-3, f.h + 3);
+            let text = || format!("row {} {y}", f.text());
+            r.check("row asked", &f, 0, attempt(|| Original.row(&f, y)), Reference.row(&f, y), text);
+            let text = || format!("srow {} {} {} {y}", f.text(), s.width, s.align);
+            r.check("srow asked", &f, 0, attempt(|| Original.srow(&f, &s, y)), Reference.srow(&f, &s, y), text);
+        }
+        if n % 4 == 0 {
+            r.points(&f);
+            r.paint(&f, &s, 12, 11);
+            r.contains_all(&f, 1);
+        }
+    }
+}
+
+/// Up to the limits.
+fn random_large(r: &mut Report, rng: &mut Rng, count: u64) {
+    for n in 0..count {
+        let f = rng.figure(7);
+        let s = rng.style();
+        let a = area(&f, 0);
+        r.rows(&f);
+        r.confine(&f);
+        for k in [rng.within(-256, 256), rng.within(-6, 6), 256, -256] {
+            r.offset(&f, k);
+        }
+        r.styled(&f, &s);
+        for _ in 0..24 {
+            // near an end of the box, near the figure, and anywhere that may be asked
+            let near = |rng: &mut Rng, at: i64, side: i64| {
+                let v = match rng.within(0, 4) {
+                    0 => at + rng.within(-3, 3),
+                    1 => at + side + rng.within(-3, 3),
+                    2 | 3 => at + rng.within(0, side.max(1)),
+                    _ => rng.within(-8192, 8192),
+                };
+                v.clamp(-8192, 8192)
+            };
+            let (px, py) = (near(rng, f.x, f.w), near(rng, f.y, f.h));
+            r.contains(&f, &a, px, py);
+        }
+        if f.kind == Kind::Crate && n % 2 == 0 {
+            let k = if n % 4 == 0 { 0 } else { rng.within(-40, 40) };
+            r.w3c(&f, k, true);
+        }
+        if n % 4 == 0 {
+            r.points(&f);
+        }
+        if n % 4 == 1 {
+            let (w, h) = if n % 32 == 1 { (1024, rng.within(1, 1024)) } else { (rng.within(1, 90), rng.within(1, 90)) };
+            // so that the canvas shows some of it
+            let seen = Figure { x: rng.within(-f.w, w).max(-4096), y: rng.within(-f.h, h).max(-4096), ..f };
+            r.paint(&seen, &s, w, h);
+        }
+    }
+}
+
+/// Narrow boxes, upright or lying, whose corners still overlap after the crate's rule (case f):
+/// rows that are reversed or empty, points that stop, corners that decide before others.
+fn random_narrow(r: &mut Report, rng: &mut Rng, count: u64) {
+    for n in 0..count {
+        let (w, h) = (rng.within(1, 16), rng.within(8, 90));
+        let same = (rng.within(0, w), rng.within(h / 3, h));
+        let mut radii = [(); 4].map(|_| match n % 3 {
+            0 => same,
+            _ => (rng.within(0, w + 2), rng.within(0, h + 9)),
+        });
+        let (mut w, mut h) = (w, h);
+        if n % 2 == 0 {
+            core::mem::swap(&mut w, &mut h);
+            radii = radii.map(|(a, b)| (b, a));
+        }
+        let f = crate_box(rng.within(-9, 9), rng.within(-9, 9), w, h, radii);
+        let s = Style { stroke: rng.colour(), fill: rng.colour(), width: rng.within(0, 5), align: rng.within(0, 2) };
+        r.rows(&f);
+        r.points(&f);
+        r.confine(&f);
+        r.styled(&f, &s);
+        r.paint(&f, &s, 30, 40);
+        if n % 4 < 2 {
+            r.contains_all(&f, 0);
+        }
+    }
+}
+
+/// Only confinement and offset, which are quick: all eight radii up to the limits.
+fn random_radii(r: &mut Report, rng: &mut Rng, count: u64) {
+    for _ in 0..count {
+        let f = rng.figure(10);
+        r.confine(&f);
+        let k = rng.within(-256, 256);
+        r.offset(&f, k);
+        let grown = Original.offset(&f, k);
+        r.confine(&grown);
+        r.w3c(&f, k, false);
+    }
+}
+
+/// Lists of add and paint calls: sheet against book, and the canvas against the original.
+fn scripts(r: &mut Report, rng: &mut Rng, count: u64) {
+    let none = ellipse(0, 0, 0, 0);
+    let mut accepted = 0u64;
+    let mut refused: BTreeMap<u32, u64> = BTreeMap::new();
+    for n in 0..count {
+        let (w, h) = (rng.within(1, 30), rng.within(1, 30));
+        let with_w3c = n % 3 == 0;
+        let lent = first_lent(w, h, Some(rng.within(0, 255)));
+        let mut calls = Vec::new();
+        let mut book = Book::open();
+        let adds = if n % 10 == 0 { 20 } else { rng.within(1, 6) };
+        let total = rng.within(0, 160);
+        let mut added = 0;
+        for _ in 0..total {
+            let call = if added < adds && rng.within(0, 3) == 0 {
+                added += 1;
+                let mut f = Figure {
+                    kind: match rng.within(0, 2) {
+                        0 => Kind::Ellipse,
+                        1 if with_w3c => Kind::W3c,
+                        _ => Kind::Crate,
+                    },
+                    x: rng.within(-10, 30),
+                    y: rng.within(-10, 30),
+                    w: rng.within(0, 14),
+                    h: rng.within(0, 14),
+                    radii: [(); 4].map(|_| (rng.within(0, 8), rng.within(0, 8))),
+                };
+                let mut s = Style { stroke: rng.colour(), fill: rng.colour(), width: rng.within(0, 4), align: rng.within(0, 2) };
+                // some are to be refused, some for more than one reason
+                for _ in 0..2 {
+                    match rng.within(0, 40) {
+                        0 => f.w = 1025,
+                        1 => f.radii[2].1 = 1025,
+                        2 => f.x = 4097,
+                        3 => f.y = -4097,
+                        4 => s.width = 257,
+                        _ => {}
+                    }
+                }
+                Call::Add(f, s)
+            } else {
+                Call::Paint(match rng.within(0, 3) {
+                    0 => rng.within(0, 16) as usize,
+                    1 => book.earliest().unwrap_or(0),
+                    _ => rng.within(0, added.max(1)) as usize,
+                })
+            };
+            let answer = book.call(&call);
+            if answer == 0 {
+                accepted += 1;
+            } else {
+                *refused.entry(answer).or_default() += 1;
+            }
+            calls.push(call);
+        }
+        let compared = |r: &mut Report, calls: &[Call], done: bool| match reference::script(w, h, &lent, calls) {
+            Err(what) => r.differs("script", &none, calls.len() as i64, format!("{what}: {calls:?}")),
+            Ok((answers, canvas)) => {
+                r.equal("script", answers.len() as u64 + 1);
+                if with_w3c {
+                    return;
+                }
+                // the same list with the original's styled rows
+                let by = attempt(|| reference::book_script(w, h, &lent, calls, &Original).1);
+                r.check("script rows", &none, calls.len() as i64, by, canvas.clone(), || format!("{calls:?}"));
+                if done {
+                    // finished: the original's `pixels`, figure after figure
+                    let mut book = Book::open();
+                    for c in calls {
+                        book.call(c);
+                    }
+                    let by = attempt(|| {
+                        let mut bytes = lent.clone();
+                        for (f, s) in book.figures() {
+                            Original.paint(f, s, w, h, &mut bytes);
+                        }
+                        bytes
+                    });
+                    r.check("script end", &none, calls.len() as i64, by, canvas, || format!("{calls:?}"));
+                }
+            }
+        };
+        compared(r, &calls, false);
+        // "While any figure has rows left, a paint call for the earliest such one is accepted."
+        while let Some(i) = book.earliest() {
+            let call = Call::Paint(i);
+            let answer = book.call(&call);
+            if answer != 0 {
+                r.differs("script", &none, 0, format!("the earliest, {i}, gets {answer}: {calls:?}"));
+                break;
+            }
+            calls.push(call);
+        }
+        compared(r, &calls, true);
+    }
+    println!("script calls before the finish: {accepted} accepted, refused by number {refused:?}");
+}
+
+/// The checked drawings of document 01 and the inputs that rust-findings.md names: the query, the
+/// original's answer, the reference's.
+const FIXED: &[(&str, &str, &str)] = &[
+    // b, c, d, e
+    ("row e 0 0 2 7 0", "0 2", "0 2"),
+    ("row e 0 0 2 7 6", "0 2", "0 2"),
+    ("row e 0 0 2 8 0", "none", "none"),
+    ("row e 0 0 2 8 4", "none", "none"),
+    ("row e 0 0 4 31 30", "1 3", "1 3"),
+    ("row e 0 0 4 32 16", "none", "none"),
+    // f, g
+    ("confine c 0 0 10 100 9 60 9 60 9 60 9 60", "7 50 7 50 7 50 7 50", "7 50 7 50 7 50 7 50"),
+    ("row c 0 0 10 100 9 60 9 60 9 60 9 60 0", "6 4", "6 4"),
+    ("points c 0 0 10 100 9 60 9 60 9 60 9 60", "0 1", "0 1"),
+    ("confine w 0 0 10 100 9 60 9 60 9 60 9 60", "n/a", "5 33 5 33 5 33 5 33"),
+    // h, i
+    ("srow c 0 0 10 40 1 20 1 20 1 20 1 20 0 1 0", "0 1 1 9 9 10", "0 1 1 9 9 10"),
+    ("srow c 0 0 4 10 0 0 0 0 0 0 0 0 2 0 5", "0 0 0 4 4 4", "0 0 0 4 4 4"),
+    ("srow c 0 0 4 10 0 0 0 0 0 0 0 0 2 0 1", "0 4 4 4 4 4", "0 4 4 4 4 4"),
+    // j
+    ("bbox e 0 0 0 0 2 2", "-1 -1 4 4", "-1 -1 4 4"),
+    ("bbox e 0 0 5 5 2 2", "-2 -2 9 9", "-2 -2 9 9"),
+    ("offset c 0 0 5 5 0 0 0 0 0 0 0 0 2", "-2 -2 9 9 2 2 2 2 2 2 2 2", "-2 -2 9 9 2 2 2 2 2 2 2 2"),
+    // k: Center width 1 leaves the stroke area, and takes 1 from each side of the fill area
+    ("bbox e 0 0 5 5 1 1", "0 0 5 5", "0 0 5 5"),
+    ("srow c 0 0 5 5 0 0 0 0 0 0 0 0 1 1 2", "0 1 1 4 4 5", "0 1 1 4 4 5"),
+    // oval
+    ("paintfull e 0 0 4 4 -1 9 0 1 4 4", "00090900090909090909090900090900", "00090900090909090909090900090900"),
+    // rust-findings.md
+    ("row e 0 0 256 257 0", "panic", "117 139"),
+    ("row e 0 0 207 225 0", "panic", "94 113"),
+    ("row e 0 0 215 216 0", "97 118", "97 118"),
+    ("row e 0 0 216 217 0", "panic", "98 118"),
+    ("contains e 0 0 5 6 5464 0", "panic", "0"),
+    ("contains e 0 0 5 6 5463 0", "0", "0"),
+    ("row e 0 0 256 181 0", "115 141", "115 141"),
+    ("row e 0 0 256 182 0", "panic", "115 141"),
+    ("row e 0 0 1024 45 0", "405 619", "405 619"),
+    ("row e 0 0 1024 46 0", "panic", "406 618"),
+    ("contains c 0 0 118 139 118 139 0 0 0 0 0 0 117 138", "panic", "1"),
+    ("row c 0 0 104 112 104 112 0 0 0 0 0 0 0", "panic", "94 104"),
+    ("row c 0 0 122 136 1 136 0 0 0 0 0 0 0", "panic", "0 122"),
+    ("srow c 21 21 256 251 914 914 0 0 1021 1024 0 0 12 2 100", "panic", "61 74 74 264 264 274"),
+    // a box without columns has none to test, though its corner is (105, 120)
+    ("confine c 0 0 0 120 903 1024 0 0 0 0 0 0", "105 120 0 0 0 0 0 0", "105 120 0 0 0 0 0 0"),
+    ("row c 0 0 0 120 903 1024 0 0 0 0 0 0 0", "0 0", "0 0"),
+];
+
+fn fixed(r: &mut Report) {
+    let none = ellipse(0, 0, 0, 0);
+    for (line, original, reference) in FIXED {
+        for (side, wanted, name) in [(Side::Original, original, "original"), (Side::Reference, reference, "reference")] {
+            let got = reply(line, side);
+            if got == **wanted {
+                r.equal("fixed", 1);
+            } else {
+                r.differs("fixed", &none, 0, format!("{line}: {name} {got}, wanted {wanted}"));
+            }
+        }
+    }
+    // where the sentence on box rows foretells a panic and there is none: no column, no row
+    r.rows(&crate_box(0, 0, 0, 120, [(903, 1024), (0, 0), (0, 0), (0, 0)]));
+    r.rows(&crate_box(0, 0, 154, 0, [(4, 793), (1006, 0), (154, 0), (0, 0)]));
+    // a
+    for (w, t) in [0, 1, 3, 8, 14, 25].into_iter().enumerate() {
+        if reference::threshold(w as i64) == t {
+            r.equal("fixed", 1);
+        } else {
+            r.differs("fixed", &none, 0, format!("case a, side {w}"));
+        }
+    }
+}
+
+pub fn run(seed: u64, effort: u64) -> bool {
+    let start = Instant::now();
+    let mut r = Report::default();
+    let mut rng = Rng(seed);
+    println!("seed {seed}, effort {effort}");
+    let mut part = |name: &str, run: &mut dyn FnMut(&mut Report)| {
+        let at = Instant::now();
+        run(&mut r);
+        println!("[{:6.1} s] {name}: {:.1} s", start.elapsed().as_secs_f64(), at.elapsed().as_secs_f64());
+    };
+    part("fixed cases", &mut fixed);
+    part("ellipses, sides 0..12, all styles", &mut small_ellipses);
+    if effort > 0 {
+        part("first row of all ellipse sizes", &mut all_ellipse_sizes);
+        part("first row of all top-left corners", &mut all_corners);
+    }
+    part("boxes, sides 0..12, equal corners 0..6, all styles", &mut small_equal_boxes);
+    part("boxes, sides 0..12, any two corners 0..6", &mut small_pairs);
+    part("boxes, sides 0..4, all radii 0..2, all styles", &mut tiny_boxes);
+    part("boxes, sides 0..12, all radii 0..6, random", &mut |r| random_small(r, &mut rng, 10_000 * effort));
+    part("narrow boxes, random", &mut |r| random_narrow(r, &mut rng, 500 * effort));
+    part("radii up to the limits, random", &mut |r| random_radii(r, &mut rng, 20_000 * effort));
+    part("figures up to the limits, random", &mut |r| random_large(r, &mut rng, 1_000 * effort));
+    part("scripts, random", &mut |r| scripts(r, &mut rng, 100 * effort));
+    r.print()
+}

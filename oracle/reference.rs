@@ -1,0 +1,684 @@
+//! Document 01's DEFINITIONS, plainly, in i64 (the widest number here stays below 2^52; this build
+//! has overflow checks on as well). Written from the paper, not from the Rust. Sentences of the
+//! paper are quoted at the code that says them.
+
+use crate::query::{Answers, Figure, Kind, Style};
+
+/// "The records": limits and the numbers that refuse.
+pub const MAX_SIDE: i64 = 1024;
+pub const MAX_RADIUS: i64 = 1024;
+pub const MAX_XY: i64 = 4096;
+pub const MAX_ASKED: i64 = 8192;
+pub const MAX_WIDTH: i64 = 256;
+pub const MAX_LAYERS: usize = 16;
+
+fn within(v: i64, limit: i64) -> bool {
+    -limit <= v && v <= limit
+}
+
+/// Numbers 1 to 3: the lowest that applies to a figure.
+pub fn figure_refusal(f: &Figure) -> Option<u32> {
+    let side = |v: i64| (0..=MAX_SIDE).contains(&v);
+    let radius = |v: i64| (0..=MAX_RADIUS).contains(&v);
+    if !side(f.w) || !side(f.h) {
+        return Some(1);
+    }
+    if f.kind != Kind::Ellipse && !f.radii.iter().all(|r| radius(r.0) && radius(r.1)) {
+        return Some(2);
+    }
+    if !within(f.x, MAX_XY) || !within(f.y, MAX_XY) {
+        return Some(3);
+    }
+    None
+}
+
+/// Number 5 for a style.
+pub fn style_refusal(s: &Style) -> Option<u32> {
+    (!(0..=MAX_WIDTH).contains(&s.width)).then_some(5)
+}
+
+/// Number 4: "an asked point or row beyond ±8192".
+pub fn asked_refusal(v: i64) -> Option<u32> {
+    (!within(v, MAX_ASKED)).then_some(4)
+}
+
+/// Number 5: "an offset beyond ±256".
+pub fn offset_refusal(k: i64) -> Option<u32> {
+    (!within(k, MAX_WIDTH)).then_some(5)
+}
+
+/// Number 6: "W or H outside 1..1024".
+pub fn canvas_refusal(w: i64, h: i64) -> Option<u32> {
+    (!(1..=1024).contains(&w) || !(1..=1024).contains(&h)).then_some(6)
+}
+
+#[derive(Clone, Copy, PartialEq, Eq, Debug)]
+struct Rect {
+    x: i64,
+    y: i64,
+    w: i64,
+    h: i64,
+}
+
+/// "floor(max(side − 1, 0) / 2)"
+fn centre_term(side: i64) -> i64 {
+    (side - 1).max(0).div_euclid(2)
+}
+
+/// "Offset by k adds 2k to both sides (k may be negative; never below 0) about the centre."
+fn offset_rect(r: Rect, k: i64) -> Rect {
+    let (w, h) = ((r.w + 2 * k).max(0), (r.h + 2 * k).max(0));
+    let (cx, cy) = (r.x + centre_term(r.w), r.y + centre_term(r.h));
+    Rect {
+        x: cx - centre_term(w),
+        y: cy - centre_term(h),
+        w,
+        h,
+    }
+}
+
+/// "Outside width: 0, floor(s / 2), s for Inside, Center, Outside with stroke width s."
+fn outside_width(s: &Style) -> i64 {
+    match s.align {
+        0 => 0,
+        1 => s.width.div_euclid(2),
+        _ => s.width,
+    }
+}
+
+/// "Inside width: s, floor((s + 1) / 2), 0."
+fn inside_width(s: &Style) -> i64 {
+    match s.align {
+        0 => s.width,
+        1 => (s.width + 1).div_euclid(2),
+        _ => 0,
+    }
+}
+
+/// "If w = h the point is inside when X² + Y² < t, where t = w² − floor(w / 2) for w ≤ 4 and w²
+/// above. Else when h²X² + w²Y² < w²h²."
+fn inside(w: i64, h: i64, big_x: i64, big_y: i64) -> bool {
+    if w == h {
+        big_x * big_x + big_y * big_y < threshold(w)
+    } else {
+        h * h * big_x * big_x + w * w * big_y * big_y < w * w * h * h
+    }
+}
+
+pub fn threshold(w: i64) -> i64 {
+    if w <= 4 {
+        w * w - w.div_euclid(2)
+    } else {
+        w * w
+    }
+}
+
+/// "let C = 2 × top-left + max(side − 1, 0) per axis, and (X, Y) = 2 × point − C"
+fn doubled_centre(r: Rect) -> (i64, i64) {
+    (2 * r.x + (r.w - 1).max(0), 2 * r.y + (r.h - 1).max(0))
+}
+
+fn in_ellipse(r: Rect, px: i64, py: i64) -> bool {
+    let (cx, cy) = doubled_centre(r);
+    inside(r.w, r.h, 2 * px - cx, 2 * py - cy)
+}
+
+pub type Radii = [(i64, i64); 4]; // top-left, top-right, bottom-right, bottom-left
+
+/// "S is the sum of the two radii along an edge, L its length; edges in the order top, right,
+/// bottom, left."
+fn edges(r: &Radii, w: i64, h: i64) -> [(i64, i64); 4] {
+    [
+        (r[0].0 + r[1].0, w),
+        (r[1].1 + r[2].1, h),
+        (r[3].0 + r[2].0, w),
+        (r[0].1 + r[3].1, h),
+    ]
+}
+
+fn scaled(r: &Radii, l: i64, s: i64) -> Radii {
+    r.map(|(a, b)| ((a * l).div_euclid(s), (b * l).div_euclid(s)))
+}
+
+/// "Crate rule: the first edge with the largest S − L above 0 scales every radius r to
+/// floor(r × L / S)."
+fn confine_crate(r: &Radii, w: i64, h: i64) -> Radii {
+    let edges = edges(r, w, h);
+    let largest = edges.iter().map(|(s, l)| s - l).max().unwrap();
+    if largest <= 0 {
+        return *r;
+    }
+    let (s, l) = *edges.iter().find(|(s, l)| s - l == largest).unwrap();
+    scaled(r, l, s)
+}
+
+/// "W3C rule: if some S > L, every r becomes floor(r × L / S) for the edge with the smallest L / S,
+/// compared exactly, among those with S > 0."
+fn confine_w3c(r: &Radii, w: i64, h: i64) -> Radii {
+    let edges = edges(r, w, h);
+    if !edges.iter().any(|(s, l)| s > l) {
+        return *r;
+    }
+    // L1 / S1 <= L2 / S2 exactly when L1 * S2 <= L2 * S1
+    let (s, l) = *edges
+        .iter()
+        .filter(|(s, _)| *s > 0)
+        .find(|(s, l)| {
+            edges
+                .iter()
+                .filter(|(s2, _)| *s2 > 0)
+                .all(|(s2, l2)| l * s2 <= l2 * s)
+        })
+        .unwrap();
+    scaled(r, l, s)
+}
+
+fn grown(r: &Radii, k: i64) -> Radii {
+    r.map(|(a, b)| ((a + k).max(0), (b + k).max(0)))
+}
+
+/// A figure offset and ready for its rows: its rectangle, and a box's confined radii with its
+/// corner ellipses.
+pub struct Area {
+    kind: Kind,
+    rect: Rect,
+    /// per corner: the quadrant, and the whole ellipse whose matching quarter fills it
+    corners: [(Rect, Rect); 4],
+    /// an ellipse's first row has an inside column
+    drawn: bool,
+}
+
+fn rect_of(f: &Figure) -> Rect {
+    Rect {
+        x: f.x,
+        y: f.y,
+        w: f.w,
+        h: f.h,
+    }
+}
+
+/// "A crate box is offset, then confined. A W3C box is confined, offset like a crate box, confined
+/// again."
+pub fn area(f: &Figure, k: i64) -> Area {
+    let rect = offset_rect(rect_of(f), k);
+    let radii = match f.kind {
+        Kind::Ellipse => [(0, 0); 4],
+        Kind::Crate => confine_crate(&grown(&f.radii, k), rect.w, rect.h),
+        Kind::W3c => three_steps(f, k, rect),
+    };
+    // "Each corner's quadrant is the rectangle of its confined radii in that corner of the box; its
+    // test is that of the whole ellipse of twice the radii whose matching quarter fills it."
+    let (left, top) = (rect.x, rect.y);
+    let (right, bottom) = (rect.x + rect.w, rect.y + rect.h);
+    let corner = |i: usize, on_right: bool, at_bottom: bool| {
+        let (a, b) = radii[i];
+        let quadrant = Rect {
+            x: if on_right { right - a } else { left },
+            y: if at_bottom { bottom - b } else { top },
+            w: a,
+            h: b,
+        };
+        let whole = Rect {
+            x: if on_right { right - 2 * a } else { left },
+            y: if at_bottom { bottom - 2 * b } else { top },
+            w: 2 * a,
+            h: 2 * b,
+        };
+        (quadrant, whole)
+    };
+    let corners = [
+        corner(0, false, false),
+        corner(1, true, false),
+        corner(2, true, true),
+        corner(3, false, true),
+    ];
+    let mut area = Area {
+        kind: f.kind,
+        rect,
+        corners,
+        drawn: true,
+    };
+    if f.kind == Kind::Ellipse {
+        area.drawn = rect.h > 0 && area.first_inside(rect.y).is_some();
+    }
+    area
+}
+
+fn three_steps(f: &Figure, k: i64, rect: Rect) -> Radii {
+    let once = confine_w3c(&f.radii, f.w, f.h);
+    confine_w3c(&grown(&once, k), rect.w, rect.h)
+}
+
+/// "The stroke area is the figure offset by the outside width, the fill area by minus the inside
+/// width."
+pub fn stroke_area(f: &Figure, s: &Style) -> Area {
+    area(f, outside_width(s))
+}
+
+pub fn fill_area(f: &Figure, s: &Style) -> Area {
+    area(f, -inside_width(s))
+}
+
+impl Area {
+    /// The first inside column of an ellipse's row.
+    fn first_inside(&self, y: i64) -> Option<i64> {
+        (self.rect.x..self.rect.x + self.rect.w).find(|x| in_ellipse(self.rect, *x, y))
+    }
+
+    pub fn kind(&self) -> Kind {
+        self.kind
+    }
+
+    pub fn sides(&self) -> (i64, i64) {
+        (self.rect.w, self.rect.h)
+    }
+
+    pub fn top_left(&self) -> (i64, i64) {
+        (self.rect.x, self.rect.y)
+    }
+
+    /// A box's confined radii.
+    pub fn corner_radii(&self) -> Radii {
+        [0, 1, 2, 3].map(|i: usize| (self.corners[i].0.w, self.corners[i].0.h))
+    }
+
+    fn has_y(&self, y: i64) -> bool {
+        self.rect.y <= y && y < self.rect.y + self.rect.h
+    }
+
+    /// The figure's rows: for an ellipse "all its rows, or no row if its first has no inside
+    /// column"; for a box "every row".
+    pub fn rows(&self) -> core::ops::Range<i64> {
+        if self.drawn {
+            self.rect.y..self.rect.y + self.rect.h
+        } else {
+            self.rect.y..self.rect.y
+        }
+    }
+
+    /// A plain row: Some(run) or 'no row'.
+    pub fn row(&self, y: i64) -> Option<(i64, i64)> {
+        if !self.rows().contains(&y) {
+            return None;
+        }
+        let (start, end) = (self.rect.x, self.rect.x + self.rect.w);
+        if self.kind == Kind::Ellipse {
+            // "A row runs from its first inside column c to columns.end − (c − columns.start)."
+            let c = self
+                .first_inside(y)
+                .expect("paper: an ellipse has all its rows, or none");
+            return Some((c, end - (c - start)));
+        }
+        // "on rows above the end of the top-left quadrant, else from the start of the bottom-left
+        // one, the run starts at the first column of the box inside that ellipse, else at
+        // columns.start. Its end, by the rows of the right-hand quadrants in the same way, is the
+        // last column inside that ellipse plus 1, else columns.end."
+        let deciding = |upper: usize, lower: usize| {
+            let (top, bottom) = (&self.corners[upper], &self.corners[lower]);
+            if y < top.0.y + top.0.h {
+                Some(top.1)
+            } else if y >= bottom.0.y {
+                Some(bottom.1)
+            } else {
+                None
+            }
+        };
+        let a = deciding(0, 3)
+            .and_then(|e| (start..end).find(|x| in_ellipse(e, *x, y)))
+            .unwrap_or(start);
+        let b = deciding(1, 2)
+            .and_then(|e| (start..end).rev().find(|x| in_ellipse(e, *x, y)))
+            .map_or(end, |x| x + 1);
+        Some((a, b))
+    }
+
+    /// "`contains`: false outside rows or columns; then the first that applies of top-left (y above
+    /// the quadrant's end row, x left of its end column), top-right, bottom-left, bottom-right
+    /// decides by its ellipse; else true."
+    pub fn contains(&self, px: i64, py: i64) -> bool {
+        let r = self.rect;
+        if self.kind == Kind::Ellipse {
+            return in_ellipse(r, px, py);
+        }
+        if !(self.has_y(py) && r.x <= px && px < r.x + r.w) {
+            return false;
+        }
+        let [tl, tr, br, bl] = &self.corners;
+        if py < tl.0.y + tl.0.h && px < tl.0.x + tl.0.w {
+            in_ellipse(tl.1, px, py)
+        } else if py < tr.0.y + tr.0.h && px >= tr.0.x {
+            in_ellipse(tr.1, px, py)
+        } else if py >= bl.0.y && px < bl.0.x + bl.0.w {
+            in_ellipse(bl.1, px, py)
+        } else if py >= br.0.y && px >= br.0.x {
+            in_ellipse(br.1, px, py)
+        } else {
+            true
+        }
+    }
+}
+
+/// 'Styled rows': left, fill and right run, or 'no row'.
+pub fn styled_row(stroke: &Area, fill: &Area, y: i64) -> Option<[i64; 6]> {
+    // "Take the stroke area's run s..e."
+    let (s, e) = stroke.row(y)?;
+    let (fs, fe) = if stroke.kind == Kind::Ellipse {
+        // "with c the first column of s..e inside the fill sides' ellipse about the stroke area's
+        // C, fill is c..e − (c − s), else e..e."
+        let (cx, cy) = doubled_centre(stroke.rect);
+        match (s..e).find(|x| inside(fill.rect.w, fill.rect.h, 2 * x - cx, 2 * y - cy)) {
+            Some(c) => (c, e - (c - s)),
+            None => (e, e),
+        }
+    } else if fill.has_y(y) {
+        // "if y is among the fill area's rows, fill is from the first column of s..e that the fill
+        // area contains (else s) to the last plus 1 (else e)"
+        let first = (s..e).find(|x| fill.contains(*x, y)).unwrap_or(s);
+        let last = (s..e).rev().find(|x| fill.contains(*x, y));
+        (first, last.map_or(e, |x| x + 1))
+    } else {
+        // "off those rows it is e..e"
+        (e, e)
+    };
+    // "Left is s..fill start, right is fill end..e."
+    Some([s, fs, fs, fe, fe, e])
+}
+
+/// "To overpaint a canvas row by a styled row is to set its pixels in the two stroke runs to the
+/// stroke colour and those in the fill run to the fill colour; an absent paint sets none."
+fn overpaint(row: &mut [u8], runs: &[i64; 6], s: &Style) {
+    let mut set = |a: i64, b: i64, paint: Option<u8>| {
+        if let Some(c) = paint {
+            for x in a.max(0)..b.min(row.len() as i64) {
+                row[x as usize] = c;
+            }
+        }
+    };
+    set(runs[0], runs[1], s.stroke);
+    set(runs[2], runs[3], s.fill);
+    set(runs[4], runs[5], s.stroke);
+}
+
+fn overpaint_at(bytes: &mut [u8], w: i64, h: i64, y: i64, runs: &[i64; 6], s: &Style) {
+    if 0 <= y && y < h {
+        let from = (y * w) as usize;
+        overpaint(&mut bytes[from..from + w as usize], runs, s);
+    }
+}
+
+pub struct Reference;
+
+impl Answers for Reference {
+    fn contains(&self, f: &Figure, px: i64, py: i64) -> bool {
+        area(f, 0).contains(px, py)
+    }
+
+    fn row(&self, f: &Figure, y: i64) -> Option<(i64, i64)> {
+        area(f, 0).row(y)
+    }
+
+    /// "Points are listed as x, y pairs, row by row, up to the first empty row"
+    fn points(&self, f: &Figure) -> Vec<i32> {
+        let area = area(f, 0);
+        let mut list = Vec::new();
+        for y in area.rows() {
+            let (a, b) = area.row(y).unwrap();
+            if b <= a {
+                break;
+            }
+            for x in a..b {
+                list.push(x as i32);
+                list.push(y as i32);
+            }
+        }
+        list
+    }
+
+    /// "A public offset call gives rectangle and radii, a crate box's not confined, a W3C box's
+    /// after its three steps below"
+    fn offset(&self, f: &Figure, k: i64) -> Figure {
+        let rect = offset_rect(rect_of(f), k);
+        Figure {
+            kind: f.kind,
+            x: rect.x,
+            y: rect.y,
+            w: rect.w,
+            h: rect.h,
+            radii: match f.kind {
+                Kind::Ellipse => f.radii,
+                Kind::Crate => grown(&f.radii, k),
+                Kind::W3c => three_steps(f, k, rect),
+            },
+        }
+    }
+
+    fn confine(&self, f: &Figure) -> Option<[(i64, i64); 4]> {
+        match f.kind {
+            Kind::Ellipse => None,
+            Kind::Crate => Some(confine_crate(&f.radii, f.w, f.h)),
+            Kind::W3c => Some(confine_w3c(&f.radii, f.w, f.h)),
+        }
+    }
+
+    fn srow(&self, f: &Figure, s: &Style, y: i64) -> Option<[i64; 6]> {
+        styled_row(&stroke_area(f, s), &fill_area(f, s), y)
+    }
+
+    /// "the styled bounding box is the rectangle offset by the outside width"
+    fn bbox(&self, f: &Figure, s: &Style) -> (i64, i64, i64, i64) {
+        let r = offset_rect(rect_of(f), outside_width(s));
+        (r.x, r.y, r.w, r.h)
+    }
+
+    fn paint(&self, f: &Figure, s: &Style, w: i64, h: i64, bytes: &mut [u8]) {
+        let (stroke, fill) = (stroke_area(f, s), fill_area(f, s));
+        for y in stroke.rows() {
+            // rows off the canvas paint nothing
+            if 0 <= y && y < h {
+                overpaint_at(bytes, w, h, y, &styled_row(&stroke, &fill, y).unwrap(), s);
+            }
+        }
+    }
+}
+
+// ---- the sheet and the book ----
+
+#[derive(Clone, Debug)]
+pub enum Call {
+    Add(Figure, Style),
+    Paint(usize),
+}
+
+/// The lowest of numbers 1, 2, 3, 5 that applies.
+fn add_refusal(f: &Figure, s: &Style) -> Option<u32> {
+    figure_refusal(f).or(style_refusal(s))
+}
+
+struct Layer {
+    style: Style,
+    stroke: Area,
+    fill: Area,
+    next: i64,
+}
+
+/// The plain sheet: layers with a next row each.
+pub struct Sheet {
+    w: i64,
+    h: i64,
+    layers: Vec<Layer>,
+}
+
+impl Sheet {
+    pub fn open(w: i64, h: i64) -> Result<Sheet, u32> {
+        match canvas_refusal(w, h) {
+            Some(n) => Err(n),
+            None => Ok(Sheet {
+                w,
+                h,
+                layers: Vec::new(),
+            }),
+        }
+    }
+
+    /// "Adding puts a figure on top, its next row its first stroke-area row." 0, or the refusal.
+    pub fn add(&mut self, f: &Figure, s: &Style) -> u32 {
+        if let Some(n) = add_refusal(f, s) {
+            return n;
+        }
+        if self.layers.len() == MAX_LAYERS {
+            return 9;
+        }
+        let stroke = stroke_area(f, s);
+        let fill = fill_area(f, s);
+        let next = stroke.rows().start;
+        self.layers.push(Layer {
+            style: *s,
+            stroke,
+            fill,
+            next,
+        });
+        0
+    }
+
+    /// "Painting a layer writes the styled row at its next row onto the canvas, absent paints and
+    /// pixels off the canvas skipped, and moves next row down by one."
+    pub fn paint(&mut self, i: usize, bytes: &mut [u8]) -> u32 {
+        if i >= self.layers.len() {
+            return 10;
+        }
+        let y = self.layers[i].next;
+        if !self.layers[i].stroke.rows().contains(&y) {
+            return 11;
+        }
+        // "An earlier layer owes y if y is among its rows and its next row is ≤ y."
+        if self.layers[..i]
+            .iter()
+            .any(|l| l.stroke.rows().contains(&y) && l.next <= y)
+        {
+            return 12;
+        }
+        let layer = &mut self.layers[i];
+        let runs = styled_row(&layer.stroke, &layer.fill, y).unwrap();
+        overpaint_at(bytes, self.w, self.h, y, &runs, &layer.style);
+        layer.next += 1;
+        0
+    }
+}
+
+/// "The book of demand 3": figures in order, each with its style and a count.
+pub struct Book {
+    noted: Vec<(Figure, Style, i64)>,
+}
+
+impl Book {
+    pub fn open() -> Book {
+        Book { noted: Vec::new() }
+    }
+
+    fn rows(&self, i: usize) -> core::ops::Range<i64> {
+        stroke_area(&self.noted[i].0, &self.noted[i].1).rows()
+    }
+
+    /// "A figure with count n has painted the first n rows of its stroke area"
+    fn painted(&self, i: usize) -> core::ops::Range<i64> {
+        let rows = self.rows(i);
+        rows.start..rows.start + self.noted[i].2
+    }
+
+    /// "its other rows are left, and it owes each of them"
+    fn left(&self, i: usize) -> core::ops::Range<i64> {
+        let rows = self.rows(i);
+        rows.start + self.noted[i].2..rows.end
+    }
+
+    pub fn call(&mut self, call: &Call) -> u32 {
+        match call {
+            Call::Add(f, s) => {
+                // "the lowest of numbers 1, 2, 3, 5 and 9 that applies, where 9 goes by the
+                // figures noted"
+                if let Some(n) = add_refusal(f, s) {
+                    return n;
+                }
+                if self.noted.len() >= MAX_LAYERS {
+                    return 9;
+                }
+                self.noted.push((*f, *s, 0));
+                0
+            }
+            Call::Paint(i) => {
+                if self.noted.len() <= *i {
+                    return 10;
+                }
+                let left = self.left(*i);
+                if left.is_empty() {
+                    return 11;
+                }
+                if (0..*i).any(|j| self.left(j).contains(&left.start)) {
+                    return 12;
+                }
+                self.noted[*i].2 += 1;
+                0
+            }
+        }
+    }
+
+    /// "every canvas row equals the row as first lent, overpainted in the order of adding by the
+    /// styled rows there of exactly the figures that have painted that row"
+    /// with the styled rows that `by` gives.
+    pub fn canvas(&self, w: i64, h: i64, first_lent: &[u8], by: &dyn Answers) -> Vec<u8> {
+        let mut bytes = first_lent.to_vec();
+        for y in 0..h {
+            for i in 0..self.noted.len() {
+                if self.painted(i).contains(&y) {
+                    let (f, s, _) = &self.noted[i];
+                    let runs = by.srow(f, s, y).expect("a painted row is there");
+                    overpaint_at(&mut bytes, w, h, y, &runs, s);
+                }
+            }
+        }
+        bytes
+    }
+
+    /// The earliest figure with rows left.
+    pub fn earliest(&self) -> Option<usize> {
+        (0..self.noted.len()).find(|i| !self.left(*i).is_empty())
+    }
+
+    pub fn figures(&self) -> impl Iterator<Item = (&Figure, &Style)> {
+        self.noted.iter().map(|(f, s, _)| (f, s))
+    }
+}
+
+/// A whole list of calls in the book alone, with the styled rows of `by`.
+pub fn book_script(w: i64, h: i64, first: &[u8], calls: &[Call], by: &dyn Answers) -> (Vec<u32>, Vec<u8>) {
+    let mut book = Book::open();
+    let answers = calls.iter().map(|c| book.call(c)).collect();
+    (answers, book.canvas(w, h, first, by))
+}
+
+/// A whole list of calls, on the sheet and in the book: the answers and the canvas, or what
+/// differs between the two.
+pub fn script(w: i64, h: i64, first: &[u8], calls: &[Call]) -> Result<(Vec<u32>, Vec<u8>), String> {
+    let mut sheet = match Sheet::open(w, h) {
+        Ok(sheet) => sheet,
+        Err(n) => return Ok((vec![n], Vec::new())),
+    };
+    let mut book = Book::open();
+    let mut bytes = first.to_vec();
+    let mut answers = Vec::new();
+    for (at, call) in calls.iter().enumerate() {
+        let answer = match call {
+            Call::Add(f, s) => sheet.add(f, s),
+            Call::Paint(i) => sheet.paint(*i, &mut bytes),
+        };
+        let noted = book.call(call);
+        if answer != noted {
+            return Err(format!("call {at}: sheet {answer}, book {noted}"));
+        }
+        answers.push(answer);
+    }
+    if book.canvas(w, h, first, &Reference) != bytes {
+        return Err("canvas of the sheet and of the book differ".to_string());
+    }
+    Ok((answers, bytes))
+}
