@@ -95,7 +95,7 @@ overlap e = S e - L e
 unfoldable pub furtherOver : Edge → Edge → Edge
 furtherOver first next = cond (ltb (overlap first) (overlap next)) next first
 
--- the first edge with the largest S − L
+-- the first edge with the largest S − L above 0; the top one if there is none
 abbrev pub mostOver : Edges → Edge
 mostOver e = furtherOver (furtherOver (furtherOver (e .top) (e .right)) (e .bottom)) (e .left)
 

@@ -4,14 +4,14 @@ use mathlib.Core.Path.{_≡_, refl}
 use mathlib.Core.List.{map}
 use Rattle.geometry.specs.Rectangle.{center, withCenter, offsetSide, offset}
 use Rattle.scanline.specs.Columns.{firstColumn, lastColumn}
-use Rattle.scanline.specs.Points.{runPoints, pointsFrom}
-use Rattle.ellipse.specs.Ellipse.{center2x, fromCenter2x, threshold, inside, insideAbout, scanline, hasRows, rowCount}
-use Rattle.corner_radii.specs.CornerRadii.{scaledCorner, scaled, reduced, overlap, furtherOver, tighter, someOver, confine, confineW3c}
+use Rattle.scanline.specs.Points.{runPoints, pointsFrom, entries}
+use Rattle.ellipse.specs.Ellipse.{center2x, fromCenter2x, threshold, inside, insideAbout, scanline, hasRows, row as Ellipse·row, rowCount}
+use Rattle.corner_radii.specs.CornerRadii.{offsetRadius, offsetCorner, offset as CornerRadii·offset, scaledCorner, scaled, reduced, overlap, furtherOver, tighter, someOver, confine, confineW3c}
 use Rattle.rounded_rectangle.specs.Quadrants.{insideTopLeft, insideTopRight, insideBottomRight, insideBottomLeft}
-use Rattle.rounded_rectangle.specs.RoundedRectangle.{runStart, runEnd, row}
-use Rattle.figure.specs.Figure.{confined, confinedW3c, pointsOfShape}
-use Rattle.drawings.specs.Cases.{cases}
+use Rattle.rounded_rectangle.specs.RoundedRectangle.{contains, runStart, runEnd, row}
+use Rattle.figure.specs.Figure.{confined, confinedW3c, offsetBox, pointsOfShape}
+use Rattle.drawings.specs.Cases.{countRows, cases}
 
 pub checked-drawings : map (λ c. c .drawn) cases ≡ map (λ c. c .said) cases
-unfolding center withCenter offsetSide offset firstColumn lastColumn runPoints pointsFrom center2x fromCenter2x threshold inside insideAbout scanline hasRows rowCount scaledCorner scaled reduced overlap furtherOver tighter someOver confine confineW3c insideTopLeft insideTopRight insideBottomRight insideBottomLeft runStart runEnd row confined confinedW3c pointsOfShape
+unfolding countRows entries Ellipse·row offsetRadius offsetCorner CornerRadii·offset contains offsetBox center withCenter offsetSide offset firstColumn lastColumn runPoints pointsFrom center2x fromCenter2x threshold inside insideAbout scanline hasRows rowCount scaledCorner scaled reduced overlap furtherOver tighter someOver confine confineW3c insideTopLeft insideTopRight insideBottomRight insideBottomLeft runStart runEnd row confined confinedW3c pointsOfShape
 checked-drawings = refl

@@ -1,21 +1,24 @@
--- Document 01, 'Checked drawings': each case is what the definitions give, and what the paper says.
+-- Document 01, 'Checked drawings': what the definitions give, and what the paper says. Cases h and i, of styled rows, are not here
+-- yet. The lines without a letter are drawings of our own, worked out by hand, that reach what the paper's do not.
 -- Assumes nothing.
-use mathlib.Core.List.{List, [], _∷_, _++_, map}
-use Prim.Native.Nat.{ℕ}
-use lib.IntN.{ℤ, pos, negsuc}
+use mathlib.Core.Bool.{cond}
+use mathlib.Core.List.{List, [], _∷_, map}
+use Prim.Native.Nat.{ℕ, zero, suc, _+_}
+use lib.IntN.{ℤ, pos, negsuc, _+ℤ_}
 use lib.ListN.{length}
-use Rattle.geometry.specs.declared.Size.{Size}
+use Rattle.geometry.specs.declared.Point.{Point}
 use Rattle.geometry.specs.declared.rectangle.Rectangle.{Rectangle}
 use Rattle.geometry.specs.Rectangle.{offset}
 use Rattle.geometry.specs.Calls.{rectangleValues}
-use Rattle.ellipse.specs.Ellipse.{threshold, rowCount}
+use Rattle.scanline.specs.Points.{entries}
+use Rattle.ellipse.specs.Ellipse.{threshold, isRun, row as Ellipse·row, rowCount}
 use Rattle.corner_radii.specs.CornerRadii.{equalRadii}
 use Rattle.rounded_rectangle.specs.declared.RoundedRectangle.{RoundedRectangle}
-use Rattle.style.specs.declared.StrokeAlignment.the-variants.{Center}
+use Rattle.style.specs.declared.StrokeAlignment.the-variants.{Center, Outside}
 use Rattle.style.specs.Style.{outsideWidth, insideWidth}
-use Rattle.figure.specs.declared.Figure.the-variants.{CrateBox, W3cBox}
-use Rattle.figure.specs.Figure.{row, points}
-use Rattle.figure.specs.Calls.{rowValues, confinedValues}
+use Rattle.figure.specs.declared.Figure.the-variants.{Ellipse, CrateBox, W3cBox}
+use Rattle.figure.specs.Figure.{contains, row, points, offset as Figure·offset}
+use Rattle.figure.specs.Calls.{flag, rowValues, figureValues, confinedValues}
 
 -- what is drawn, and what the paper says of it
 pub record Case : Type 0 where
@@ -31,21 +34,46 @@ rectangle w h = record { «top_left» = record { x = pos 0; y = pos 0 }; size = 
 abbrev box : ℕ → ℕ → ℕ → ℕ → RoundedRectangle
 box w h rw rh = record { rectangle = rectangle w h; corners = equalRadii (record { width = rw; height = rh }) }
 
+-- a circle 3 by 3 at (−2, −2), and a box with bottom corners (4, 4) and (2, 2)
+abbrev plus : Rectangle
+plus = record { «top_left» = record { x = negsuc 1; y = negsuc 1 }; size = record { width = 3; height = 3 } }
+
+abbrev bottomCorners : RoundedRectangle
+bottomCorners =
+    record {
+      rectangle = rectangle 6 6;
+      corners =
+          record {
+            «top_left» = record { width = 0; height = 0 };
+            «top_right» = record { width = 0; height = 0 };
+            «bottom_right» = record { width = 2; height = 2 };
+            «bottom_left» = record { width = 4; height = 4 };
+          };
+    }
+
+abbrev point : ℤ → ℤ → Point
+point x y = record { x = x; y = y }
+
+-- how many of the n rows from y on an ellipse has
+unfoldable pub countRows : Rectangle → ℤ → ℕ → ℕ
+countRows e y zero = 0
+countRows e y (suc n) = cond (isRun (Ellipse·row e y)) 1 0 + countRows e (y +ℤ pos 1) n
+
 abbrev numbers : List ℕ → List ℤ
 numbers ns = map pos ns
+
+abbrev rowsOf : Rectangle → List ℤ
+rowsOf e = numbers (rowCount e ∷ countRows e (e .«top_left» .y) (e .size .height) ∷ [])
 
 abbrev pub cases : List Case
 cases =
     -- a
     case (numbers (map threshold (0 ∷ 1 ∷ 2 ∷ 3 ∷ 4 ∷ 5 ∷ []))) (numbers (0 ∷ 1 ∷ 3 ∷ 8 ∷ 14 ∷ 25 ∷ []))
-    -- b
-    ∷ case (numbers (rowCount (rectangle 2 7) ∷ [])) (numbers (7 ∷ []))
-    -- c
-    ∷ case (numbers (rowCount (rectangle 2 8) ∷ [])) (numbers (0 ∷ []))
-    -- d
-    ∷ case (numbers (rowCount (rectangle 4 31) ∷ [])) (numbers (31 ∷ []))
-    -- e
-    ∷ case (numbers (rowCount (rectangle 4 32) ∷ [])) (numbers (0 ∷ []))
+    -- b to e: the number of rows, and how many the row of each y gives
+    ∷ case (rowsOf (rectangle 2 7)) (numbers (7 ∷ 7 ∷ []))
+    ∷ case (rowsOf (rectangle 2 8)) (numbers (0 ∷ 0 ∷ []))
+    ∷ case (rowsOf (rectangle 4 31)) (numbers (31 ∷ 31 ∷ []))
+    ∷ case (rowsOf (rectangle 4 32)) (numbers (0 ∷ 0 ∷ []))
     -- f: the radii, row 0, the number of points
     ∷ case (confinedValues (CrateBox (box 10 100 9 60))) (numbers (7 ∷ 50 ∷ 7 ∷ 50 ∷ 7 ∷ 50 ∷ 7 ∷ 50 ∷ []))
     ∷ case (rowValues (row (CrateBox (box 10 100 9 60)) (pos 0))) (numbers (6 ∷ 4 ∷ []))
@@ -53,8 +81,22 @@ cases =
     -- g
     ∷ case (confinedValues (W3cBox (box 10 100 9 60))) (numbers (5 ∷ 33 ∷ 5 ∷ 33 ∷ 5 ∷ 33 ∷ 5 ∷ 33 ∷ []))
     -- j
-    ∷ case (rectangleValues (offset (rectangle 0 0) (pos 2))) (negsuc 0 ∷ negsuc 0 ∷ pos 4 ∷ pos 4 ∷ [])
-    ∷ case (rectangleValues (offset (rectangle 5 5) (pos 2))) (negsuc 1 ∷ negsuc 1 ∷ pos 9 ∷ pos 9 ∷ [])
+    ∷ case (rectangleValues (offset (rectangle 0 0) (pos (outsideWidth Outside 2)))) (negsuc 0 ∷ negsuc 0 ∷ pos 4 ∷ pos 4 ∷ [])
+    ∷ case (rectangleValues (offset (rectangle 5 5) (pos (outsideWidth Outside 2)))) (negsuc 1 ∷ negsuc 1 ∷ pos 9 ∷ pos 9 ∷ [])
     -- k
     ∷ case (numbers (outsideWidth Center 1 ∷ insideWidth Center 1 ∷ [])) (numbers (0 ∷ 1 ∷ []))
+    -- the five points of a circle 3 by 3 at (−2, −2), in order
+    ∷ case (entries (points (Ellipse plus)))
+    (negsuc 0 ∷ negsuc 1 ∷ negsuc 1 ∷ negsuc 0 ∷ negsuc 0 ∷ negsuc 0 ∷ pos 0 ∷ negsuc 0 ∷ negsuc 0 ∷ pos 0 ∷ [])
+    -- its test at two of its corners' neighbours
+    ∷ case (flag (contains (Ellipse plus) (point (negsuc 1) (negsuc 1))) ∷ flag (contains (Ellipse plus) (point (negsuc 1) (negsuc 0))) ∷ [])
+    (numbers (0 ∷ 1 ∷ []))
+    -- where the top quadrants of case f overlap, the left one decides
+    ∷ case (flag (contains (CrateBox (box 10 100 9 60)) (point (pos 6) (pos 0))) ∷ flag (contains (CrateBox (box 10 100 9 60)) (point (pos 3) (pos 0))) ∷ [])
+    (numbers (1 ∷ 0 ∷ []))
+    -- the last row of a box 6 by 6 with unequal bottom corners
+    ∷ case (rowValues (row (CrateBox bottomCorners) (pos 5))) (numbers (2 ∷ 5 ∷ []))
+    -- a W3C box is confined, offset and confined again
+    ∷ case (figureValues (Figure·offset (W3cBox (box 10 100 9 60)) (pos 5)))
+    (pos 2 ∷ negsuc 4 ∷ negsuc 4 ∷ numbers (20 ∷ 110 ∷ 10 ∷ 38 ∷ 10 ∷ 38 ∷ 10 ∷ 38 ∷ 10 ∷ 38 ∷ []))
     ∷ []

@@ -27,7 +27,7 @@ use Rattle.figure.specs.declared.calls.RadiiAnswer.{RadiiAnswer}
 use Rattle.figure.specs.declared.calls.RadiiAnswer.the-variants as radii-answer
 use Rattle.figure.specs.Figure.{confined, confinedW3c, offset, contains, row}
 
--- 1 a side, 2 a radius, 3 a position of a box above its limit
+-- 1 a side, 2 a radius above its limit, 3 a position of a box beyond it
 unfoldable pub boxCheck : RoundedRectangle → Checked
 boxCheck b =
     orElse (orElse (sizeCheck (b .rectangle .size)) (radiiCheck (b .corners))) (positionCheck (b .rectangle .«top_left»))
@@ -90,8 +90,8 @@ abbrev pub rowCall : Figure → ℤ → Outcome
 rowCall f y = unless (orElse (figureCheck f) (askedCheck y)) (rowValues (row f y))
 
 -- `offset`: 1, 2, 3, 5
-abbrev pub offsetCall : Figure → ℤ → Outcome
-offsetCall f k = unless (orElse (figureCheck f) (offsetCheck k)) (figureValues (offset f k))
+abbrev pub figureOffsetCall : Figure → ℤ → Outcome
+figureOffsetCall f k = unless (orElse (figureCheck f) (offsetCheck k)) (figureValues (offset f k))
 
 -- the confined radii: 1, 2, 3
 abbrev pub confinedValues : Figure → List ℤ
@@ -103,6 +103,6 @@ abbrev pub confinedRadiiCall : Figure → Outcome
 confinedRadiiCall f = unless (figureCheck f) (confinedValues f)
 
 -- an ellipse about a centre: 1, and 3 for the rectangle that is made
-abbrev pub withCenterCall : Point → Size → Outcome
-withCenterCall c s =
+abbrev pub ellipseWithCenterCall : Point → Size → Outcome
+ellipseWithCenterCall c s =
     unless (orElse (sizeCheck s) (positionCheck (withCenter c s .«top_left»))) (figureValues (Ellipse (withCenter c s)))

@@ -1,5 +1,5 @@
--- Document 01: figures, their offset, their test, rows and points ('The records', 'Rectangle and offset', 'Corners', 'Box rows and
--- points').
+-- Document 01: figures, their offset, their test, rows and points ('The records', 'Rectangle and offset', 'Ellipse', 'Corners', 'Box
+-- rows and points').
 -- Assumes nothing.
 use mathlib.Core.Bool.{Bool}
 use mathlib.Core.List.{List}
@@ -36,7 +36,8 @@ offset (Ellipse r) k = Ellipse (Rectangle·offset r k)
 offset (CrateBox b) k = CrateBox (offsetBox b k)
 offset (W3cBox b) k = W3cBox (confinedW3c (offsetBox (confinedW3c b) k))
 
--- the shape that a figure's rows and test go by: its radii are confined by its own rule
+-- the shape that a figure's rows and test go by: its radii are confined by its own rule. An offset W3C box is confined already, and
+-- confining it once more changes nothing (`w3c-confine-twice`)
 abbrev pub shape : Figure → Shape
 shape (Ellipse r) = shape-of.Ellipse r
 shape (CrateBox b) = shape-of.RoundedBox (confined b)

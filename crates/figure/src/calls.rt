@@ -14,7 +14,7 @@ use geometry::refusal::Checked;
 use geometry::refusal::Refusal;
 use scanline::Row;
 ghost use mathlib.Core.Path.{_≡_};
-ghost use Rattle.figure.specs.Calls.{containsOutcome, rowOutcome, figureOutcome, radiiOutcome, containsCall, rowCall, offsetCall, confinedRadiiCall, withCenterCall};
+ghost use Rattle.figure.specs.Calls.{containsOutcome, rowOutcome, figureOutcome, radiiOutcome, containsCall, rowCall, figureOffsetCall, confinedRadiiCall, ellipseWithCenterCall};
 
 pub enum ContainsAnswer {
     Refused(Refusal),
@@ -60,7 +60,7 @@ impl Figure {
 
     // The figure offset by k. Refused by 1, 2, 3 and 5.
     pub fn offset(self, k: i32) -> FigureAnswer
-        ensures { λ r. ⌜ figureOutcome r ≡ offsetCall self k ⌝ }
+        ensures { λ r. ⌜ figureOutcome r ≡ figureOffsetCall self k ⌝ }
     {
         let Checked::Refused(refusal) = self.check().or_else(check_offset(k)) else {
             return FigureAnswer::Answered(self.offset_by(k));
@@ -84,7 +84,7 @@ impl Figure {
 
     // The ellipse of a size about a centre. Refused by 1, and by 3 for the rectangle that it makes.
     pub fn ellipse_with_center(center: Point, size: Size) -> FigureAnswer
-        ensures { λ r. ⌜ figureOutcome r ≡ withCenterCall center size ⌝ }
+        ensures { λ r. ⌜ figureOutcome r ≡ ellipseWithCenterCall center size ⌝ }
     {
         let made = Rectangle::with_center(center, size);
         match made {

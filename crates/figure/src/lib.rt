@@ -1,6 +1,7 @@
 // Figures: an ellipse, a crate box or a W3C box. Where the Rust has traits and generics there is a
 // match on the figure. After embedded-graphics 0.8.2 `ellipse/mod.rs`, `rounded_rectangle/mod.rs`
-// (`OffsetOutline`, `confine_radii`); the W3C box is not in the source.
+// (`OffsetOutline`, `confine_radii`); the W3C box is not in the source. The functions of this file
+// are for callers that have made the checks; those that a host calls are in calls.rt.
 use geometry::Point;
 use geometry::rectangle::Rectangle;
 use geometry::refusal::Checked;

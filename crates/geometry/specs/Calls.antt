@@ -1,4 +1,5 @@
--- What the calls on rectangles promise: the lowest of the refusals 1, 3 and 5 that applies, else the values of `Rectangle`.
+-- What the calls on rectangles promise: the lowest of the refusals 1, 3 and 5 that applies, else the values of `Rectangle`. The
+-- check of refusal 4 stands here too, for the crates above.
 -- Assumes nothing.
 use mathlib.Core.List.{List, [], _∷_}
 use Prim.Native.Nat.{_+_}

@@ -1,5 +1,5 @@
--- The limits of document 01, 'The records', each once: everything else cites them by name. The code has each as an associated
--- constant of the type it belongs to.
+-- The limits of document 01, 'The records', each once: everything else cites them by name. Each is an associated constant of
+-- the type that it belongs to, where that type is built.
 -- Assumes nothing.
 use Prim.Native.Nat.{ℕ}
 

@@ -1,5 +1,5 @@
--- Document 01, its second paragraph: a run a..b holds the columns from a up to but not including b; it is empty if b ≤ a. The ends
--- of a run that is empty are kept as they are (`core::ops::Range<i32>`).
+-- Document 01, its first paragraph: what a run a..b holds, and when it is empty. The ends of an empty run are kept as they are
+-- (`core::ops::Range<i32>`).
 -- Assumes nothing.
 use mathlib.Core.Bool.{Bool, _&&_}
 use lib.IntN.{ℤ}

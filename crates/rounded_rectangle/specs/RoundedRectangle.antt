@@ -13,8 +13,8 @@ use Rattle.scanline.specs.Columns.{firstColumn, lastColumn, columnElse, columnA
 use Rattle.rounded_rectangle.specs.declared.RoundedRectangle.{RoundedRectangle}
 use Rattle.rounded_rectangle.specs.Quadrants.{left, width, topLeft, topRight, bottomRight, bottomLeft, insideTopLeft, insideTopRight, insideBottomRight, insideBottomLeft}
 
--- `contains`: false outside rows or columns; then the first that applies of top-left (y above the quadrant's end row, x left of its
--- end column), top-right, bottom-left, bottom-right decides by its ellipse; else true
+-- `contains`: a point off the box's rows or columns is out. On the box, the quadrants are asked in the order top-left, top-right,
+-- bottom-left, bottom-right; the first whose rows and columns reach the point answers by its ellipse, and where none does it is in
 unfoldable pub contains : RoundedRectangle → ℤ → ℤ → Bool
 contains b x y =
     cond (Range·contains (rows (b .rectangle)) y && Range·contains (columns (b .rectangle)) x)
@@ -25,16 +25,16 @@ contains b x y =
     true))))
     false
 
--- where a row's run starts: on rows above the end of the top-left quadrant, else from the start of the bottom-left one, at the
--- first column of the box inside that ellipse, else at columns.start
+-- where a row's run starts. The top-left quadrant has the rows above its end, the bottom-left one those from its start on, the
+-- first before the second: there it is the box's first column inside that quadrant's ellipse. With no such column, and on rows
+-- that neither has, it is columns.start
 unfoldable pub runStart : RoundedRectangle → ℤ → ℤ
 runStart b y =
     cond (ltZ y (rows (topLeft b) .end)) (columnElse (left b) (firstColumn (λ x. insideTopLeft b x y) (left b) (width b)))
     (cond (leZ (rows (bottomLeft b) .start) y) (columnElse (left b) (firstColumn (λ x. insideBottomLeft b x y) (left b) (width b)))
     (columns (b .rectangle) .start))
 
--- where it ends, by the rows of the right-hand quadrants in the same way: the last column inside that ellipse plus 1, else
--- columns.end
+-- where it ends: the same with the quadrants on the right, one past the box's last inside column, or columns.end
 unfoldable pub runEnd : RoundedRectangle → ℤ → ℤ
 runEnd b y =
     let end = columns (b .rectangle) .end in

@@ -12,13 +12,15 @@ ghost use Rattle.geometry.specs.Bounds.{wideSide, widePoint};
 ghost use Rattle.scanline.specs.Places.{Placed};
 ghost use Rattle.scanline.specs.Points.{runPoints, entries};
 
-// A row of a figure: its run, or none where the figure lacks the row. The Rust's `Option<Scanline>`.
+// A row of a figure: its run, or none where the figure lacks the row. The Rust's `Option<Scanline>`,
+// whose y the caller has.
 pub enum Row {
     Run(Range),
     NoRow,
 }
 
-// The three runs of a styled row, after `common/styled_scanline.rs`.
+// The three runs of a styled row, after `common/styled_scanline.rs`, which holds the whole run and
+// the fill and makes the two stroke runs of them.
 pub struct StyledScanline {
     pub stroke_left: Range,
     pub fill: Range,

@@ -18,7 +18,7 @@ abbrev pub negativePart : ℤ → ℕ
 negativePart (pos n) = 0
 negativePart (negsuc n) = n + 1
 
--- z, never below 0
+-- z, never below 0: the same as `positivePart`, in the form that `omega` carries over what the machine reads back
 abbrev pub floor0 : ℤ → ℕ
 floor0 z = positivePart z - negativePart z
 

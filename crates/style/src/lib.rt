@@ -86,7 +86,8 @@ impl Style {
         refuse_above(Style::MAX_STROKE_WIDTH, self.stroke_width, Refusal::Offset)
     }
 
-    // The part of the stroke width outside the outline.
+    // The part of the stroke width outside the outline, of any width: for callers that have made the
+    // check. A host calls `widths`.
     pub fn outside_stroke_width(self) -> u32
         ensures { λ r. ⌜ r ≡ outsideStrokeWidth self ⌝ }
     {
