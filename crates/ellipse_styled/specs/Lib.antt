@@ -1,0 +1,2 @@
+pub mod EllipseStyled
+pub mod Relative

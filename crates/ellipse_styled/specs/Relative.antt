@@ -1,0 +1,30 @@
+-- The same by places counted from the stroke area's left edge, which the code computes: proofs/Rows.antt equates the two.
+-- Assumes nothing.
+use Prim.Native.Nat.{ℕ, _-_}
+use lib.IntN.{ℤ, pos, _+ℤ_, _-ℤ_}
+use Rattle.geometry.specs.declared.Range.{Range}
+use Rattle.scanline.specs.declared.StyledScanline.{StyledScanline}
+use Rattle.scanline.specs.declared.Place.{Place}
+use Rattle.scanline.specs.declared.Place.the-variants.{At, Nowhere}
+
+-- a column counted from the left edge, and one counted before the end of w columns
+abbrev pub fromLeftEdge : ℤ → ℕ → ℤ
+fromLeftEdge left k = left +ℤ pos k
+
+abbrev pub fromRightEdge : ℤ → ℕ → ℕ → ℤ
+fromRightEdge left w k = left +ℤ pos w -ℤ pos k
+
+-- the three runs of a row of w columns whose stroke starts at place s and whose fill starts at a place, if anywhere
+abbrev pub runsFrom : ℤ → ℕ → ℕ → Place → StyledScanline
+runsFrom left w s (At c) =
+    record {
+      «stroke_left» = record { start = fromLeftEdge left s; end = fromLeftEdge left c };
+      fill = record { start = fromLeftEdge left c; end = fromRightEdge left w c };
+      «stroke_right» = record { start = fromRightEdge left w c; end = fromRightEdge left w s };
+    }
+runsFrom left w s Nowhere =
+    record {
+      «stroke_left» = record { start = fromLeftEdge left s; end = fromRightEdge left w s };
+      fill = record { start = fromRightEdge left w s; end = fromRightEdge left w s };
+      «stroke_right» = record { start = fromRightEdge left w s; end = fromRightEdge left w s };
+    }

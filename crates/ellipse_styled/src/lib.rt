@@ -1,0 +1,114 @@
+// The styled rows of an ellipse, after embedded-graphics 0.8.2 `ellipse/styled.rs`
+// (`StyledScanlines`). The fill is looked for among the stroke's columns, by the ellipse of the fill
+// sides about the centre of the stroke area.
+use ellipse::EllipseContains;
+use ellipse::Hint;
+use ellipse::find_inside;
+use ellipse::points::has_rows;
+use geometry::Range;
+use geometry::Size;
+use geometry::rectangle::Rectangle;
+use scanline::Place;
+use scanline::StyledRow;
+use scanline::StyledScanline;
+ghost use mathlib.Core.Path.{_≡_};
+ghost use Prim.Native.Nat.{_*_, _-_, _<_, _≤_};
+ghost use Rattle.signed.specs.Signed.{Near};
+ghost use Rattle.geometry.specs.Bounds.{wideSide, widePoint, SizeUpTo, Bounded};
+ghost use Rattle.scanline.specs.declared.Place.the-variants.{At, Nowhere};
+ghost use Rattle.scanline.specs.Places.{findFrom};
+ghost use Rattle.ellipse.specs.Relative.{wideDistance, SmallWeights, columnInside};
+ghost use Rattle.ellipse_styled.specs.EllipseStyled.{ellipseStyledRow};
+ghost use Rattle.ellipse_styled.specs.Relative.{runsFrom};
+
+// The runs of a row of `width` columns whose stroke starts at place s and whose fill starts at c.
+fn filled_runs(left: i32, width: u32, s: u32, c: u32) -> StyledScanline
+    requires { ⌜ Near widePoint left ⌝ }
+    requires { ⌜ (width ≤ wideSide) × (s ≤ width) × (c ≤ width) ⌝ }
+    ensures { λ r. ⌜ r ≡ runsFrom left width s (At c) ⌝ }
+{
+    let fill_start = scanline::from_first(left, c);
+    let fill_end = scanline::before_end(left, width, c);
+    StyledScanline {
+        stroke_left: Range {
+            start: scanline::from_first(left, s),
+            end: fill_start,
+        },
+        fill: Range {
+            start: fill_start,
+            end: fill_end,
+        },
+        stroke_right: Range {
+            start: fill_end,
+            end: scanline::before_end(left, width, s),
+        },
+    }
+}
+
+// The runs of a row without fill: all of it is left stroke.
+fn hollow_runs(left: i32, width: u32, s: u32) -> StyledScanline
+    requires { ⌜ Near widePoint left ⌝ }
+    requires { ⌜ (width ≤ wideSide) × (s ≤ width) ⌝ }
+    ensures { λ r. ⌜ r ≡ runsFrom left width s Nowhere ⌝ }
+{
+    let end = scanline::before_end(left, width, s);
+    StyledScanline {
+        stroke_left: Range {
+            start: scanline::from_first(left, s),
+            end: end,
+        },
+        fill: Range {
+            start: end,
+            end: end,
+        },
+        stroke_right: Range {
+            start: end,
+            end: end,
+        },
+    }
+}
+
+// The runs of a row whose stroke starts at place s, on a row at this distance from the middle.
+fn runs_at(
+    left: i32,
+    width: u32,
+    distance: u64,
+    s: u32,
+    fill: EllipseContains,
+    hint: Hint,
+) -> StyledScanline
+    requires { ⌜ Near widePoint left ⌝ }
+    requires { ⌜ (width ≤ wideSide) × (2 * s < width) × (distance ≤ wideDistance) ⌝ }
+    requires { ⌜ SmallWeights fill ⌝ }
+    ensures { λ r. ⌜ r ≡ runsFrom left width s (findFrom (columnInside fill width distance) (width - 2 * s) s) ⌝ }
+{
+    let Place::At(c) = find_inside(fill, width, distance, s, width - 2 * s, hint) else {
+        return hollow_runs(left, width, s);
+    };
+    filled_runs(left, width, s, c)
+}
+
+// The styled row at y of the ellipse with this stroke area and these fill sides.
+pub fn styled_row(area: Rectangle, sides: Size, y: i32) -> StyledRow
+    requires { ⌜ Bounded area ⌝ }
+    requires { ⌜ SizeUpTo wideSide sides ⌝ }
+    requires { ⌜ Near widePoint y ⌝ }
+    ensures { λ r. ⌜ r ≡ ellipseStyledRow area sides y ⌝ }
+{
+    let top_left = area.top_left;
+    let size = area.size;
+    let Place::At(dy) = scanline::place_of(top_left.y, size.height, y) else {
+        return StyledRow::NoRow;
+    };
+    let stroke = EllipseContains::new(size);
+    if !has_rows(stroke, size) {
+        return StyledRow::NoRow;
+    }
+    let distance = ellipse::gap(size.height, dy);
+    let Place::At(s) = find_inside(stroke, size.width, distance, 0, size.width, Hint::Unknown)
+    else {
+        return StyledRow::NoRow;
+    };
+    let fill = EllipseContains::new(sides);
+    StyledRow::Runs(runs_at(top_left.x, size.width, distance, s, fill, Hint::Unknown))
+}
