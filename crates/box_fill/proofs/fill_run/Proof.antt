@@ -1,0 +1,78 @@
+-- `box_fill::fill_run` meets its contract: the place of the asked row says which case of `fillRun` holds.
+-- Assumes nothing.
+use mathlib.Core.Path.{_≡_, sym, ap, subst, _∙_}
+use lib.IntN.{ℤ}
+use mir.Facts.{toZ-ofZ}
+use Rattle.geometry.specs.declared.Size.{Size}
+use Rattle.geometry.proofs.Fields.{range-by-fields}
+use Rattle.scanline.specs.declared.Place.{Place}
+use Rattle.scanline.specs.declared.Place.the-variants.{At}
+use Rattle.scanline.specs.Places.{Placed}
+use Rattle.scanline.proofs.Placed.{placed-told}
+use Rattle.rounded_rectangle.specs.Relative.{radii}
+use Rattle.box_fill.specs.Relative.{boxOf, rowFill}
+use Rattle.box_fill.proofs.Rows.{fill-off-rows, fill-relative}
+use borrow.Author.Needs.{needs}
+use native.Mathlib.Omega.{arith}
+use Rattle.box_fill.proofs.fill_run.Statement.{statement}
+use Rattle.box_fill.proofs.fill_run.Tie as tie
+
+-- ---- after the row was looked for: the arguments, and where it stands among the rows of the test and of the rectangle
+abbrev entry : tie.After-place-of → tie.Start
+entry c = c .before .before .before .before
+
+row-place : (c : tie.After-place-of) (told : Place) → c .place-of .result ≡ told
+    → Placed (entry c .args .rectangle .«top_left» .y) (entry c .args .b .size .height) (entry c .args .y) told
+row-place c told is = placed-told _ _ _ (entry c .pre .0 .at .y .fits) (entry c .pre .1 .0 .fits) (c .place-of .ensures) is
+
+rectangle-place : (c : tie.After-place-of) (told : Place) → c .place-of .result ≡ told
+    → Placed (entry c .args .rectangle .«top_left» .y) (entry c .args .rectangle .size .height) (entry c .args .y) told
+rectangle-place c told is =
+    subst (λ (s : Size). Placed (entry c .args .rectangle .«top_left» .y) (s .height) (entry c .args .y) told) (sym (entry c .pre .0 .size))
+    (row-place c told is)
+
+place-of-requires : tie.Need-place-of-requires
+place-of-requires c κs =
+    let start = c .before .before .before in
+    let tall = start .pre .0 .ready .size .height in
+    let top = start .pre .0 .at .y in
+    (rw (toZ-ofZ (top .fits)) top, (omega arith, rw (toZ-ofZ (start .pre .1 .0 .fits)) (start .pre .1 .0)))
+
+enum-known-dy : tie.Need-enum-known-dy
+enum-known-dy c = search needs
+
+enum-told : tie.Need-enum-told
+enum-told c = search needs
+
+-- off the fill area's rows
+returns : tie.Need-returns
+returns c =
+    let after = c .before .before .before in
+    let args = entry after .args in
+    let end = toZ-ofZ (entry after .pre .1 .1 .end .fits) in
+    range-by-fields end end
+    ∙ fill-off-rows (boxOf (args .rectangle) (args .b)) (args .y) (args .run) (rectangle-place after _ (c .before .enum-told .given .1))
+
+row-fill-requires : tie.Need-row-fill-requires
+row-fill-requires c κs =
+    let after = c .before .before .before .before in
+    let left = entry after .pre .0 .at .x in
+    let row = row-place after (At (c .before .before .dy .given .0 .0)) (c .before .before .dy .given .1) in
+    (rw (toZ-ofZ (left .fits)) left, (entry after .pre .0 .ready, (row .1, entry after .pre .1 .1)))
+
+returns-2 : tie.Need-returns-2
+returns-2 c =
+    let after = c .before .before .before .before .before in
+    let args = entry after .args in
+    let corners = radii (args .b) in
+    let dy = c .before .before .before .dy .given .0 .0 in
+    c .row-fill .ensures
+    ∙ ap (λ (z : ℤ). rowFill corners (args .b .size) z dy (args .run)) (toZ-ofZ (entry after .pre .0 .at .x .fits))
+    ∙ ap (λ (s : Size). rowFill corners s (args .rectangle .«top_left» .x) dy (args .run)) (sym (entry after .pre .0 .size))
+    ∙ fill-relative (boxOf (args .rectangle) (args .b)) (args .y) (args .run) dy
+    (rectangle-place after (At dy) (c .before .before .before .dy .given .1))
+
+pub fill-run-spec : {M : Type 1} → statement M
+fill-run-spec =
+    tie.close
+    (tie.spec place-of-requires enum-known-dy enum-told returns row-fill-requires returns-2)

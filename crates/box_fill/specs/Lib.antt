@@ -1,0 +1,2 @@
+pub mod BoxFill
+pub mod Relative
