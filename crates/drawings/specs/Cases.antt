@@ -1,5 +1,5 @@
--- Document 01, 'Checked drawings': what the definitions give, and what the paper says. Cases h and i, of styled rows, are not here
--- yet. The lines without a letter are drawings of our own, worked out by hand, that reach what the paper's do not.
+-- Document 01, 'Checked drawings': what the definitions give, and what the paper says. The lines without a letter
+-- are drawings of our own, worked out by hand, that reach what the paper's do not.
 -- Assumes nothing.
 use mathlib.Core.Bool.{cond}
 use mathlib.Core.List.{List, [], _∷_, map}
@@ -14,11 +14,14 @@ use Rattle.scanline.specs.Points.{entries}
 use Rattle.ellipse.specs.Ellipse.{threshold, isRun, row as Ellipse·row, rowCount}
 use Rattle.corner_radii.specs.CornerRadii.{equalRadii}
 use Rattle.rounded_rectangle.specs.declared.RoundedRectangle.{RoundedRectangle}
-use Rattle.style.specs.declared.StrokeAlignment.the-variants.{Center, Outside}
-use Rattle.style.specs.Style.{outsideWidth, insideWidth}
+use Rattle.style.specs.declared.Paint.the-variants.{Absent}
+use Rattle.style.specs.declared.StrokeAlignment.the-variants.{Inside, Center, Outside}
+use Rattle.style.specs.Style.{styled, outsideWidth, insideWidth}
 use Rattle.figure.specs.declared.Figure.the-variants.{Ellipse, CrateBox, W3cBox}
 use Rattle.figure.specs.Figure.{contains, row, points, offset as Figure·offset}
 use Rattle.figure.specs.Calls.{flag, rowValues, figureValues, confinedValues}
+use Rattle.styled.specs.Styled.{styledRow}
+use Rattle.styled.specs.Calls.{styledRowValues}
 
 -- what is drawn, and what the paper says of it
 pub record Case : Type 0 where
@@ -80,6 +83,14 @@ cases =
     ∷ case (numbers (length (points (CrateBox (box 10 100 9 60))) ∷ [])) (numbers (0 ∷ []))
     -- g
     ∷ case (confinedValues (W3cBox (box 10 100 9 60))) (numbers (5 ∷ 33 ∷ 5 ∷ 33 ∷ 5 ∷ 33 ∷ 5 ∷ 33 ∷ []))
+    -- h: y, left stroke, fill, right stroke
+    ∷ case (styledRowValues (pos 0) (styledRow (CrateBox (box 10 40 1 20)) (styled Absent Absent 0 Center) (pos 0)))
+    (numbers (0 ∷ 0 ∷ 1 ∷ 1 ∷ 9 ∷ 9 ∷ 10 ∷ []))
+    -- i
+    ∷ case (styledRowValues (pos 5) (styledRow (CrateBox (box 4 10 0 0)) (styled Absent Absent 2 Inside) (pos 5)))
+    (numbers (5 ∷ 0 ∷ 0 ∷ 0 ∷ 4 ∷ 4 ∷ 4 ∷ []))
+    ∷ case (styledRowValues (pos 1) (styledRow (CrateBox (box 4 10 0 0)) (styled Absent Absent 2 Inside) (pos 1)))
+    (numbers (1 ∷ 0 ∷ 4 ∷ 4 ∷ 4 ∷ 4 ∷ 4 ∷ []))
     -- j
     ∷ case (rectangleValues (offset (rectangle 0 0) (pos (outsideWidth Outside 2)))) (negsuc 0 ∷ negsuc 0 ∷ pos 4 ∷ pos 4 ∷ [])
     ∷ case (rectangleValues (offset (rectangle 5 5) (pos (outsideWidth Outside 2)))) (negsuc 1 ∷ negsuc 1 ∷ pos 9 ∷ pos 9 ∷ [])

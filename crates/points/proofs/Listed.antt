@@ -1,16 +1,12 @@
 -- The points of a shape, counted and written row by row: what is counted and what is left make the whole.
 -- Assumes nothing.
 use mathlib.Core.Path.{_≡_, sym, ap, _∙_}
-use mathlib.Core.Bool.{true, false}
+use mathlib.Core.Bool.{false}
 use mathlib.Core.List.{List, []}
 use Prim.Native.Nat.{ℕ, _+_, _*_, _≤_, _<_}
 use native.Mathlib.Omega.{arith}
-use lib.IntN.{ℤ, pos, _+ℤ_, _-ℤ_}
+use lib.IntN.{ℤ, pos, _+ℤ_}
 use lib.ListN.{length}
-use lib.Signed.{leZ}
-use mir.Syntax.{w32}
-use Rattle.signed.specs.Signed.{Near}
-use Rattle.signed.proofs.Laws.{int, add-law, sub-law, fits-by-parts}
 use Rattle.geometry.specs.declared.Point.{Point}
 use Rattle.geometry.specs.declared.Range.{Range}
 use Rattle.geometry.specs.declared.rectangle.Rectangle.{Rectangle}
@@ -20,17 +16,16 @@ use Rattle.geometry.specs.declared.refusal.Checked.{Checked}
 use Rattle.geometry.specs.declared.refusal.Checked.the-variants.{Passed, Refused}
 use Rattle.geometry.specs.Refusal.{roomCheck}
 use Rattle.geometry.proofs.Checks.{passed-above}
-use Rattle.geometry.specs.Bounds.{widePoint}
 use Rattle.geometry.specs.Range.{isEmpty}
 use Rattle.scanline.specs.declared.Row.{Row}
 use Rattle.scanline.specs.declared.Row.the-variants.{Run}
-use Rattle.scanline.specs.Points.{runLength, EndsWithin, pointsFrom}
+use Rattle.scanline.specs.Points.{runLength, pointsFrom}
 use Rattle.scanline.proofs.Listing.{pointsAfter, points-after-none, length-after-run}
 use Rattle.corner_radii.specs.Bounds.{wideStrokeSide}
 use Rattle.figure.specs.declared.Figure.{Figure}
 use Rattle.figure.specs.declared.Shape.{Shape}
 use Rattle.figure.specs.declared.Shape.the-variants.{Ellipse, RoundedBox}
-use Rattle.figure.specs.Bounds.{wideAreaPosition, AreaRectangle, BoundedShape}
+use Rattle.figure.specs.Bounds.{AreaRectangle, BoundedShape}
 use Rattle.figure.specs.Figure.{rectangle, rowOfShape, pointsOfShape, points}
 use Rattle.figure.specs.Calls.{figureCheck}
 use Rattle.points.specs.Points.{pointsCheck}
@@ -39,30 +34,6 @@ use Rattle.points.specs.Points.{pointsCheck}
 pub shape-area : (s : Shape) → BoundedShape s → AreaRectangle (rectangle s)
 shape-area (Ellipse r) b = b
 shape-area (RoundedBox q) b = b .rectangle
-
--- a run that keeps to w columns from left on has at most w columns, and its ends are near
-module _ (left : ℤ) (w : ℕ) (r : Range) (near : Near wideAreaPosition left) (small : w ≤ wideStrokeSide) (ends : EndsWithin left w r) where
-  pub run-length-le : runLength r ≤ w
-  run-length-le =
-      let a = ends .start-from in
-      let b = ends .end-to in
-      omega (arith, int, add-law left (pos w), sub-law (r .end) (r .start))
-
-  end-near : (z : ℤ) → leZ left z ≡ true → leZ z (left +ℤ pos w) ≡ true → Near (2 * widePoint) z
-  end-near z from to =
-      let above = near .above in
-      let below = near .below in
-      record {
-        above = omega (arith, int, add-law left (pos w));
-        below = omega (arith, int, add-law left (pos w));
-        fits = fits-by-parts w32 z (omega (arith, int, add-law left (pos w)));
-      }
-
-  pub start-is-near : Near (2 * widePoint) (r .start)
-  start-is-near = end-near (r .start) (ends .start-from) (ends .start-to)
-
-  pub end-is-near : Near (2 * widePoint) (r .end)
-  end-is-near = end-near (r .end) (ends .end-from) (ends .end-to)
 
 -- the points by a shape's rectangle
 pub points-by-rectangle : (s : Shape) (r : Rectangle) → r ≡ rectangle s

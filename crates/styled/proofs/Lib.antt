@@ -1,0 +1,2 @@
+-- `Areas`: the rectangle of a checked figure is bounded.
+pub mod Areas

@@ -1,0 +1,98 @@
+-- `styled::styled_row` meets its contract: passed checks bound the figure, the row and the stroke, and a refusal is the checks' own.
+-- Assumes nothing.
+use mathlib.Core.Path.{_≡_, sym, ap, ap₂, _∙_}
+use mir.Facts.{toZ-ofZ}
+use Rattle.geometry.specs.Refusal.{orElse, answered}
+use Rattle.geometry.specs.Calls.{askedCheck}
+use Rattle.geometry.proofs.Checks.{passed-first, passed-next, asked-passed}
+use Rattle.figure.specs.Calls.{figureCheck}
+use Rattle.figure.proofs.Within.{figure-passed}
+use Rattle.style.specs.Style.{styleCheck}
+use Rattle.style.proofs.StrokeWidths.{style-passed}
+use Rattle.styled.specs.Styled.{styledRowOfShapes}
+use Rattle.styled.specs.Calls.{styledRowValues}
+use borrow.Author.Needs.{needs}
+use native.Mathlib.Omega.{arith}
+use Rattle.signed.proofs.Laws.{int}
+use Rattle.styled.proofs.styled_row.Statement.{statement}
+use Rattle.styled.proofs.styled_row.Tie as tie
+
+-- the check made is the definition's
+checked : (c : tie.After-or-else2)
+    → c .or-else2 .result ≡ orElse (orElse (figureCheck (c .before .before .before .before .before .args .figure)) (askedCheck (c .before .before .before .before .before .args .y))) (styleCheck (c .before .before .before .before .before .args .style))
+checked c =
+    c .or-else2 .ensures
+    ∙ ap₂ orElse
+    (c .before .before .or-else .ensures ∙ ap₂ orElse (c .before .before .before .before .check .ensures) (c .before .before .before .check-row .ensures ∙ ap askedCheck (toZ-ofZ (c .before .before .before .before .before .fits .y))))
+    (c .before .check2 .ensures)
+
+check-requires : tie.Need-check-requires
+check-requires c κs = search needs
+
+check-row-requires : tie.Need-check-row-requires
+check-row-requires c κs = search needs
+
+or-else-requires : tie.Need-or-else-requires
+or-else-requires c κs = search needs
+
+check-requires-2 : tie.Need-check-requires-2
+check-requires-2 c κs = search needs
+
+or-else-requires-2 : tie.Need-or-else-requires-2
+or-else-requires-2 c κs = search needs
+
+enum-known-refusal : tie.Need-enum-known-refusal
+enum-known-refusal c = search needs
+
+enum-told : tie.Need-enum-told
+enum-told c = search needs
+
+stroke-shape-requires : tie.Need-stroke-shape-requires
+stroke-shape-requires c κs =
+    let entry = c .before .before .before .before .before .before .before in
+    let passed = sym (checked (c .before .before)) ∙ c .enum-told .given .1 in
+    let f = entry .args .figure in
+    let stroke = style-passed (entry .args .style) (passed-next (orElse (figureCheck f) (askedCheck (entry .args .y))) (styleCheck (entry .args .style)) passed) in
+    (figure-passed f (passed-first (figureCheck f) (askedCheck (entry .args .y)) (passed-first _ (styleCheck (entry .args .style)) passed)), omega arith)
+
+fill-shape-requires : tie.Need-fill-shape-requires
+fill-shape-requires c κs =
+    let entry = c .before .before .before .before .before .before .before .before in
+    let passed = sym (checked (c .before .before .before)) ∙ c .before .enum-told .given .1 in
+    let f = entry .args .figure in
+    let stroke = style-passed (entry .args .style) (passed-next (orElse (figureCheck f) (askedCheck (entry .args .y))) (styleCheck (entry .args .style)) passed) in
+    (figure-passed f (passed-first (figureCheck f) (askedCheck (entry .args .y)) (passed-first _ (styleCheck (entry .args .style)) passed)), omega arith)
+
+row-of-shapes-requires : tie.Need-row-of-shapes-requires
+row-of-shapes-requires c κs =
+    let entry = c .before .before .before .before .before .before .before .before .before in
+    let passed = sym (checked (c .before .before .before .before)) ∙ c .before .before .enum-told .given .1 in
+    let near = asked-passed (entry .args .y) (passed-next (figureCheck (entry .args .figure)) _ (passed-first _ (styleCheck (entry .args .style)) passed)) in
+    (c .before .stroke-shape .ensures .1, (c .fill-shape .ensures .1, omega (arith, int)))
+
+returns : tie.Need-returns
+returns c =
+    let entry = c .before .before .before .before .before .before .before .before .before .before in
+    rw (sym (checked (c .before .before .before .before .before)) ∙ c .before .before .before .enum-told .given .1)
+    (λ i. answered (styledRowValues (entry .args .y) ((c .row-of-shapes .ensures ∙ (λ j. styledRowOfShapes (c .before .before .stroke-shape .ensures .0 j) (c .before .fill-shape .ensures .0 j) (toZ-ofZ (entry .fits .y) j))) i)))
+
+-- refused
+returns-2 : tie.Need-returns-2
+returns-2 c = rw (sym (checked (c .before .before .before)) ∙ c .before .refusal .given .1)
+
+pub styled-row-spec : {M : Type 1} → statement M
+styled-row-spec =
+    tie.close
+    (tie.spec
+    check-requires
+    check-row-requires
+    or-else-requires
+    check-requires-2
+    or-else-requires-2
+    enum-known-refusal
+    enum-told
+    stroke-shape-requires
+    fill-shape-requires
+    row-of-shapes-requires
+    returns
+    returns-2)

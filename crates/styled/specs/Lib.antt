@@ -1,0 +1,2 @@
+pub mod Styled
+pub mod Calls
