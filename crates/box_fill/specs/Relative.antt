@@ -1,4 +1,4 @@
--- The same counted from the fill area's edges, which the code computes: proofs/Rows.antt equates the two. A column of the
+-- `fillRun` counted from the fill area's edges, which the code computes: proofs/Rows.antt equates the two. A column of the
 -- box is counted from its left edge, and for the last contained one from its right edge, so that one search serves both.
 -- Assumes nothing.
 use mathlib.Core.Path.{_≡_}

@@ -8,7 +8,6 @@ use lib.IntN.{ℤ, pos, negsuc, _+ℤ_}
 use lib.ListN.{length}
 use Rattle.geometry.specs.declared.Point.{Point}
 use Rattle.geometry.specs.declared.rectangle.Rectangle.{Rectangle}
-use Rattle.geometry.specs.Rectangle.{offset}
 use Rattle.geometry.specs.Calls.{rectangleValues}
 use Rattle.scanline.specs.Points.{entries}
 use Rattle.ellipse.specs.Ellipse.{threshold, isRun, row as Ellipse·row, rowCount}
@@ -20,10 +19,10 @@ use Rattle.style.specs.Style.{styled, outsideWidth, insideWidth}
 use Rattle.figure.specs.declared.Figure.the-variants.{Ellipse, CrateBox, W3cBox}
 use Rattle.figure.specs.Figure.{contains, row, points, offset as Figure·offset}
 use Rattle.figure.specs.Calls.{flag, rowValues, figureValues, confinedValues}
-use Rattle.styled.specs.Styled.{styledRow}
+use Rattle.styled.specs.Styled.{styledBoundingBox, styledRow}
 use Rattle.styled.specs.Calls.{styledRowValues}
 
--- what is drawn, and what the paper says of it
+-- what is drawn, and what is said of it
 pub record Case : Type 0 where
   pub drawn : List ℤ
   pub said : List ℤ
@@ -83,28 +82,34 @@ cases =
     ∷ case (numbers (length (points (CrateBox (box 10 100 9 60))) ∷ [])) (numbers (0 ∷ []))
     -- g
     ∷ case (confinedValues (W3cBox (box 10 100 9 60))) (numbers (5 ∷ 33 ∷ 5 ∷ 33 ∷ 5 ∷ 33 ∷ 5 ∷ 33 ∷ []))
-    -- h: y, left stroke, fill, right stroke
-    ∷ case (styledRowValues (pos 0) (styledRow (CrateBox (box 10 40 1 20)) (styled Absent Absent 0 Center) (pos 0)))
-    (numbers (0 ∷ 0 ∷ 1 ∷ 1 ∷ 9 ∷ 9 ∷ 10 ∷ []))
+    -- h: left stroke, fill, right stroke
+    ∷ case (styledRowValues (styledRow (CrateBox (box 10 40 1 20)) (styled Absent Absent 0 Center) (pos 0)))
+    (numbers (0 ∷ 1 ∷ 1 ∷ 9 ∷ 9 ∷ 10 ∷ []))
     -- i
-    ∷ case (styledRowValues (pos 5) (styledRow (CrateBox (box 4 10 0 0)) (styled Absent Absent 2 Inside) (pos 5)))
-    (numbers (5 ∷ 0 ∷ 0 ∷ 0 ∷ 4 ∷ 4 ∷ 4 ∷ []))
-    ∷ case (styledRowValues (pos 1) (styledRow (CrateBox (box 4 10 0 0)) (styled Absent Absent 2 Inside) (pos 1)))
-    (numbers (1 ∷ 0 ∷ 4 ∷ 4 ∷ 4 ∷ 4 ∷ 4 ∷ []))
+    ∷ case (styledRowValues (styledRow (CrateBox (box 4 10 0 0)) (styled Absent Absent 2 Inside) (pos 5)))
+    (numbers (0 ∷ 0 ∷ 0 ∷ 4 ∷ 4 ∷ 4 ∷ []))
+    ∷ case (styledRowValues (styledRow (CrateBox (box 4 10 0 0)) (styled Absent Absent 2 Inside) (pos 1)))
+    (numbers (0 ∷ 4 ∷ 4 ∷ 4 ∷ 4 ∷ 4 ∷ []))
     -- j
-    ∷ case (rectangleValues (offset (rectangle 0 0) (pos (outsideWidth Outside 2)))) (negsuc 0 ∷ negsuc 0 ∷ pos 4 ∷ pos 4 ∷ [])
-    ∷ case (rectangleValues (offset (rectangle 5 5) (pos (outsideWidth Outside 2)))) (negsuc 1 ∷ negsuc 1 ∷ pos 9 ∷ pos 9 ∷ [])
+    ∷ case (rectangleValues (styledBoundingBox (Ellipse (rectangle 0 0)) (styled Absent Absent 2 Outside))) (negsuc 0 ∷ negsuc 0 ∷ pos 4 ∷ pos 4 ∷ [])
+    ∷ case (rectangleValues (styledBoundingBox (CrateBox (box 5 5 1 1)) (styled Absent Absent 2 Outside))) (negsuc 1 ∷ negsuc 1 ∷ pos 9 ∷ pos 9 ∷ [])
     -- k
     ∷ case (numbers (outsideWidth Center 1 ∷ insideWidth Center 1 ∷ [])) (numbers (0 ∷ 1 ∷ []))
     -- the five points of a circle 3 by 3 at (−2, −2), in order
     ∷ case (entries (points (Ellipse plus)))
     (negsuc 0 ∷ negsuc 1 ∷ negsuc 1 ∷ negsuc 0 ∷ negsuc 0 ∷ negsuc 0 ∷ pos 0 ∷ negsuc 0 ∷ negsuc 0 ∷ pos 0 ∷ [])
-    -- its test at two of its corners' neighbours
+    -- its test at a corner and beside it
     ∷ case (flag (contains (Ellipse plus) (point (negsuc 1) (negsuc 1))) ∷ flag (contains (Ellipse plus) (point (negsuc 1) (negsuc 0))) ∷ [])
     (numbers (0 ∷ 1 ∷ []))
     -- where the top quadrants of case f overlap, the left one decides
     ∷ case (flag (contains (CrateBox (box 10 100 9 60)) (point (pos 6) (pos 0))) ∷ flag (contains (CrateBox (box 10 100 9 60)) (point (pos 3) (pos 0))) ∷ [])
     (numbers (1 ∷ 0 ∷ []))
+    -- rows 0, 1 and 4 of a circle 4 by 4 with a stroke of 1 inside
+    ∷ case (styledRowValues (styledRow (Ellipse (rectangle 4 4)) (styled Absent Absent 1 Inside) (pos 0)))
+    (numbers (1 ∷ 3 ∷ 3 ∷ 3 ∷ 3 ∷ 3 ∷ []))
+    ∷ case (styledRowValues (styledRow (Ellipse (rectangle 4 4)) (styled Absent Absent 1 Inside) (pos 1)))
+    (numbers (0 ∷ 1 ∷ 1 ∷ 3 ∷ 3 ∷ 4 ∷ []))
+    ∷ case (styledRowValues (styledRow (Ellipse (rectangle 4 4)) (styled Absent Absent 1 Inside) (pos 4))) []
     -- the last row of a box 6 by 6 with unequal bottom corners
     ∷ case (rowValues (row (CrateBox bottomCorners) (pos 5))) (numbers (2 ∷ 5 ∷ []))
     -- a W3C box is confined, offset and confined again

@@ -1,6 +1,6 @@
--- The same by places counted from the stroke area's left edge, which the code computes: proofs/Rows.antt equates the two.
+-- `ellipseStyledRow` by places counted from the stroke area's left edge, which the code computes: proofs/Rows.antt equates the two.
 -- Assumes nothing.
-use Prim.Native.Nat.{ℕ, _-_}
+use Prim.Native.Nat.{ℕ}
 use lib.IntN.{ℤ, pos, _+ℤ_, _-ℤ_}
 use Rattle.geometry.specs.declared.Range.{Range}
 use Rattle.scanline.specs.declared.StyledScanline.{StyledScanline}

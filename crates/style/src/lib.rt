@@ -86,8 +86,8 @@ impl Style {
         refuse_above(Style::MAX_STROKE_WIDTH, self.stroke_width, Refusal::Offset)
     }
 
-    // The part of the stroke width outside the outline, of any width: for callers that have made the
-    // check. A host calls `widths`.
+    // The part of the stroke width outside the outline, whatever the width. A host calls `widths`,
+    // which refuses.
     pub fn outside_stroke_width(self) -> u32
         ensures { λ r. ⌜ r ≡ outsideStrokeWidth self ⌝ }
     {

@@ -1,8 +1,7 @@
 -- What the calls on styled figures promise: the lowest of the refusals 1 to 5 that applies, else the values of `Styled`.
 -- Assumes nothing.
-use mathlib.Core.List.{List, [], _∷_, _++_}
+use mathlib.Core.List.{List, [], _++_}
 use lib.IntN.{ℤ}
-use Rattle.geometry.specs.declared.refusal.Checked.{Checked}
 use Rattle.geometry.specs.Refusal.{number, orElse, Outcome, refused, answered, unless}
 use Rattle.geometry.specs.Calls.{rangeValues, rectangleValues, askedCheck}
 use Rattle.scanline.specs.declared.StyledRow.{StyledRow}
@@ -15,20 +14,20 @@ use Rattle.styled.specs.declared.StyledRowAnswer.{StyledRowAnswer}
 use Rattle.styled.specs.declared.StyledRowAnswer.the-variants as answer-of
 use Rattle.styled.specs.Styled.{styledBoundingBox, styledRow}
 
--- a styled row: y, and the ends of the left stroke, the fill and the right stroke as computed; no values for 'no row'
-abbrev pub styledRowValues : ℤ → StyledRow → List ℤ
-styledRowValues y (row-of.Runs runs) = y ∷ rangeValues (runs .«stroke_left») ++ rangeValues (runs .fill) ++ rangeValues (runs .«stroke_right»)
-styledRowValues y row-of.NoRow = []
+-- a styled row: the ends of the left stroke, the fill and the right stroke as computed; no values for 'no row'
+abbrev pub styledRowValues : StyledRow → List ℤ
+styledRowValues (row-of.Runs runs) = rangeValues (runs .«stroke_left») ++ rangeValues (runs .fill) ++ rangeValues (runs .«stroke_right»)
+styledRowValues row-of.NoRow = []
 
--- what an answer to a question for row y says
-abbrev pub styledRowOutcome : ℤ → StyledRowAnswer → Outcome
-styledRowOutcome y (answer-of.Refused refusal) = refused (number refusal)
-styledRowOutcome y (answer-of.Answered r) = answered (styledRowValues y r)
+-- what an answer says
+abbrev pub styledRowOutcome : StyledRowAnswer → Outcome
+styledRowOutcome (answer-of.Refused refusal) = refused (number refusal)
+styledRowOutcome (answer-of.Answered r) = answered (styledRowValues r)
 
 -- `styled_row`: 1, 2, 3, 4, 5
 abbrev pub styledRowCall : Figure → Style → ℤ → Outcome
 styledRowCall f style y =
-    unless (orElse (orElse (figureCheck f) (askedCheck y)) (styleCheck style)) (styledRowValues y (styledRow f style y))
+    unless (orElse (orElse (figureCheck f) (askedCheck y)) (styleCheck style)) (styledRowValues (styledRow f style y))
 
 -- `styled_bounding_box`: 1, 2, 3, 5
 abbrev pub styledBoundingBoxCall : Figure → Style → Outcome

@@ -2,7 +2,6 @@
 -- ('Styled rows').
 -- Assumes nothing.
 use lib.IntN.{ℤ, pos, negℤ}
-use Rattle.geometry.specs.declared.Range.{Range}
 use Rattle.geometry.specs.declared.rectangle.Rectangle.{Rectangle}
 use Rattle.geometry.specs.Rectangle.{offset as Rectangle·offset}
 use Rattle.scanline.specs.declared.StyledRow.{StyledRow}

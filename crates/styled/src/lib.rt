@@ -136,7 +136,7 @@ fn own_rectangle(figure: Figure) -> Rectangle
 
 // The styled row at y. Refused by 1, 2, 3, 4 and 5.
 pub fn styled_row(figure: Figure, style: Style, y: i32) -> StyledRowAnswer
-    ensures { λ r. ⌜ styledRowOutcome y r ≡ styledRowCall figure style y ⌝ }
+    ensures { λ r. ⌜ styledRowOutcome r ≡ styledRowCall figure style y ⌝ }
 {
     let Checked::Refused(refusal) = figure.check().or_else(check_row(y)).or_else(style.check())
     else {

@@ -74,7 +74,7 @@ returns : tie.Need-returns
 returns c =
     let entry = c .before .before .before .before .before .before .before .before .before .before in
     rw (sym (checked (c .before .before .before .before .before)) ∙ c .before .before .before .enum-told .given .1)
-    (λ i. answered (styledRowValues (entry .args .y) ((c .row-of-shapes .ensures ∙ (λ j. styledRowOfShapes (c .before .before .stroke-shape .ensures .0 j) (c .before .fill-shape .ensures .0 j) (toZ-ofZ (entry .fits .y) j))) i)))
+    (λ i. answered (styledRowValues ((c .row-of-shapes .ensures ∙ (λ j. styledRowOfShapes (c .before .before .stroke-shape .ensures .0 j) (c .before .fill-shape .ensures .0 j) (toZ-ofZ (entry .fits .y) j))) i)))
 
 -- refused
 returns-2 : tie.Need-returns-2
