@@ -564,24 +564,29 @@ fn painted(s: &Style) -> [Style; 4] {
 
 const PLACES: [(i64, i64); 4] = [(0, 0), (-5, -3), (6, 2), (-1, 4)];
 
+/// All that is asked of a small figure: rows, tests, points, every offset −8..8, every style, paints.
+fn small_figure(r: &mut Report, f: &Figure) {
+    r.rows(f);
+    r.contains_all(f, 2);
+    r.points(f);
+    for k in -8..=8 {
+        r.offset(f, k);
+    }
+    for s in styles() {
+        r.styled(f, &s);
+        for s in painted(&s) {
+            r.paint(f, &s, 14, 13);
+        }
+    }
+}
+
 /// Every ellipse with sides 0..12, at four places, every offset −8..8, every style.
 fn small_ellipses(r: &mut Report) {
     for w in 0..=12 {
         for h in 0..=12 {
             for (x, y) in PLACES {
                 let f = ellipse(x, y, w, h);
-                r.rows(&f);
-                r.contains_all(&f, 2);
-                r.points(&f);
-                for k in -8..=8 {
-                    r.offset(&f, k);
-                }
-                for s in styles() {
-                    r.styled(&f, &s);
-                    for s in painted(&s) {
-                        r.paint(&f, &s, 14, 13);
-                    }
-                }
+                small_figure(r, &f);
             }
         }
     }
@@ -641,19 +646,8 @@ fn small_equal_boxes(r: &mut Report) {
                 for b in 0..=6 {
                     for (x, y) in &PLACES[1..3] {
                         let f = crate_box(*x, *y, w, h, [(a, b); 4]);
-                        r.rows(&f);
-                        r.contains_all(&f, 2);
-                        r.points(&f);
                         r.confine(&f);
-                        for k in -8..=8 {
-                            r.offset(&f, k);
-                        }
-                        for s in styles() {
-                            r.styled(&f, &s);
-                            for s in painted(&s) {
-                                r.paint(&f, &s, 14, 13);
-                            }
-                        }
+                        small_figure(r, &f);
                     }
                 }
             }

@@ -1,7 +1,7 @@
 -- The paper's test has signed X and Y; it depends on their distances from 0 alone. At a place counted from a corner of the box the
 -- distance is the `gap` of the place, and the nearer a point the sooner it is inside.
 -- Assumes nothing.
-use mathlib.Core.Path.{_≡_, refl, sym, ap₂, _∙_}
+use mathlib.Core.Path.{_≡_, refl, _∙_}
 use mathlib.Core.Bool.{Bool, true, false, cond}
 use Prim.Native.Nat.{ℕ, zero, suc, _+_, _-_, _*_, _/_, _≤_, _<_}
 use native.Mathlib.Nat.{le-trans, lt-of-le-of-lt, mul-le-mul, mul-le-mul-left, one-mul}

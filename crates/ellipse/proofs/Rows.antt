@@ -1,16 +1,15 @@
 -- An ellipse's rows. From the paper's signed columns and rows to places counted from the box's corner; and since the first row is
 -- the farthest from the middle, all rows have an inside column if it has one.
 -- Assumes nothing.
-use mathlib.Core.Path.{_≡_, refl, sym, ap, ap₂, _∙_, fun-ext}
+use mathlib.Core.Path.{_≡_, refl, sym, ap, ap₂, _∙_}
 use mathlib.Core.Bool.{Bool, true, false, cond, _&&_, false≢true}
-use Prim.Native.Nat.{ℕ, zero, suc, _+_, _-_, _*_, _/_, _≤_, _<_}
+use Prim.Native.Nat.{ℕ, zero, suc, _+_, _-_, _/_, _≤_, _<_}
 use native.Mathlib.Nat.{le-refl}
 use native.Mathlib.Decide.{decLe}
 use native.Mathlib.Omega.{arith}
 use lib.IntN.{ℤ, pos, _+ℤ_, _-ℤ_}
 use Rattle.signed.proofs.Laws.{int, add-law, sub-law}
 use Rattle.geometry.specs.declared.Size.{Size}
-use Rattle.geometry.specs.declared.Range.{Range}
 use Rattle.geometry.specs.declared.rectangle.Rectangle.{Rectangle}
 use Rattle.geometry.specs.Range.{contains as Range·contains}
 use Rattle.geometry.specs.Rectangle.{rows, columns}
@@ -19,16 +18,15 @@ use Rattle.scanline.specs.declared.Place.{Place}
 use Rattle.scanline.specs.declared.Place.the-variants.{At, Nowhere}
 use Rattle.scanline.specs.declared.Row.{Row}
 use Rattle.scanline.specs.declared.Row.the-variants.{Run, NoRow}
-use Rattle.scanline.specs.Columns.{firstColumn}
 use Rattle.scanline.specs.Places.{findFrom, isAt, Placed}
 use Rattle.scanline.specs.Points.{EndsWithin}
-use Rattle.scanline.proofs.Find.{FoundAt, find-at, find-none, found-at, found-none}
+use Rattle.scanline.proofs.Find.{FoundAt, find-none, found-at, found-none}
 use Rattle.scanline.proofs.Columns.{fromLeft, first-from-edge, column-zero}
 use Rattle.scanline.proofs.Placed.{place-among}
 use Rattle.ellipse.specs.declared.EllipseContains.{EllipseContains}
 use Rattle.ellipse.specs.Ellipse.{insideAbout, runFrom, scanline, isRun, hasRows, row, rowCount}
 use Rattle.ellipse.specs.Relative.{gap, containsOf, belowThreshold, columnInside, firstInside, firstRowInside, mirroredRun}
-use Rattle.ellipse.proofs.Distances.{inside-by-distance, distance-from-first, gap-middle, gap-edge, nearer-inside, farther-outside, no-width-outside, no-height-outside}
+use Rattle.ellipse.proofs.Distances.{inside-by-distance, distance-from-first, gap-middle, gap-edge, nearer-inside, no-height-outside}
 
 -- ---- places
 -- what is inside at a column is inside at the middle, on the same row and on a nearer one

@@ -4,7 +4,7 @@
 use mathlib.Core.Path.{_≡_, refl, sym, subst, _∙_}
 use mathlib.Core.Logic.{⊎-elim}
 use mathlib.Core.Bool.{Bool, true, false}
-use Prim.Native.Nat.{ℕ, zero, suc, _+_, _-_, _*_, _/_, _≤_, _<_, min}
+use Prim.Native.Nat.{ℕ, _+_, _-_, _/_, _≤_, _<_, min}
 use native.Mathlib.Nat.{le-refl, eq-or-lt-of-le}
 use native.Mathlib.Decide.{decLe}
 use native.Mathlib.Omega.{arith}
@@ -13,7 +13,7 @@ use Rattle.scanline.specs.declared.Place.the-variants.{At, Nowhere}
 use Rattle.scanline.specs.Places.{findFrom}
 use Rattle.scanline.proofs.Find.{FoundAt, find-at, find-none, found-at, found-none, Rising}
 use Rattle.ellipse.specs.declared.EllipseContains.{EllipseContains}
-use Rattle.ellipse.specs.Relative.{gap, belowThreshold, columnInside}
+use Rattle.ellipse.specs.Relative.{gap, columnInside}
 use Rattle.ellipse.proofs.Distances.{gap-falls, gap-middle, farther-outside}
 
 module _ (c : EllipseContains) (width y : ℕ) where

@@ -1,8 +1,6 @@
 -- Two styled scanlines are equal by their ends.
 -- Assumes nothing.
 use mathlib.Core.Path.{_≡_}
-use lib.IntN.{ℤ}
-use Rattle.geometry.specs.declared.Range.{Range}
 use Rattle.scanline.specs.declared.StyledScanline.{StyledScanline}
 
 pub scanline-by-ends : {a b : StyledScanline} → a .«stroke_left» .start ≡ b .«stroke_left» .start → a .«stroke_left» .end ≡ b .«stroke_left» .end

@@ -3,7 +3,7 @@
 -- Assumes nothing.
 use mathlib.Core.Path.{_≡_, refl, sym, ap}
 use mathlib.Core.List.{List, [], _∷_}
-use Prim.Native.Nat.{ℕ, _+_, _*_, _≤_}
+use Prim.Native.Nat.{ℕ, _+_, _≤_}
 use native.Mathlib.Omega.{arith}
 use lib.IntN.{ℤ, pos}
 use Rattle.signed.specs.Signed.{Near}
@@ -12,15 +12,14 @@ use Rattle.geometry.specs.declared.Size.{Size}
 use Rattle.geometry.specs.declared.rectangle.Rectangle.{Rectangle}
 use Rattle.geometry.specs.declared.refusal.Checked.{Checked}
 use Rattle.geometry.specs.declared.refusal.Checked.the-variants.{Passed, Refused}
-use Rattle.geometry.specs.Limits.{maxSide, maxRadius, maxPosition}
-use Rattle.geometry.specs.Bounds.{widePoint, wideSide, PointNear, SizeUpTo, Bounded}
+use Rattle.geometry.specs.Limits.{maxRadius}
+use Rattle.geometry.specs.Bounds.{PointNear, SizeUpTo, Bounded}
 use Rattle.geometry.specs.Refusal.{orElse, refused, answered, unless}
 use Rattle.geometry.specs.Calls.{rectangleValues, sizeCheck, positionCheck, rectangleCheck}
 use Rattle.geometry.specs.Rectangle.{withCenter, offset as Rectangle·offset}
 use Rattle.geometry.proofs.Offset.{offset-size-up-to, offset-position-near}
 use Rattle.geometry.proofs.Checks.{passed-first, passed-next, size-passed, position-passed}
-use Rattle.corner_radii.specs.declared.CornerRadii.{CornerRadii}
-use Rattle.corner_radii.specs.Bounds.{wideRadius, wideStrokeSide, RadiiUpTo}
+use Rattle.corner_radii.specs.Bounds.{wideRadius}
 use Rattle.corner_radii.specs.CornerRadii.{radiiCheck}
 use Rattle.corner_radii.proofs.Bounds.{confine-up-to, w3c-up-to, offset-up-to, radii-up-to-wider}
 use Rattle.corner_radii.proofs.Checks.{radii-passed}

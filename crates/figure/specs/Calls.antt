@@ -6,7 +6,6 @@ use lib.IntN.{ℤ, pos}
 use Rattle.geometry.specs.declared.Point.{Point}
 use Rattle.geometry.specs.declared.Size.{Size}
 use Rattle.geometry.specs.declared.refusal.Checked.{Checked}
-use Rattle.geometry.specs.declared.rectangle.Rectangle.{Rectangle}
 use Rattle.geometry.specs.Refusal.{number, orElse, Outcome, refused, answered, unless}
 use Rattle.geometry.specs.Calls.{rangeValues, rectangleValues, sizeCheck, positionCheck, rectangleCheck, askedCheck, pointCheck, offsetCheck}
 use Rattle.geometry.specs.Rectangle.{withCenter}

@@ -1,11 +1,10 @@
 -- What a passed check says: each of the checks that it is made of has passed, so every number is within its limit.
 -- Assumes nothing.
-use mathlib.Core.Path.{_≡_, refl, sym, _∙_}
+use mathlib.Core.Path.{_≡_, refl}
 use mathlib.Core.Bool.{Bool, true, false}
-use Prim.Native.Nat.{ℕ, _+_, _*_, _≤_, _<_}
+use Prim.Native.Nat.{ℕ, _+_, _*_, _≤_}
 use native.Mathlib.Omega.{arith}
 use borrow.Author.Tests.{ltb-true, ltb-false, lt-ltb}
-use lib.Dec.{ltb}
 use lib.IntN.{ℤ, pos, natAbs, _-ℤ_}
 use Rattle.signed.specs.Signed.{Near}
 use Rattle.signed.proofs.Laws.{near-within, sub-law, magnitude-law}
@@ -17,7 +16,7 @@ use Rattle.geometry.specs.declared.refusal.Refusal.the-variants.{Side, P
 use Rattle.geometry.specs.declared.refusal.Checked.{Checked}
 use Rattle.geometry.specs.declared.refusal.Checked.the-variants.{Passed, Refused}
 use Rattle.geometry.specs.Limits.{maxSide, maxPosition, maxAsked, maxOffset}
-use Rattle.geometry.specs.Bounds.{widePoint, wideSide, PointNear, SizeUpTo, Bounded}
+use Rattle.geometry.specs.Bounds.{widePoint, PointNear, SizeUpTo, Bounded}
 use Rattle.geometry.specs.Rectangle.{centerTerm, withCenter}
 use Rattle.geometry.specs.Refusal.{refuseIf, orElse, above, beyond}
 use Rattle.geometry.specs.Calls.{sizeCheck, positionCheck, rectangleCheck, centerCheck, askedCheck, pointCheck, offsetCheck}

@@ -2,12 +2,11 @@
 -- Assumes nothing.
 use mathlib.Core.Path.{_≡_, sym, ap, _∙_}
 use mathlib.Core.Bool.{false}
-use mathlib.Core.List.{List, []}
+use mathlib.Core.List.{[]}
 use Prim.Native.Nat.{ℕ, _+_, _*_, _≤_, _<_}
 use native.Mathlib.Omega.{arith}
 use lib.IntN.{ℤ, pos, _+ℤ_}
 use lib.ListN.{length}
-use Rattle.geometry.specs.declared.Point.{Point}
 use Rattle.geometry.specs.declared.Range.{Range}
 use Rattle.geometry.specs.declared.rectangle.Rectangle.{Rectangle}
 use Rattle.geometry.specs.declared.refusal.Refusal.{Refusal}
@@ -17,7 +16,6 @@ use Rattle.geometry.specs.declared.refusal.Checked.the-variants.{Passed, Refuse
 use Rattle.geometry.specs.Refusal.{roomCheck}
 use Rattle.geometry.proofs.Checks.{passed-above}
 use Rattle.geometry.specs.Range.{isEmpty}
-use Rattle.scanline.specs.declared.Row.{Row}
 use Rattle.scanline.specs.declared.Row.the-variants.{Run}
 use Rattle.scanline.specs.Points.{runLength, pointsFrom}
 use Rattle.scanline.proofs.Listing.{pointsAfter, points-after-none, length-after-run}

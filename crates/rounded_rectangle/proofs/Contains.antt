@@ -3,12 +3,11 @@
 -- Assumes nothing.
 use mathlib.Core.Path.{_≡_, refl, sym, ap, ap₂, _∙_}
 use mathlib.Core.Bool.{Bool, true, false, cond, _&&_, false≢true, and-false}
-use Prim.Native.Nat.{ℕ, _+_, _-_, _*_, _≤_, _<_}
+use Prim.Native.Nat.{ℕ, _+_, _-_, _<_}
 use native.Mathlib.Omega.{arith}
-use borrow.Author.Tests.{ltb-true, lt-ltb, le-ltb}
+use borrow.Author.Tests.{ltb-true}
 use lib.Dec.{ltb}
-use lib.IntN.{ℤ, pos, _+ℤ_, _-ℤ_}
-use lib.Signed.{ltZ, leZ}
+use lib.IntN.{ℤ, pos, _+ℤ_}
 use Rattle.geometry.specs.declared.Size.{Size}
 use Rattle.geometry.specs.Range.{contains as Range·contains}
 use Rattle.geometry.specs.Rectangle.{rows, columns}
@@ -17,7 +16,7 @@ use Rattle.scanline.specs.Places.{Placed}
 use Rattle.scanline.proofs.Placed.{place-among}
 use Rattle.corner_radii.specs.declared.CornerRadii.{CornerRadii}
 use Rattle.rounded_rectangle.specs.declared.RoundedRectangle.{RoundedRectangle}
-use Rattle.rounded_rectangle.specs.Quadrants.{left, top, width, height, insideTopLeft, insideTopRight, insideBottomRight, insideBottomLeft}
+use Rattle.rounded_rectangle.specs.Quadrants.{left, top, width, height, insideTopRight, insideBottomRight, insideBottomLeft}
 use Rattle.rounded_rectangle.specs.RoundedRectangle.{contains}
 use Rattle.rounded_rectangle.specs.Relative.{insideCorner, inQuadrant, containsAt}
 use Rattle.rounded_rectangle.proofs.Corners.{top-left-relative, top-right-relative, bottom-left-relative, bottom-right-relative, before-end-relative, from-start-relative}

@@ -1,17 +1,15 @@
 -- The run of a row, from the paper's signed columns to insets counted from the box's sides: the start is the left inset after the
 -- first column, the end the right inset before the last.
 -- Assumes nothing.
-use mathlib.Core.Path.{_≡_, refl, sym, ap, ap₂, _∙_}
+use mathlib.Core.Path.{_≡_, refl, sym, ap, _∙_}
 use mathlib.Core.Bool.{Bool, true, false, cond}
 use Prim.Native.Nat.{ℕ, _+_, _-_, _*_, _≤_, _<_}
 use native.Mathlib.Omega.{arith}
 use borrow.Author.Tests.{ltb-true, lt-ltb, le-ltb}
 use lib.Dec.{ltb}
 use lib.IntN.{ℤ, pos, _+ℤ_, _-ℤ_}
-use lib.Signed.{ltZ, leZ}
 use Rattle.signed.proofs.Laws.{int, add-law, sub-law}
 use Rattle.geometry.specs.declared.Size.{Size}
-use Rattle.geometry.specs.declared.Range.{Range}
 use Rattle.geometry.specs.Range.{contains as Range·contains}
 use Rattle.geometry.specs.Rectangle.{rows}
 use Rattle.geometry.proofs.Fields.{range-by-fields}

@@ -1,7 +1,7 @@
 -- What a place says of a column or a row: among the n from the first on, or none of them.
 -- Assumes nothing.
-use mathlib.Core.Path.{_≡_, ap, ap₂, subst, _∙_}
-use mathlib.Core.Bool.{Bool, true, false, _&&_, and-false}
+use mathlib.Core.Path.{_≡_, subst}
+use mathlib.Core.Bool.{true, false, _&&_, and-false}
 use Prim.Native.Nat.{ℕ, _<_}
 use native.Mathlib.Omega.{arith}
 use lib.IntN.{ℤ, pos, _+ℤ_}
@@ -11,7 +11,7 @@ use mir.Val.{SFits, toZ, ofZ}
 use mir.Facts.{toZ-ofZ}
 use Rattle.signed.proofs.Laws.{int, add-law}
 use Rattle.scanline.specs.declared.Place.{Place}
-use Rattle.scanline.specs.declared.Place.the-variants.{At, Nowhere}
+use Rattle.scanline.specs.declared.Place.the-variants.{Nowhere}
 use Rattle.scanline.specs.Places.{Placed}
 
 module _ (first : ℤ) (n : ℕ) (v : ℤ) where

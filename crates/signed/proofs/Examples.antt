@@ -9,7 +9,7 @@ use lib.IntN.{ℤ, pos, negsuc, natAbs, _+ℤ_, _-ℤ_, _*ℤ_}
 use lib.Signed.{ltZ, leZ, nonNeg, _≤ℤ_, _<ℤ_}
 use mir.Syntax.{Width, w8, w32, w64}
 use mir.Val.{SFits, Fits, toZ, ofZ}
-use Rattle.signed.specs.Signed.{positivePart, negativePart, floor0, larger, smaller, Near}
+use Rattle.signed.specs.Signed.{positivePart, floor0, larger, Near}
 use Rattle.signed.proofs.Laws.{int, add-law, times-law, one-part-zero, range}
 
 -- a test turned round; two orders chained

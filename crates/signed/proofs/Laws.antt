@@ -22,7 +22,7 @@ use mir.Syntax.{Width, w32, w64}
 use mir.Val.{SFits, Fits, toZ, ofZ, hbits, bits, sel}
 use mir.ValLaws.{pow-bits, sfits-le}
 use mir.Facts.{toZ-ofZ}
-use Rattle.signed.specs.Signed.{positivePart as P, negativePart as N, floor0, larger, smaller, Near}
+use Rattle.signed.specs.Signed.{positivePart as P, negativePart as N, larger, smaller, Near}
 
 -- one of the two parts is 0: the one law that the ruleset does not have, for a claim of a part by itself
 pub one-part-zero : (z : ℤ) → min (P z) (N z) ≡ 0

@@ -1,10 +1,8 @@
 -- `ellipse::contains` meets its contract: the test depends on the distances alone (`inside-by-distance`).
 -- Assumes nothing.
-use mathlib.Core.Path.{_≡_, sym, ap₂, _∙_}
-use Prim.Native.Nat.{ℕ}
+use mathlib.Core.Path.{sym, _∙_}
 use lib.IntN.{natAbs}
 use mir.Facts.{toZ-ofZ}
-use Rattle.ellipse.specs.declared.EllipseContains.{EllipseContains}
 use Rattle.ellipse.specs.Ellipse.{center2x, fromCenter2x, insideAbout}
 use Rattle.ellipse.specs.Relative.{belowThreshold}
 use Rattle.ellipse.proofs.Distances.{inside-by-distance}

@@ -1,7 +1,7 @@
 -- `ellipse::first_inside` meets its contract. The invariant: between lo and hi lies the first inside column; before lo all are
 -- outside, hi is inside.
 -- Assumes nothing.
-use mathlib.Core.Path.{_≡_, sym, ap, _∙_}
+use mathlib.Core.Path.{sym, _∙_}
 use Prim.Native.Nat.{_-_}
 use borrow.Author.Tests.{not-true, not-false}
 use Rattle.scanline.proofs.Find.{find-none, Bracket, bracket-up, bracket-down, bracket-end}

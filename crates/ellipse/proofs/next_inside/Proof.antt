@@ -1,7 +1,7 @@
 -- `ellipse::next_inside` meets its contract: from an inside column to the left, from an outside one to the right, and both find
 -- what the whole search would (`walk-left-finds`, `walk-right-finds`).
 -- Assumes nothing.
-use mathlib.Core.Path.{_≡_, sym, _∙_}
+use mathlib.Core.Path.{sym, _∙_}
 use Rattle.scanline.proofs.Find.{find-none}
 use Rattle.ellipse.proofs.Search.{walk-left-finds, walk-right-finds}
 use borrow.Author.Needs.{needs}

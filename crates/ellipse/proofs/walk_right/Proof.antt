@@ -3,7 +3,6 @@
 use mathlib.Core.Path.{_≡_, sym, _∙_}
 use mathlib.Core.Bool.{false}
 use Prim.Native.Nat.{ℕ, _-_, _≤_, _<_}
-use native.Mathlib.Decide.{decLe}
 use Rattle.scanline.proofs.Find.{find-at, find-none}
 use Rattle.ellipse.specs.Relative.{columnInside}
 use Rattle.ellipse.proofs.Search.{passed-more}

@@ -4,10 +4,9 @@
 use mathlib.Core.Path.{_≡_, sym, ap, _∙_}
 use mathlib.Core.Bool.{true}
 use Prim.Native.Nat.{_-_, _*_}
-use lib.IntN.{ℤ}
 use mir.Facts.{toZ-ofZ}
 use borrow.Author.Tests.{not-true, not-false}
-use Rattle.scanline.specs.declared.Place.the-variants.{At, Nowhere}
+use Rattle.scanline.specs.declared.Place.the-variants.{At}
 use Rattle.scanline.specs.declared.StyledRow.the-variants.{Runs}
 use Rattle.scanline.specs.Places.{findFrom, Placed}
 use Rattle.scanline.proofs.Placed.{placed-told}

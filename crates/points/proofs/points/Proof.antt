@@ -1,10 +1,10 @@
 -- `points::points` meets its contract: a passed check bounds the figure, the count decides whether the list has room, and
 -- only then is anything written.
 -- Assumes nothing.
-use mathlib.Core.Path.{_≡_, refl, sym, ap, _∙_}
-use mathlib.Core.List.{List, [], _∷_}
+use mathlib.Core.Path.{_≡_, sym, ap, _∙_}
+use mathlib.Core.List.{[], _∷_}
 use Prim.Native.Nat.{ℕ, _*_}
-use lib.IntN.{ℤ, pos}
+use lib.IntN.{pos}
 use lib.ListN.{length}
 use lib.Seq.{sets}
 use Rattle.geometry.specs.declared.refusal.Checked.the-variants.{Passed}

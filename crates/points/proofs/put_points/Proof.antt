@@ -3,7 +3,7 @@
 -- Assumes nothing.
 use mathlib.Core.Path.{_≡_, sym, ap, subst, _∙_}
 use mathlib.Core.List.{List}
-use Prim.Native.Nat.{ℕ, _+_, _-_, _*_, _≤_}
+use Prim.Native.Nat.{_+_, _-_, _*_, _≤_}
 use lib.IntN.{ℤ, pos, _+ℤ_}
 use lib.ListN.{length}
 use lib.Seq.{sets}
@@ -14,7 +14,7 @@ use Rattle.geometry.specs.declared.Point.{Point}
 use Rattle.geometry.specs.declared.Range.{Range}
 use Rattle.geometry.specs.declared.rectangle.Rectangle.{Rectangle}
 use Rattle.scanline.specs.declared.Row.the-variants.{Run}
-use Rattle.scanline.specs.Points.{EndsWithin, RowWithin, pointsFrom, runPoints, runLength, entries}
+use Rattle.scanline.specs.Points.{EndsWithin, RowWithin, pointsFrom, runPoints, entries}
 use Rattle.scanline.proofs.Listing.{RowsLeft, rows-left-start, rows-left-done, rows-left-room, rows-left-next, points-after-all, points-after-empty, points-after-no-row}
 use Rattle.figure.specs.Bounds.{AreaRectangle}
 use Rattle.figure.specs.Figure.{rowOfShape, pointsOfShape}

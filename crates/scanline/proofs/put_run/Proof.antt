@@ -4,7 +4,7 @@
 use mathlib.Core.Path.{_≡_, refl, sym, ap, _∙_}
 use mathlib.Core.List.{List}
 use Prim.Native.Nat.{_+_, _-_, _*_, _≤_}
-use lib.IntN.{ℤ, pos, _+ℤ_}
+use lib.IntN.{pos, _+ℤ_}
 use lib.ListN.{length-set}
 use lib.Seq.{sets}
 use mir.Syntax.{w32}
@@ -12,7 +12,7 @@ use mir.Val.{toZ, ofZ}
 use mir.Facts.{toZ-ofZ}
 use Rattle.geometry.specs.declared.Point.{Point}
 use Rattle.scanline.specs.Points.{runPoints, entries}
-use Rattle.scanline.proofs.Listing.{StillTo, still-start, still-column, run-points-none, run-points-all}
+use Rattle.scanline.proofs.Listing.{StillTo, still-column, run-points-none, run-points-all}
 use native.Mathlib.Omega.{arith}
 use Rattle.signed.proofs.Laws.{int}
 use Rattle.scanline.proofs.put_run.Statement.{statement}

@@ -1,6 +1,6 @@
 -- `styled::box_fill_run` meets its contract: the test made ready stands for the fill area.
 -- Assumes nothing.
-use mathlib.Core.Path.{_≡_, sym, _∙_}
+use mathlib.Core.Path.{sym, _∙_}
 use mir.Facts.{toZ-ofZ}
 use Rattle.box_fill.specs.BoxFill.{fillRun}
 use Rattle.figure.proofs.Within.{area-box-bounded}

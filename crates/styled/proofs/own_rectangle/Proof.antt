@@ -1,6 +1,5 @@
 -- `styled::own_rectangle` meets its contract.
 -- Assumes nothing.
-use mathlib.Core.Path.{sym}
 use borrow.Author.Needs.{needs}
 use Rattle.styled.proofs.own_rectangle.Statement.{statement}
 use Rattle.styled.proofs.own_rectangle.Tie as tie

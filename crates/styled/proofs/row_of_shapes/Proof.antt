@@ -1,6 +1,6 @@
 -- `styled::row_of_shapes` meets its contract: the kinds of both shapes say which case of `styledRowOfShapes` holds.
 -- Assumes nothing.
-use mathlib.Core.Path.{_≡_, sym, ap, subst, _∙_}
+use mathlib.Core.Path.{sym, ap, subst, _∙_}
 use lib.IntN.{ℤ}
 use mir.Facts.{toZ-ofZ}
 use Rattle.ellipse_styled.specs.EllipseStyled.{styledBy, ellipseStyledRow}

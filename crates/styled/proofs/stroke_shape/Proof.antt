@@ -1,6 +1,6 @@
 -- `styled::stroke_shape` meets its contract: the outside width is at most the stroke's.
 -- Assumes nothing.
-use mathlib.Core.Path.{_≡_, ap, _∙_}
+use mathlib.Core.Path.{ap, _∙_}
 use lib.IntN.{pos}
 use mir.Facts.{toZ-ofZ}
 use Rattle.figure.specs.Figure.{offset, shape}

@@ -1,6 +1,6 @@
 -- `ellipse::EllipseContains::new` meets its contract: the test on the sides says which case of `containsOf` holds.
 -- Assumes nothing.
-use mathlib.Core.Path.{_≡_, refl, sym, ap, ap₂, _∙_}
+use mathlib.Core.Path.{ap₂, _∙_}
 use Prim.Native.Nat.{_*_}
 use borrow.Author.Tests.{eq-eqb, ne-eqb}
 use Rattle.ellipse.specs.Relative.{containsOf}

@@ -1,8 +1,7 @@
 -- `ellipse::points::has_rows` meets its contract: the middle of the first row decides (`first-row-by-middle`).
 -- Assumes nothing.
-use mathlib.Core.Path.{_≡_, sym, ap, ap₂, _∙_}
+use mathlib.Core.Path.{sym, ap, _∙_}
 use Prim.Native.Nat.{ℕ}
-use Rattle.ellipse.specs.declared.EllipseContains.{EllipseContains}
 use Rattle.ellipse.specs.Relative.{belowThreshold, firstRowInside}
 use Rattle.ellipse.proofs.Rows.{first-row-by-middle, first-row-no-width, first-row-no-height}
 use borrow.Author.Needs.{needs}

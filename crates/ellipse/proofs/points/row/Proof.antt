@@ -3,11 +3,9 @@
 -- Assumes nothing.
 use mathlib.Core.Path.{_≡_, sym, ap, subst, _∙_}
 use mathlib.Core.Bool.{true}
-use Prim.Native.Nat.{ℕ, _<_}
-use lib.IntN.{ℤ, pos, _+ℤ_, _-ℤ_}
+use lib.IntN.{ℤ}
 use mir.Facts.{toZ-ofZ}
 use borrow.Author.Tests.{not-true, not-false}
-use Rattle.geometry.proofs.Fields.{range-by-fields}
 use Rattle.scanline.specs.declared.Place.the-variants.{At, Nowhere}
 use Rattle.scanline.specs.declared.Row.the-variants.{Run}
 use Rattle.scanline.specs.Places.{Placed}

@@ -1,6 +1,6 @@
 -- `ellipse::points::row_count` meets its contract: the test of the first row decides.
 -- Assumes nothing.
-use mathlib.Core.Path.{_≡_, sym, ap, _∙_}
+use mathlib.Core.Path.{sym, _∙_}
 use Rattle.ellipse.proofs.Rows.{row-count-relative}
 use borrow.Author.Needs.{needs}
 use Rattle.ellipse.proofs.points.row_count.Statement.{statement}

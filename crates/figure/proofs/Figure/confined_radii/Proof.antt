@@ -1,7 +1,6 @@
 -- `figure::Figure::confined_radii` meets its contract: the shape's radii are the confined ones, and an ellipse has none.
 -- Assumes nothing.
-use mathlib.Core.Path.{_≡_, sym, ap, _∙_}
-use Rattle.figure.specs.Calls.{figureCheck}
+use mathlib.Core.Path.{sym, _∙_}
 use Rattle.figure.proofs.Within.{figure-passed, own-figure-bounded, no-corners, shape-corners}
 use borrow.Author.Needs.{needs}
 use Rattle.figure.proofs.Figure.confined_radii.Statement.{statement}

@@ -1,6 +1,6 @@
 -- `figure::Figure::contains` meets its contract: passed checks bound the figure and the point, and a refusal is the checks' own.
 -- Assumes nothing.
-use mathlib.Core.Path.{_≡_, sym, ap, ap₂, subst, _∙_}
+use mathlib.Core.Path.{_≡_, sym, ap, ap₂, _∙_}
 use mathlib.Core.Bool.{Bool}
 use mathlib.Core.List.{[], _∷_}
 use Rattle.geometry.specs.Refusal.{orElse, answered}

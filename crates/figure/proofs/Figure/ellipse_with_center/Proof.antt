@@ -1,7 +1,6 @@
 -- `figure::Figure::ellipse_with_center` meets its contract: the rectangle's call answers, and its figure is the ellipse in it.
 -- Assumes nothing.
-use mathlib.Core.Path.{_≡_, sym, ap, _∙_}
-use Rattle.geometry.specs.declared.rectangle.RectangleAnswer.{RectangleAnswer}
+use mathlib.Core.Path.{sym, ap, _∙_}
 use Rattle.geometry.specs.Calls.{rectangleOutcome}
 use Rattle.geometry.specs.Rectangle.{withCenter}
 use Rattle.figure.proofs.Within.{centerAnswer, ellipse-outcome-refused, ellipse-outcome-answered}

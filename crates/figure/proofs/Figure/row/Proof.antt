@@ -1,6 +1,6 @@
 -- `figure::Figure::row` meets its contract: passed checks bound the figure and the row, and a refusal is the checks' own.
 -- Assumes nothing.
-use mathlib.Core.Path.{_≡_, sym, ap, ap₂, subst, _∙_}
+use mathlib.Core.Path.{_≡_, sym, ap, ap₂, _∙_}
 use mir.Facts.{toZ-ofZ}
 use Rattle.geometry.specs.Refusal.{orElse, answered}
 use Rattle.geometry.specs.Calls.{askedCheck}

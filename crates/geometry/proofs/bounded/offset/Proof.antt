@@ -1,17 +1,13 @@
 -- `geometry::bounded::offset` meets its contract: the callees' equations chain to the definition, within their bounds by the
 -- laws of `Offset`.
 -- Assumes nothing.
-use mathlib.Core.Path.{_≡_, sym, ap, ap₂, _∙_, subst}
-use mir.Syntax.{w32}
-use mir.Val.{toZ, ofZ}
+use mathlib.Core.Path.{sym, ap, ap₂, _∙_, subst}
 use mir.Facts.{toZ-ofZ}
-use Rattle.geometry.specs.declared.Point.{Point}
-use Rattle.geometry.specs.declared.Size.{Size}
-use Prim.Native.Nat.{_+_, _*_}
-use Rattle.geometry.specs.Bounds.{wideSide, widePoint, PointNear, SizeUpTo}
-use Rattle.geometry.specs.Rectangle.{withCenter, offsetSide, offsetSize, offset}
+use Prim.Native.Nat.{_*_}
+use Rattle.geometry.specs.Bounds.{wideSide, widePoint, PointNear}
+use Rattle.geometry.specs.Rectangle.{withCenter, offsetSide, offset}
 use Rattle.geometry.proofs.Fields.{size-by-fields}
-use Rattle.geometry.proofs.Offset.{center-near, offset-size-up-to, offset-side-by-parts}
+use Rattle.geometry.proofs.Offset.{center-near, offset-size-up-to}
 use borrow.Author.Needs.{needs}
 use native.Mathlib.Omega.{arith}
 use Rattle.geometry.proofs.bounded.offset.Statement.{statement}

@@ -1,7 +1,6 @@
 -- `geometry::rectangle::check_offset` meets its contract: the check called is that of the definition.
 -- Assumes nothing.
 use mathlib.Core.Path.{ap, _∙_}
-use lib.IntN.{ℤ}
 use mir.Facts.{toZ-ofZ}
 use Rattle.geometry.specs.Calls.{offsetCheck}
 use borrow.Author.Needs.{needs}

@@ -1,7 +1,7 @@
 -- `rounded_rectangle::RoundedRectangle::contains` meets its contract: the places of the asked column and row say which case of
 -- `contains` holds.
 -- Assumes nothing.
-use mathlib.Core.Path.{_≡_, sym, subst, _∙_}
+use mathlib.Core.Path.{sym, subst, _∙_}
 use Prim.Native.Nat.{_<_}
 use Rattle.geometry.specs.declared.Size.{Size}
 use Rattle.scanline.specs.declared.Place.the-variants.{At}

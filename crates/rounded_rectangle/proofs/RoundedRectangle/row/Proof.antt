@@ -1,6 +1,6 @@
 -- `rounded_rectangle::RoundedRectangle::row` meets its contract: the place of the asked row says which case of `row` holds.
 -- Assumes nothing.
-use mathlib.Core.Path.{_≡_, sym, ap, subst, _∙_}
+use mathlib.Core.Path.{sym, ap, subst, _∙_}
 use Prim.Native.Nat.{_≤_, _<_}
 use mir.Facts.{toZ-ofZ}
 use Rattle.geometry.specs.declared.Size.{Size}

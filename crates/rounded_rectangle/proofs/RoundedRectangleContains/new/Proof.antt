@@ -1,6 +1,6 @@
 -- `rounded_rectangle::RoundedRectangleContains::new` meets its contract: each quadrant is made ready from its radii.
 -- Assumes nothing.
-use mathlib.Core.Path.{_≡_, refl}
+use mathlib.Core.Path.{refl}
 use Rattle.corner_radii.proofs.Fields.{corner-radii-by-fields}
 use borrow.Author.Needs.{needs}
 use Rattle.rounded_rectangle.proofs.RoundedRectangleContains.new.Statement.{statement}

@@ -4,7 +4,6 @@
 use mathlib.Core.Path.{_≡_, sym, ap, ap₂, _∙_}
 use mir.Facts.{toZ-ofZ}
 use Rattle.geometry.specs.declared.rectangle.Rectangle.{Rectangle}
-use Rattle.geometry.specs.declared.refusal.Checked.{Checked}
 use Rattle.geometry.specs.Refusal.{answered, orElse}
 use Rattle.geometry.specs.Rectangle.{offset as offsetRectangle}
 use Rattle.geometry.specs.Calls.{rectangleCheck, offsetCheck, rectangleValues}

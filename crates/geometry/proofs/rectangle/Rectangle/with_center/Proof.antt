@@ -2,11 +2,8 @@
 -- any other every rectangle of these sides is out of position.
 -- Assumes nothing.
 use mathlib.Core.Path.{_≡_, sym, ap, ap₂, _∙_}
-use Prim.Native.Nat.{_*_}
 use Rattle.geometry.specs.declared.rectangle.Rectangle.{Rectangle}
-use Rattle.geometry.specs.Bounds.{wideSide, widePoint, PointNear, SizeUpTo}
 use Rattle.geometry.specs.Refusal.{unless, orElse}
-use Rattle.geometry.specs.Rectangle.{withCenter}
 use Rattle.geometry.specs.Calls.{sizeCheck, positionCheck, centerCheck, rectangleValues}
 use Rattle.geometry.proofs.Checks.{passed-first, passed-next, size-passed, center-passed, with-center-refused}
 use borrow.Author.Needs.{needs}

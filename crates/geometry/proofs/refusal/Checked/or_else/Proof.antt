@@ -1,8 +1,5 @@
 -- `geometry::refusal::Checked::or_else` meets its contract: the variant matched is the case of `orElse`.
 -- Assumes nothing.
-use mathlib.Core.Path.{sym, ap, _∙_}
-use Rattle.geometry.specs.declared.refusal.Checked.{Checked}
-use Rattle.geometry.specs.Refusal.{orElse}
 use borrow.Author.Needs.{needs}
 use Rattle.geometry.proofs.refusal.Checked.or_else.Statement.{statement}
 use Rattle.geometry.proofs.refusal.Checked.or_else.Tie as tie

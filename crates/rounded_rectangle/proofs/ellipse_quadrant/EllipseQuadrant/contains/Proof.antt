@@ -1,7 +1,7 @@
 -- `rounded_rectangle::ellipse_quadrant::EllipseQuadrant::contains` meets its contract: the distances are the gaps of the column
 -- and the row in the whole ellipse.
 -- Assumes nothing.
-use mathlib.Core.Path.{_≡_, _∙_}
+use mathlib.Core.Path.{_∙_}
 use Rattle.ellipse.specs.Relative.{belowThreshold, columnInside}
 use Rattle.rounded_rectangle.specs.Relative.{insideCorner}
 use Rattle.rounded_rectangle.proofs.Contains.{in-quadrant-row, in-quadrant-column}

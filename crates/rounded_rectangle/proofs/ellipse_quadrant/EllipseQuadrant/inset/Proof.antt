@@ -1,7 +1,7 @@
 -- `rounded_rectangle::ellipse_quadrant::EllipseQuadrant::inset` meets its contract: the search is the definition's, and a corner
 -- without width has nothing inside.
 -- Assumes nothing.
-use mathlib.Core.Path.{_≡_, sym, subst, _∙_}
+use mathlib.Core.Path.{sym, subst, _∙_}
 use Prim.Native.Nat.{ℕ, _≤_}
 use Rattle.scanline.specs.declared.Place.the-variants.{At, Nowhere}
 use Rattle.rounded_rectangle.proofs.Rows.{inset-le, inset-no-width, inset-found}
