@@ -14,7 +14,7 @@ use Rattle.ellipse_styled.specs.EllipseStyled.{ellipseStyledRow}
 use Rattle.box_fill.specs.BoxFill.{fillRun}
 use Rattle.styled.specs.Styled.{styledRowOfShapes}
 use Rattle.style.specs.Style.{outsideStrokeWidth, insideStrokeWidth}
-use Rattle.drawings.specs.Cases.{countRows, cases}
+use Rattle.checked_drawings.specs.Cases.{countRows, cases}
 
 pub checked-drawings : map (λ c. c .drawn) cases ≡ map (λ c. c .said) cases
 unfolding countRows entries Ellipse·row offsetRadius offsetCorner CornerRadii·offset contains offsetBox center withCenter offsetSide offset firstColumn lastColumn runPoints pointsFrom center2x fromCenter2x threshold inside insideAbout scanline hasRows rowCount scaledCorner scaled reduced overlap furtherOver tighter someOver confine confineW3c insideTopLeft insideTopRight insideBottomRight insideBottomLeft runStart runEnd row confined confinedW3c pointsOfShape ellipseStyledRow fillRun styledRowOfShapes outsideStrokeWidth insideStrokeWidth

@@ -1,0 +1,40 @@
+-- `drawing::ellipse_rows` meets its contract: the rows are those of the offset rectangle.
+-- Assumes nothing.
+use native.Mathlib.Omega.{arith}
+use Rattle.signed.proofs.Laws.{int}
+use mathlib.Core.Path.{_≡_, sym, ap, subst, _∙_}
+use mir.Facts.{toZ-ofZ}
+use Rattle.geometry.specs.Bounds.{Bounded}
+use Rattle.geometry.specs.Rectangle.{offset as Rectangle·offset}
+use Rattle.figure.proofs.Within.{own-area, area-bounded, offset-area}
+use mir.Syntax.{w32}
+use mir.Val.{SFits}
+use Rattle.geometry.specs.declared.rectangle.Rectangle.{Rectangle}
+use Rattle.ellipse.specs.Ellipse.{rowCount}
+use Rattle.drawing.proofs.ellipse_rows.Statement.{statement}
+use Rattle.drawing.proofs.ellipse_rows.Tie as tie
+
+-- the area made is the definition's
+area-is : (c : tie.After-offset) → c .offset .result ≡ Rectangle·offset (c .before .args .rectangle) (c .before .args .k)
+area-is c = c .offset .ensures ∙ ap (Rectangle·offset (c .before .args .rectangle)) (toZ-ofZ (c .before .pre .1 .fits))
+
+offset-requires : tie.Need-offset-requires
+offset-requires c κs = (area-bounded _ (own-area _ (c .pre .0)), let near = c .pre .1 in rw (toZ-ofZ (near .fits)) (omega (arith, int)))
+
+row-count-requires : tie.Need-row-count-requires
+row-count-requires c κs =
+    let entry = c .before .before in
+    subst Bounded (sym (area-is (c .before))) (area-bounded _ (offset-area (entry .args .rectangle) (entry .args .k) (entry .pre .0) (entry .pre .1)))
+
+returns : tie.Need-returns
+returns c =
+    let entry = c .before .before .before .before in
+    let is = area-is (c .before .before .before) in
+    let fits = offset-area (entry .args .rectangle) (entry .args .k) (entry .pre .0) (entry .pre .1) .at .y .fits in
+    λ i. record {
+      first = (toZ-ofZ (subst (λ (r : Rectangle). SFits w32 (r .«top_left» .y)) (sym is) fits) ∙ ap (λ (r : Rectangle). r .«top_left» .y) is) i;
+      count = (c .before .row-count .ensures ∙ ap rowCount is) i;
+    }
+
+pub ellipse-rows-spec : {M : Type 1} → statement M
+ellipse-rows-spec = tie.close (tie.spec offset-requires row-count-requires returns)
