@@ -12,10 +12,10 @@ use Rattle.rounded_rectangle.specs.RoundedRectangle.{contains, runStart, runEnd
 use Rattle.figure.specs.Figure.{confined, confinedW3c, offsetBox, pointsOfShape}
 use Rattle.ellipse_styled.specs.EllipseStyled.{ellipseStyledRow}
 use Rattle.box_fill.specs.BoxFill.{fillRun}
-use Rattle.styled.specs.Styled.{styledRowOfShapes}
+use Rattle.styled_shape.specs.StyledRow.{boxStyledRow, styledRowOfShapes}
 use Rattle.style.specs.Style.{outsideStrokeWidth, insideStrokeWidth}
 use Rattle.checked_drawings.specs.Cases.{countRows, cases}
 
 pub checked-drawings : map (λ c. c .drawn) cases ≡ map (λ c. c .said) cases
-unfolding countRows entries Ellipse·row offsetRadius offsetCorner CornerRadii·offset contains offsetBox center withCenter offsetSide offset firstColumn lastColumn runPoints pointsFrom center2x fromCenter2x threshold inside insideAbout scanline hasRows rowCount scaledCorner scaled reduced overlap furtherOver tighter someOver confine confineW3c insideTopLeft insideTopRight insideBottomRight insideBottomLeft runStart runEnd row confined confinedW3c pointsOfShape ellipseStyledRow fillRun styledRowOfShapes outsideStrokeWidth insideStrokeWidth
+unfolding countRows entries Ellipse·row offsetRadius offsetCorner CornerRadii·offset contains offsetBox center withCenter offsetSide offset firstColumn lastColumn runPoints pointsFrom center2x fromCenter2x threshold inside insideAbout scanline hasRows rowCount scaledCorner scaled reduced overlap furtherOver tighter someOver confine confineW3c insideTopLeft insideTopRight insideBottomRight insideBottomLeft runStart runEnd row confined confinedW3c pointsOfShape ellipseStyledRow fillRun boxStyledRow styledRowOfShapes outsideStrokeWidth insideStrokeWidth
 checked-drawings = refl

@@ -17,7 +17,6 @@ ghost use Rattle.geometry.specs.Rectangle.{offset as Rectangle·offset};
 ghost use Rattle.corner_radii.specs.Bounds.{wideStrokeSide};
 ghost use Rattle.figure.specs.Bounds.{wideOffset, wideAreaPosition, OwnRectangle, OwnFigure};
 ghost use Rattle.book.specs.Sheet.{paintRow as Sheet·paintRow};
-ghost use Rattle.styled.specs.Styled.{styledRow};
 ghost use Rattle.drawing.specs.Rows.{boxRows, ellipseRows, strokeRows};
 ghost use Rattle.drawing.specs.Drawing.{styledCheck, styledFigure, drawing};
 
@@ -78,20 +77,6 @@ pub fn stroke_rows(figure: Figure, style: Style) -> StrokeRows
     }
 }
 
-// The styled row at y.
-pub fn row_at(figure: Figure, style: Style, y: i32) -> StyledRow
-    requires { ⌜ OwnFigure figure ⌝ }
-    requires { ⌜ style .«stroke_width» ≤ wideOffset ⌝ }
-    requires { ⌜ Near widePoint y ⌝ }
-    ensures { λ r. ⌜ r ≡ styledRow figure style y ⌝ }
-{
-    styled::row_of_shapes(
-        styled::stroke_shape(figure, style),
-        styled::fill_shape(figure, style),
-        y,
-    )
-}
-
 // Paints the figure's row at y, if the canvas has that row.
 pub fn paint_row(canvas: &mut [u8], size: CanvasSize, figure: Figure, style: Style, y: i32)
     requires { ⌜ length (now canvas) ≡ size .width * size .height ⌝ }
@@ -108,7 +93,7 @@ pub fn paint_row(canvas: &mut [u8], size: CanvasSize, figure: Figure, style: Sty
     if size.height <= row {
         return;
     }
-    let StyledRow::Runs(runs) = row_at(figure, style, y) else {
+    let StyledRow::Runs(runs) = styled::row_at(figure, style, y) else {
         return;
     };
     canvas::paint_row_at(canvas, size.width, row, runs, style);

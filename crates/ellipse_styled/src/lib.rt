@@ -19,7 +19,35 @@ ghost use Rattle.scanline.specs.declared.Place.the-variants.{At, Nowhere};
 ghost use Rattle.scanline.specs.Places.{findFrom};
 ghost use Rattle.ellipse.specs.Relative.{wideDistance, SmallWeights, columnInside};
 ghost use Rattle.ellipse_styled.specs.EllipseStyled.{ellipseStyledRow};
-ghost use Rattle.ellipse_styled.specs.Relative.{runsFrom};
+ghost use Rattle.ellipse_styled.specs.Relative.{runsFrom, ReadyEllipse};
+
+// Where the searches of a row begin, for the stroke and for the fill: nothing depends on it but time.
+pub struct EllipseHints {
+    pub stroke: Hint,
+    pub fill: Hint,
+}
+
+// An ellipse made ready for many rows: its stroke area, its fill sides, the tests of both, and
+// whether it has rows.
+pub struct StyledEllipse {
+    pub area: Rectangle,
+    pub sides: Size,
+    pub stroke: EllipseContains,
+    pub fill: EllipseContains,
+    pub rows: bool,
+}
+
+// A styled row, and the hints for the row after it.
+pub struct EllipseRow {
+    pub row: StyledRow,
+    pub hints: EllipseHints,
+}
+
+// The runs of a row, and the hint for the next row's fill.
+struct HintedRuns {
+    runs: StyledScanline,
+    hint: Hint,
+}
 
 // The runs of a row of `width` columns whose stroke starts at place s and whose fill starts at c.
 fn filled_runs(left: i32, width: u32, s: u32, c: u32) -> StyledScanline
@@ -68,7 +96,8 @@ fn hollow_runs(left: i32, width: u32, s: u32) -> StyledScanline
     }
 }
 
-// The runs of a row whose stroke starts at place s, on a row at this distance from the middle.
+// The runs of a row whose stroke starts at place s, on a row at this distance from the middle, and
+// where the next row's fill is looked for.
 fn runs_at(
     left: i32,
     width: u32,
@@ -76,39 +105,82 @@ fn runs_at(
     s: u32,
     fill: EllipseContains,
     hint: Hint,
-) -> StyledScanline
+) -> HintedRuns
     requires { ⌜ Near widePoint left ⌝ }
     requires { ⌜ (width ≤ wideSide) × (2 * s < width) × (distance ≤ wideDistance) ⌝ }
     requires { ⌜ SmallWeights fill ⌝ }
-    ensures { λ r. ⌜ r ≡ runsFrom left width s (findFrom (columnInside fill width distance) (width - 2 * s) s) ⌝ }
+    ensures { λ r. ⌜ r .runs ≡ runsFrom left width s (findFrom (columnInside fill width distance) (width - 2 * s) s) ⌝ }
 {
     let Place::At(c) = find_inside(fill, width, distance, s, width - 2 * s, hint) else {
-        return hollow_runs(left, width, s);
+        return HintedRuns {
+            runs: hollow_runs(left, width, s),
+            hint: hint,
+        };
     };
-    filled_runs(left, width, s, c)
+    HintedRuns {
+        runs: filled_runs(left, width, s, c),
+        hint: Hint::Near(c),
+    }
 }
 
-// The styled row at y of the ellipse with this stroke area and these fill sides.
-pub fn styled_row(area: Rectangle, sides: Size, y: i32) -> StyledRow
-    requires { ⌜ Bounded area ⌝ }
-    requires { ⌜ SizeUpTo wideSide sides ⌝ }
-    requires { ⌜ Near widePoint y ⌝ }
-    ensures { λ r. ⌜ r ≡ ellipseStyledRow area sides y ⌝ }
-{
-    let top_left = area.top_left;
-    let size = area.size;
-    let Place::At(dy) = scanline::place_of(top_left.y, size.height, y) else {
-        return StyledRow::NoRow;
-    };
-    let stroke = EllipseContains::new(size);
-    if !has_rows(stroke, size) {
-        return StyledRow::NoRow;
+impl StyledEllipse {
+    pub fn new(area: Rectangle, sides: Size) -> StyledEllipse
+        requires { ⌜ Bounded area ⌝ }
+        requires { ⌜ SizeUpTo wideSide sides ⌝ }
+        ensures { λ r. ⌜ (r .area ≡ area) × (r .sides ≡ sides) × ReadyEllipse r ⌝ }
+    {
+        let stroke = EllipseContains::new(area.size);
+        StyledEllipse {
+            area: area,
+            sides: sides,
+            stroke: stroke,
+            fill: EllipseContains::new(sides),
+            rows: has_rows(stroke, area.size),
+        }
     }
-    let distance = ellipse::gap(size.height, dy);
-    let Place::At(s) = find_inside(stroke, size.width, distance, 0, size.width, Hint::Unknown)
-    else {
-        return StyledRow::NoRow;
-    };
-    let fill = EllipseContains::new(sides);
-    StyledRow::Runs(runs_at(top_left.x, size.width, distance, s, fill, Hint::Unknown))
+
+    // The styled row at y.
+    pub fn row(self, y: i32, hints: EllipseHints) -> EllipseRow
+        requires { ⌜ ReadyEllipse self ⌝ }
+        requires { ⌜ Near widePoint y ⌝ }
+        ensures { λ r. ⌜ r .row ≡ ellipseStyledRow (self .area) (self .sides) y ⌝ }
+    {
+        let area = self.area;
+        let top_left = area.top_left;
+        let size = area.size;
+        let Place::At(dy) = scanline::place_of(top_left.y, size.height, y) else {
+            return EllipseRow {
+                row: StyledRow::NoRow,
+                hints: hints,
+            };
+        };
+        if !self.rows {
+            return EllipseRow {
+                row: StyledRow::NoRow,
+                hints: hints,
+            };
+        }
+        let distance = ellipse::gap(size.height, dy);
+        let stroke = self.stroke;
+        let stroke_hint = hints.stroke;
+        let Place::At(s) = find_inside(stroke, size.width, distance, 0, size.width, stroke_hint)
+        else {
+            return EllipseRow {
+                row: StyledRow::NoRow,
+                hints: hints,
+            };
+        };
+        let fill = self.fill;
+        let fill_hint = hints.fill;
+        let found = runs_at(top_left.x, size.width, distance, s, fill, fill_hint);
+        let runs = found.runs;
+        let next_fill = found.hint;
+        EllipseRow {
+            row: StyledRow::Runs(runs),
+            hints: EllipseHints {
+                stroke: Hint::Near(s),
+                fill: next_fill,
+            },
+        }
+    }
 }

@@ -1,33 +1,26 @@
 // Styled figures: their areas, bounding box and rows, after embedded-graphics 0.8.2 both `styled.rs`
 // and `common/styled_scanline.rs`. A figure's stroke area and fill area are shapes of one kind.
-use box_fill::Hints;
-use ellipse::Hint;
 use figure::Figure;
 use figure::Shape;
-use geometry::Range;
 use geometry::rectangle::Rectangle;
 use geometry::rectangle::RectangleAnswer;
 use geometry::rectangle::check_row;
 use geometry::refusal::Checked;
 use geometry::refusal::Refusal;
-use rounded_rectangle::RoundedRectangle;
-use rounded_rectangle::RoundedRectangleContains;
-use scanline::Row;
 use scanline::StyledRow;
-use scanline::StyledScanline;
 use style::Style;
+use styled_shape::StyledShape;
+use styled_shape::no_hints;
 ghost use mathlib.Core.Path.{_≡_};
 ghost use Prim.Native.Nat.{_≤_};
+ghost use lib.IntN.{ℤ};
 ghost use Rattle.signed.specs.Signed.{Near};
 ghost use Rattle.geometry.specs.Bounds.{widePoint};
 ghost use Rattle.geometry.specs.Calls.{rectangleOutcome};
-ghost use Rattle.figure.specs.Bounds.{wideOffset, OwnFigure, AreaBox, BoundedShape};
+ghost use Rattle.figure.specs.Bounds.{wideOffset, OwnFigure, BoundedShape};
 ghost use Rattle.figure.specs.Figure.{shape};
-ghost use Rattle.ellipse_styled.specs.EllipseStyled.{aroundFill, styledBy};
-ghost use Rattle.rounded_rectangle.specs.RoundedRectangle.{row as RoundedRectangle·row};
-ghost use Rattle.box_fill.specs.BoxFill.{fillRun};
-ghost use Rattle.box_fill.specs.Relative.{NearRun};
-ghost use Rattle.styled.specs.Styled.{strokeArea, fillArea, ownRectangle, styledRowOfShapes};
+ghost use Rattle.styled_shape.specs.Ready.{rowOf, Ready};
+ghost use Rattle.styled.specs.Styled.{strokeArea, fillArea, ownRectangle, styledRow};
 ghost use Rattle.styled.specs.Calls.{styledRowOutcome, styledRowCall, styledBoundingBoxCall};
 
 pub enum StyledRowAnswer {
@@ -36,7 +29,7 @@ pub enum StyledRowAnswer {
 }
 
 // The shape of the stroke area.
-pub fn stroke_shape(figure: Figure, style: Style) -> Shape
+fn stroke_shape(figure: Figure, style: Style) -> Shape
     requires { ⌜ OwnFigure figure ⌝ }
     requires { ⌜ style .«stroke_width» ≤ wideOffset ⌝ }
     ensures { λ r. ⌜ (r ≡ shape (strokeArea figure style)) × BoundedShape r ⌝ }
@@ -47,7 +40,7 @@ pub fn stroke_shape(figure: Figure, style: Style) -> Shape
 }
 
 // The shape of the fill area.
-pub fn fill_shape(figure: Figure, style: Style) -> Shape
+fn fill_shape(figure: Figure, style: Style) -> Shape
     requires { ⌜ OwnFigure figure ⌝ }
     requires { ⌜ style .«stroke_width» ≤ wideOffset ⌝ }
     ensures { λ r. ⌜ (r ≡ shape (fillArea figure style)) × BoundedShape r ⌝ }
@@ -56,71 +49,24 @@ pub fn fill_shape(figure: Figure, style: Style) -> Shape
     figure.offset_by(signed::sub(0, inside)).shape()
 }
 
-// The stroke area's run around a fill.
-fn around_fill(run: Range, fill: Range) -> StyledScanline
-    ensures { λ r. ⌜ r ≡ aroundFill run fill ⌝ }
+// The figure with its style made ready for all its rows.
+pub fn ready(figure: Figure, style: Style) -> StyledShape
+    requires { ⌜ OwnFigure figure ⌝ }
+    requires { ⌜ style .«stroke_width» ≤ wideOffset ⌝ }
+    ensures { λ r. ⌜ Ready r × ((y : ℤ) → rowOf r y ≡ styledRow figure style y) ⌝ }
 {
-    StyledScanline {
-        stroke_left: Range {
-            start: run.start,
-            end: fill.start,
-        },
-        fill: fill,
-        stroke_right: Range {
-            start: fill.end,
-            end: run.end,
-        },
-    }
+    StyledShape::new(stroke_shape(figure, style), fill_shape(figure, style))
 }
 
-// The fill of a box's run.
-fn box_fill_run(fill: RoundedRectangle, y: i32, run: Range) -> Range
-    requires { ⌜ AreaBox fill ⌝ }
+// The styled row at y, asked for alone.
+pub fn row_at(figure: Figure, style: Style, y: i32) -> StyledRow
+    requires { ⌜ OwnFigure figure ⌝ }
+    requires { ⌜ style .«stroke_width» ≤ wideOffset ⌝ }
     requires { ⌜ Near widePoint y ⌝ }
-    requires { ⌜ NearRun run ⌝ }
-    ensures { λ r. ⌜ r ≡ fillRun fill y run ⌝ }
+    ensures { λ r. ⌜ r ≡ styledRow figure style y ⌝ }
 {
-    let rectangle = fill.rectangle;
-    let corners = fill.corners;
-    let test = RoundedRectangleContains::new(rectangle.size, corners);
-    let hints = Hints {
-        left: Hint::Unknown,
-        right: Hint::Unknown,
-    };
-    let found = box_fill::fill_run(rectangle, test, y, run, hints);
-    found.run
-}
-
-// The styled row at y of a box with these areas.
-fn box_row(area: RoundedRectangle, fill: RoundedRectangle, y: i32) -> StyledRow
-    requires { ⌜ AreaBox area ⌝ }
-    requires { ⌜ AreaBox fill ⌝ }
-    requires { ⌜ Near widePoint y ⌝ }
-    ensures { λ r. ⌜ r ≡ styledBy (RoundedRectangle·row area y) (fillRun fill y) ⌝ }
-{
-    let Row::Run(run) = area.row(y) else {
-        return StyledRow::NoRow;
-    };
-    StyledRow::Runs(around_fill(run, box_fill_run(fill, y, run)))
-}
-
-// The styled row at y by the shapes of both areas.
-pub fn row_of_shapes(stroke: Shape, fill: Shape, y: i32) -> StyledRow
-    requires { ⌜ BoundedShape stroke ⌝ }
-    requires { ⌜ BoundedShape fill ⌝ }
-    requires { ⌜ Near widePoint y ⌝ }
-    ensures { λ r. ⌜ r ≡ styledRowOfShapes stroke fill y ⌝ }
-{
-    match stroke {
-        Shape::Ellipse(area) => match fill {
-            Shape::Ellipse(inner) => ellipse_styled::styled_row(area, inner.size, y),
-            Shape::RoundedBox(_) => StyledRow::NoRow,
-        },
-        Shape::RoundedBox(area) => match fill {
-            Shape::Ellipse(_) => StyledRow::NoRow,
-            Shape::RoundedBox(inner) => box_row(area, inner, y),
-        },
-    }
+    let found = ready(figure, style).row(y, no_hints());
+    found.row
 }
 
 // The rectangle of a figure as it is given.
@@ -140,9 +86,7 @@ pub fn styled_row(figure: Figure, style: Style, y: i32) -> StyledRowAnswer
 {
     let Checked::Refused(refusal) = figure.check().or_else(check_row(y)).or_else(style.check())
     else {
-        let stroke = stroke_shape(figure, style);
-        let fill = fill_shape(figure, style);
-        return StyledRowAnswer::Answered(row_of_shapes(stroke, fill, y));
+        return StyledRowAnswer::Answered(row_at(figure, style, y));
     };
     StyledRowAnswer::Refused(refusal)
 }

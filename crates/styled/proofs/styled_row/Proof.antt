@@ -1,7 +1,11 @@
 -- `styled::styled_row` meets its contract: passed checks bound the figure, the row and the stroke, and a refusal is the checks' own.
 -- Assumes nothing.
+use native.Mathlib.Omega.{arith}
+use Rattle.signed.proofs.Laws.{int}
+use borrow.Author.Needs.{needs}
 use mathlib.Core.Path.{_≡_, sym, ap, ap₂, _∙_}
 use mir.Facts.{toZ-ofZ}
+use Rattle.scanline.specs.declared.StyledRow.{StyledRow}
 use Rattle.geometry.specs.Refusal.{orElse, answered}
 use Rattle.geometry.specs.Calls.{askedCheck}
 use Rattle.geometry.proofs.Checks.{passed-first, passed-next, asked-passed}
@@ -9,11 +13,8 @@ use Rattle.figure.specs.Calls.{figureCheck}
 use Rattle.figure.proofs.Within.{figure-passed}
 use Rattle.style.specs.Style.{styleCheck}
 use Rattle.style.proofs.StrokeWidths.{style-passed}
-use Rattle.styled.specs.Styled.{styledRowOfShapes}
+use Rattle.styled.specs.Styled.{styledRow}
 use Rattle.styled.specs.Calls.{styledRowValues}
-use borrow.Author.Needs.{needs}
-use native.Mathlib.Omega.{arith}
-use Rattle.signed.proofs.Laws.{int}
 use Rattle.styled.proofs.styled_row.Statement.{statement}
 use Rattle.styled.proofs.styled_row.Tie as tie
 
@@ -47,34 +48,22 @@ enum-known-refusal c = search needs
 enum-told : tie.Need-enum-told
 enum-told c = search needs
 
-stroke-shape-requires : tie.Need-stroke-shape-requires
-stroke-shape-requires c κs =
+row-at-requires : tie.Need-row-at-requires
+row-at-requires c κs =
     let entry = c .before .before .before .before .before .before .before in
+    let f = entry .args .figure in
+    let style = entry .args .style in
     let passed = sym (checked (c .before .before)) ∙ c .enum-told .given .1 in
-    let f = entry .args .figure in
-    let stroke = style-passed (entry .args .style) (passed-next (orElse (figureCheck f) (askedCheck (entry .args .y))) (styleCheck (entry .args .style)) passed) in
-    (figure-passed f (passed-first (figureCheck f) (askedCheck (entry .args .y)) (passed-first _ (styleCheck (entry .args .style)) passed)), omega arith)
-
-fill-shape-requires : tie.Need-fill-shape-requires
-fill-shape-requires c κs =
-    let entry = c .before .before .before .before .before .before .before .before in
-    let passed = sym (checked (c .before .before .before)) ∙ c .before .enum-told .given .1 in
-    let f = entry .args .figure in
-    let stroke = style-passed (entry .args .style) (passed-next (orElse (figureCheck f) (askedCheck (entry .args .y))) (styleCheck (entry .args .style)) passed) in
-    (figure-passed f (passed-first (figureCheck f) (askedCheck (entry .args .y)) (passed-first _ (styleCheck (entry .args .style)) passed)), omega arith)
-
-row-of-shapes-requires : tie.Need-row-of-shapes-requires
-row-of-shapes-requires c κs =
-    let entry = c .before .before .before .before .before .before .before .before .before in
-    let passed = sym (checked (c .before .before .before .before)) ∙ c .before .before .enum-told .given .1 in
-    let near = asked-passed (entry .args .y) (passed-next (figureCheck (entry .args .figure)) _ (passed-first _ (styleCheck (entry .args .style)) passed)) in
-    (c .before .stroke-shape .ensures .1, (c .fill-shape .ensures .1, omega (arith, int)))
+    let given = passed-first (orElse (figureCheck f) (askedCheck (entry .args .y))) (styleCheck style) passed in
+    let stroke = style-passed style (passed-next (orElse (figureCheck f) (askedCheck (entry .args .y))) (styleCheck style) passed) in
+    let near = asked-passed (entry .args .y) (passed-next (figureCheck f) _ given) in
+    (figure-passed f (passed-first (figureCheck f) (askedCheck (entry .args .y)) given), (omega arith, omega (arith, int)))
 
 returns : tie.Need-returns
 returns c =
-    let entry = c .before .before .before .before .before .before .before .before .before .before in
-    rw (sym (checked (c .before .before .before .before .before)) ∙ c .before .before .before .enum-told .given .1)
-    (λ i. answered (styledRowValues ((c .row-of-shapes .ensures ∙ (λ j. styledRowOfShapes (c .before .before .stroke-shape .ensures .0 j) (c .before .fill-shape .ensures .0 j) (toZ-ofZ (entry .fits .y) j))) i)))
+    let entry = c .before .before .before .before .before .before .before .before in
+    rw (sym (checked (c .before .before .before)) ∙ c .before .enum-told .given .1)
+    (ap (λ (r : StyledRow). answered (styledRowValues r)) (c .row-at .ensures ∙ ap (styledRow (entry .args .figure) (entry .args .style)) (toZ-ofZ (entry .fits .y))))
 
 -- refused
 returns-2 : tie.Need-returns-2
@@ -91,8 +80,6 @@ styled-row-spec =
     or-else-requires-2
     enum-known-refusal
     enum-told
-    stroke-shape-requires
-    fill-shape-requires
-    row-of-shapes-requires
+    row-at-requires
     returns
     returns-2)
