@@ -1,11 +1,12 @@
--- What a figure's row makes of a canvas that has the row: the runs laid over it, or nothing where the figure lacks the row.
+-- What a styled row makes of a canvas: the runs laid over the canvas row, or nothing where the canvas or the figure lacks it.
 -- Assumes nothing.
-use mathlib.Core.Path.{_≡_, ap, _∙_}
-use mathlib.Core.Bool.{false}
+use mathlib.Core.Path.{_≡_, refl, ap, _∙_}
+use mathlib.Core.Bool.{true, false, cond}
 use mathlib.Core.List.{List, _++_}
-use Prim.Native.Nat.{ℕ, _*_, _<_}
+use Prim.Native.Nat.{ℕ, _*_, _≤_, _<_}
 use native.Mathlib.Omega.{arith}
-use borrow.Author.Tests.{lt-ltb}
+use borrow.Author.Tests.{lt-ltb, le-ltb}
+use lib.Dec.{ltb}
 use lib.IntN.{ℤ, pos, negsuc}
 use lib.ListN.{take, drop, take-append-drop}
 use lib.Signed.{ltZ}
@@ -14,11 +15,13 @@ use Rattle.signed.proofs.Laws.{int}
 use Rattle.scanline.specs.declared.StyledRow.{StyledRow}
 use Rattle.scanline.specs.declared.StyledScanline.{StyledScanline}
 use Rattle.scanline.specs.declared.StyledRow.the-variants.{Runs, NoRow}
+use Rattle.figure.specs.declared.Figure.{Figure}
+use Rattle.style.specs.declared.Style.{Style}
 use Rattle.book.specs.Canvas.{canvasRow, putRow}
 use Rattle.book.specs.Sheet.{paintRow}
 use Rattle.styled.specs.Styled.{styledRow}
 use Rattle.canvas.specs.Canvas.{overpaint, overpaintAt}
-use Rattle.drawing.specs.Drawing.{StyledFigure, overpaintBy, drawing}
+use Rattle.drawing.specs.Drawing.{styledFigure, overpaintBy, paintBy, drawing}
 
 -- a row put back as it was leaves the canvas as it was
 pub put-row-same : (W y : ℕ) (canvas : List ℕ) → putRow W y (canvasRow W y canvas) canvas ≡ canvas
@@ -27,24 +30,42 @@ put-row-same W y canvas =
     ap (λ (rest : List ℕ). take (y * W) canvas ++ rest) (take-append-drop W (drop (y * W) canvas))
     ∙ take-append-drop (y * W) canvas
 
-module _ (W H : ℕ) (item : StyledFigure) (canvas : List ℕ) where
-  abbrev rowBy : StyledRow → ℤ → List ℕ
-  rowBy row y = putRow W (floor0 y) (overpaint (item .style) row (canvasRow W (floor0 y) canvas)) canvas
+module _ (rowAt : ℤ → StyledRow) (style : Style) (W H : ℕ) (canvas : List ℕ) where
+  -- a figure's rows are those of its definition
+  pub paint-by-figure : (f : Figure) → ((y : ℤ) → rowAt y ≡ styledRow f style y) → (y : ℤ)
+      → paintBy rowAt style W H y canvas ≡ paintRow drawing W H (styledFigure f style) y canvas
+  unfolding paintRow overpaintBy paintBy
+  paint-by-figure f is (pos y) =
+      ap (λ (row : StyledRow). cond (ltb y H) (putRow W y (overpaint style row (canvasRow W y canvas)) canvas) canvas) (is (pos y))
+  paint-by-figure f is (negsuc y) = refl
 
-  -- a row that the canvas has
-  paint-row-on : (y : ℤ) → ltZ y (pos 0) ≡ false → floor0 y < H
-      → paintRow drawing W H item y canvas ≡ rowBy (styledRow (item .figure) (item .style) y) y
-  unfolding paintRow overpaintBy
-  paint-row-on (pos y) from low =
+  -- rows that the canvas lacks
+  pub paint-by-above : (y : ℤ) → ltZ y (pos 0) ≡ true → paintBy rowAt style W H y canvas ≡ canvas
+  unfolding paintBy
+  paint-by-above (pos y) above = absurd (omega (arith, int))
+  paint-by-above (negsuc y) above = refl
+
+  pub paint-by-below : (y : ℤ) → ltZ y (pos 0) ≡ false → H ≤ floor0 y → paintBy rowAt style W H y canvas ≡ canvas
+  unfolding paintBy
+  paint-by-below (pos y) from low = rw (le-ltb y H (omega arith))
+  paint-by-below (negsuc y) from low = refl
+
+  -- a row that it has
+  abbrev with : StyledRow → ℤ → List ℕ
+  with row y = putRow W (floor0 y) (overpaint style row (canvasRow W (floor0 y) canvas)) canvas
+
+  paint-by-on : (y : ℤ) → ltZ y (pos 0) ≡ false → floor0 y < H → paintBy rowAt style W H y canvas ≡ with (rowAt y) y
+  unfolding paintBy
+  paint-by-on (pos y) from low =
       let here : floor0 (pos y) ≡ y = omega arith in
       rw (here, lt-ltb y H (omega arith))
-  paint-row-on (negsuc y) from low = absurd (omega (arith, int))
+  paint-by-on (negsuc y) from low = absurd (omega (arith, int))
 
   module _ (y : ℤ) (from : ltZ y (pos 0) ≡ false) (low : floor0 y < H) where
-    pub paint-row-runs : (runs : StyledScanline) → styledRow (item .figure) (item .style) y ≡ Runs runs
-        → paintRow drawing W H item y canvas ≡ overpaintAt W (floor0 y) (item .style) runs canvas
-    paint-row-runs runs is = paint-row-on y from low ∙ ap (λ (row : StyledRow). rowBy row y) is
+    pub paint-by-runs : (runs : StyledScanline) → rowAt y ≡ Runs runs
+        → paintBy rowAt style W H y canvas ≡ overpaintAt W (floor0 y) style runs canvas
+    paint-by-runs runs is = paint-by-on y from low ∙ ap (λ (row : StyledRow). with row y) is
 
-    pub paint-row-lacking : styledRow (item .figure) (item .style) y ≡ NoRow → paintRow drawing W H item y canvas ≡ canvas
-    paint-row-lacking is =
-        paint-row-on y from low ∙ ap (λ (row : StyledRow). rowBy row y) is ∙ put-row-same W (floor0 y) canvas
+    pub paint-by-lacking : rowAt y ≡ NoRow → paintBy rowAt style W H y canvas ≡ canvas
+    paint-by-lacking is =
+        paint-by-on y from low ∙ ap (λ (row : StyledRow). with row y) is ∙ put-row-same W (floor0 y) canvas

@@ -1,20 +1,24 @@
 -- The drawing of demand 3: figures with their styles, their rows and what those make of a canvas row, for the definitions of `book`.
 -- Assumes nothing.
 use mathlib.Core.Path.{_≡_}
+use mathlib.Core.Bool.{cond}
 use mathlib.Core.List.{List}
 use Prim.Native.Nat.{ℕ}
-use lib.IntN.{ℤ}
+use lib.Dec.{ltb}
+use lib.IntN.{ℤ, pos, negsuc}
 use lib.ListN.{length}
 use Rattle.geometry.specs.declared.refusal.Checked.{Checked}
 use Rattle.geometry.specs.declared.refusal.Checked.the-variants as checked
 use Rattle.geometry.specs.Limits.{maxCanvasSide}
 use Rattle.geometry.specs.Limits.{maxLayers as Limits·maxLayers}
 use Rattle.geometry.specs.Refusal.{number, orElse}
+use Rattle.scanline.specs.declared.StyledRow.{StyledRow}
 use Rattle.figure.specs.declared.Figure.{Figure}
 use Rattle.figure.specs.Calls.{figureCheck}
 use Rattle.style.specs.declared.Style.{Style}
 use Rattle.style.specs.Style.{styleCheck}
 use Rattle.styled.specs.Styled.{styledRow}
+use Rattle.book.specs.Canvas.{canvasRow, putRow}
 use Rattle.book.specs.Book.{Answer, accepted, refused, Drawing}
 use Rattle.canvas.specs.Canvas.{overpaint}
 use Rattle.canvas.proofs.Overpaint.{overpaint-length}
@@ -40,6 +44,12 @@ answerOf (checked.Refused refusal) = refused (number refusal)
 -- a canvas row overpainted by the styled row at y ('The book')
 unfoldable pub overpaintBy : StyledFigure → ℤ → List ℕ → List ℕ
 overpaintBy item y row = overpaint (item .style) (styledRow (item .figure) (item .style) y) row
+
+-- a canvas with its row y, if it has that row, overpainted by the styled row there of any figure, given by its rows
+unfoldable pub paintBy : (ℤ → StyledRow) → Style → ℕ → ℕ → ℤ → List ℕ → List ℕ
+paintBy rowAt style W H (pos y) canvas =
+    cond (ltb y H) (putRow W y (overpaint style (rowAt (pos y)) (canvasRow W y canvas)) canvas) canvas
+paintBy rowAt style W H (negsuc y) canvas = canvas
 
 -- it sets bytes in place
 pub overpaint-by-length : (item : StyledFigure) (y : ℤ) (row : List ℕ) → length (overpaintBy item y row) ≡ length row

@@ -7,9 +7,11 @@ use geometry::rectangle::Rectangle;
 use geometry::refusal::Checked;
 use scanline::StyledRow;
 use style::Style;
+use styled_shape::RowHints;
+use styled_shape::StyledShape;
+use styled_shape::no_hints;
 ghost use mathlib.Core.Path.{_≡_};
 ghost use Prim.Native.Nat.{_*_, _≤_};
-ghost use lib.IntN.{ℤ};
 ghost use lib.ListN.{length};
 ghost use Rattle.signed.specs.Signed.{Near};
 ghost use Rattle.geometry.specs.Bounds.{widePoint, wideSide};
@@ -17,8 +19,9 @@ ghost use Rattle.geometry.specs.Rectangle.{offset as Rectangle·offset};
 ghost use Rattle.corner_radii.specs.Bounds.{wideStrokeSide};
 ghost use Rattle.figure.specs.Bounds.{wideOffset, wideAreaPosition, OwnRectangle, OwnFigure};
 ghost use Rattle.book.specs.Sheet.{paintRow as Sheet·paintRow};
+ghost use Rattle.styled_shape.specs.Ready.{rowOf, Ready};
 ghost use Rattle.drawing.specs.Rows.{boxRows, ellipseRows, strokeRows};
-ghost use Rattle.drawing.specs.Drawing.{styledCheck, styledFigure, drawing};
+ghost use Rattle.drawing.specs.Drawing.{styledCheck, styledFigure, paintBy, drawing};
 
 // The rows of a stroke area: the first, or its top if it has none, and how many there are.
 pub struct StrokeRows {
@@ -77,6 +80,39 @@ pub fn stroke_rows(figure: Figure, style: Style) -> StrokeRows
     }
 }
 
+// Paints the row at y of a figure made ready, if the canvas has that row, and answers the hints for
+// the row after it.
+pub fn paint_shape_row(
+    canvas: &mut [u8],
+    size: CanvasSize,
+    shape: StyledShape,
+    style: Style,
+    y: i32,
+    hints: RowHints,
+) -> RowHints
+    requires { ⌜ length (now canvas) ≡ size .width * size .height ⌝ }
+    requires { ⌜ size .width ≤ wideSide ⌝ }
+    requires { ⌜ Ready shape ⌝ }
+    requires { ⌜ Near widePoint y ⌝ }
+    ensures { λ _. ⌜ now (canvas .exit) ≡ paintBy (rowOf shape) style (size .width) (size .height) y (now (canvas .entry)) ⌝ }
+{
+    if y < 0 {
+        return hints;
+    }
+    let place = signed::floor0(y);
+    if size.height <= place {
+        return hints;
+    }
+    let found = shape.row(y, hints);
+    let row = found.row;
+    let next = found.hints;
+    let StyledRow::Runs(runs) = row else {
+        return next;
+    };
+    canvas::paint_row_at(canvas, size.width, place, runs, style);
+    next
+}
+
 // Paints the figure's row at y, if the canvas has that row.
 pub fn paint_row(canvas: &mut [u8], size: CanvasSize, figure: Figure, style: Style, y: i32)
     requires { ⌜ length (now canvas) ≡ size .width * size .height ⌝ }
@@ -86,15 +122,6 @@ pub fn paint_row(canvas: &mut [u8], size: CanvasSize, figure: Figure, style: Sty
     requires { ⌜ Near widePoint y ⌝ }
     ensures { λ _. ⌜ now (canvas .exit) ≡ Sheet·paintRow drawing (size .width) (size .height) (styledFigure figure style) y (now (canvas .entry)) ⌝ }
 {
-    if y < 0 {
-        return;
-    }
-    let row = signed::floor0(y);
-    if size.height <= row {
-        return;
-    }
-    let StyledRow::Runs(runs) = styled::row_at(figure, style, y) else {
-        return;
-    };
-    canvas::paint_row_at(canvas, size.width, row, runs, style);
+    let shape = styled::ready(figure, style);
+    let _ = paint_shape_row(canvas, size, shape, style, y, no_hints());
 }

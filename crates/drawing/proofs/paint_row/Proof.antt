@@ -1,110 +1,41 @@
--- `drawing::paint_row` meets its contract: by where the row lies, and by what the figure has there.
+-- `drawing::paint_row` meets its contract: the rows of the figure made ready are the definition's.
 -- Assumes nothing.
 use native.Mathlib.Omega.{arith}
 use Rattle.signed.proofs.Laws.{int}
 use borrow.Author.Needs.{needs}
-use mathlib.Core.Path.{_≡_, sym, ap, subst, _∙_}
-use mathlib.Core.Bool.{false}
-use Prim.Native.Nat.{_<_}
-use lib.IntN.{pos}
-use lib.Signed.{ltZ}
+use mathlib.Core.Path.{ap, _∙_}
+use lib.IntN.{ℤ}
 use mir.Facts.{toZ-ofZ}
-use Rattle.signed.specs.Signed.{floor0}
-use Rattle.styled.specs.Styled.{styledRow}
-use Rattle.book.proofs.Whole.{paint-row-above, paint-row-below}
-use Rattle.drawing.specs.Drawing.{styledFigure, drawing}
-use Rattle.drawing.proofs.PaintRow.{paint-row-runs, paint-row-lacking}
-use mathlib.Core.Bool.{true, false}
-use Prim.Native.Nat.{ℕ, _<_}
-use lib.IntN.{ℤ, pos}
-use mir.Syntax.{w32}
-use mir.Val.{toZ, ofZ}
-use Rattle.book.proofs.CanvasRows.{row-within}
-use Rattle.canvas.specs.Canvas.{overpaintAt}
+use Rattle.styled_shape.specs.Ready.{rowOf}
+use Rattle.drawing.specs.Drawing.{paintBy}
+use Rattle.drawing.proofs.PaintRow.{paint-by-figure}
 use Rattle.drawing.proofs.paint_row.Statement.{statement}
 use Rattle.drawing.proofs.paint_row.Tie as tie
 
--- the asked row as it is held is the asked row
-row-held : (c : tie.Start) → toZ w32 (ofZ w32 (c .args .y)) ≡ c .args .y
-row-held c = toZ-ofZ (c .pre .1 .1 .1 .1 .fits)
+ready-requires : tie.Need-ready-requires
+ready-requires c κs = search needs
 
--- on the canvas: not above it, and not below it
-not-above : (c : tie.Else1) → ltZ (c .before .before .args .y) (pos 0) ≡ false
-not-above c = subst (λ (z : ℤ). ltZ z (pos 0) ≡ false) (row-held (c .before .before)) (c .if1 .left)
+no-hints-requires : tie.Need-no-hints-requires
+no-hints-requires c κs = search needs
 
-place-is : (c : tie.After-floor0) → c .floor0 .result ≡ floor0 (c .before .before .before .args .y)
-place-is c = c .floor0 .ensures ∙ ap (λ (z : ℤ). floor0 z) (row-held (c .before .before .before))
-
-not-below : (c : tie.Else2) → floor0 (c .before .before .before .before .before .args .y) < c .before .before .before .before .before .args .size .height
-not-below c =
-    let left = c .if2 .left in
-    omega (arith, place-is (c .before .before))
-
--- the styled row asked for
-row-is : (c : tie.After-row-at)
-    → styledRow (c .before .before .before .before .before .before .args .figure) (c .before .before .before .before .before .before .args .style) (c .before .before .before .before .before .before .args .y)
-    ≡ c .row-at .result
-row-is c =
-    let entry = c .before .before .before .before .before .before in
-    sym (c .row-at .ensures ∙ ap (styledRow (entry .args .figure) (entry .args .style)) (row-held entry))
-
-returns : tie.Need-returns
-returns c =
-    let entry = c .before .before in
-    sym (paint-row-above drawing (entry .args .size .width) (entry .args .size .height) (styledFigure (entry .args .figure) (entry .args .style)) (entry .args .y) (entry .args .canvas .now) (subst (λ (z : ℤ). ltZ z (pos 0) ≡ true) (row-held entry) (c .if1 .taken)))
-
-floor0-requires : tie.Need-floor0-requires
-floor0-requires c κs = search needs
-
-returns-2 : tie.Need-returns-2
-returns-2 c =
-    let entry = c .before .before .before .before .before in
-    let past = c .if2 .taken in
-    sym (paint-row-below drawing (entry .args .size .width) (entry .args .size .height) (styledFigure (entry .args .figure) (entry .args .style)) (entry .args .y) (entry .args .canvas .now) (omega (arith, int, place-is (c .before .before), not-above (c .before .before .before))))
-
-row-at-requires : tie.Need-row-at-requires
-row-at-requires c κs = search needs
-
-enum-known-runs : tie.Need-enum-known-runs
-enum-known-runs c = search needs
-
-enum-told : tie.Need-enum-told
-enum-told c = search needs
-
-returns-3 : tie.Need-returns-3
-returns-3 c =
-    let entry = c .before .before .before .before .before .before .before .before in
-    sym (paint-row-lacking (entry .args .size .width) (entry .args .size .height) (styledFigure (entry .args .figure) (entry .args .style)) (entry .args .canvas .now) (entry .args .y) (not-above (c .before .before .before .before .before .before)) (not-below (c .before .before .before)) (row-is (c .before .before) ∙ c .enum-told .given .1))
-
-paint-row-at-requires : tie.Need-paint-row-at-requires
-paint-row-at-requires c κs =
-    let entry = c .before .before .before .before .before .before .before .before .before .before in
-    let low = not-below (c .before .before .before .before .before) in
-    let low′ : c .before .before .before .before .before .before .before .floor0 .result < entry .args .size .height = omega (arith, place-is (c .before .before .before .before .before .before .before)) in
-    (entry .pre .1 .0, row-within (entry .args .size .width) (entry .args .size .height) _ (entry .args .canvas .now) low′ (entry .pre .0))
+paint-shape-row-requires : tie.Need-paint-shape-row-requires
+paint-shape-row-requires c κs =
+    let entry = c .before .before .before .before in
+    let near = entry .pre .1 .1 .1 .1 in
+    (entry .pre .0, (entry .pre .1 .0, (c .before .before .ready .ensures .0, rw (toZ-ofZ (near .fits)) near)))
 
 same-length : tie.Need-same-length
 same-length c = search needs
 
-returns-4 : tie.Need-returns-4
-returns-4 c =
-    let entry = c .before .before .before .before .before .before .before .before .before .before .before .before .before in
-    let runs = c .before .before .before .before .before .runs .given .0 .0 in
-    c .before .before .paint-row-at .ensures
-    ∙ ap (λ (n : ℕ). overpaintAt (entry .args .size .width) n (entry .args .style) runs (entry .args .canvas .now)) (place-is (c .before .before .before .before .before .before .before .before .before .before))
-    ∙ sym (paint-row-runs (entry .args .size .width) (entry .args .size .height) (styledFigure (entry .args .figure) (entry .args .style)) (entry .args .canvas .now) (entry .args .y) (not-above (c .before .before .before .before .before .before .before .before .before .before .before)) (not-below (c .before .before .before .before .before .before .before .before)) runs (row-is (c .before .before .before .before .before .before .before) ∙ c .before .before .before .before .before .runs .given .1))
+returns : tie.Need-returns
+returns c =
+    let a = c .before .before .before .before .before .before .before .args in
+    let shape = c .before .before .before .before .before .ready .result in
+    c .before .before .paint-shape-row .ensures
+    ∙ ap (λ (z : ℤ). paintBy (rowOf shape) (a .style) (a .size .width) (a .size .height) z (a .canvas .now)) (toZ-ofZ (c .before .before .before .before .before .before .before .pre .1 .1 .1 .1 .fits))
+    ∙ paint-by-figure (rowOf shape) (a .style) (a .size .width) (a .size .height) (a .canvas .now) (a .figure) (c .before .before .before .before .before .ready .ensures .1) (a .y)
 
 pub paint-row-spec : {M : Type 1} → statement M
 paint-row-spec =
     tie.close
-    (tie.spec
-    returns
-    floor0-requires
-    returns-2
-    row-at-requires
-    enum-known-runs
-    enum-told
-    returns-3
-    paint-row-at-requires
-    same-length
-    returns-4)
+    (tie.spec ready-requires no-hints-requires paint-shape-row-requires same-length returns)

@@ -1,0 +1,104 @@
+-- `drawing::paint_shape_row` meets its contract: by where the row lies, and by what the figure has there.
+-- Assumes nothing.
+use native.Mathlib.Omega.{arith}
+use Rattle.signed.proofs.Laws.{int}
+use borrow.Author.Needs.{needs}
+use mathlib.Core.Path.{_≡_, sym, ap, subst, _∙_}
+use mathlib.Core.Bool.{true, false}
+use Prim.Native.Nat.{ℕ, _≤_, _<_}
+use lib.IntN.{ℤ, pos}
+use lib.Signed.{ltZ}
+use mir.Facts.{toZ-ofZ}
+use mir.Syntax.{w32}
+use mir.Val.{toZ, ofZ}
+use Rattle.signed.specs.Signed.{floor0}
+use Rattle.book.proofs.CanvasRows.{row-within}
+use Rattle.canvas.specs.Canvas.{overpaintAt}
+use Rattle.styled_shape.specs.Ready.{rowOf}
+use Rattle.drawing.proofs.PaintRow.{paint-by-above, paint-by-below, paint-by-runs, paint-by-lacking}
+use Rattle.drawing.proofs.paint_shape_row.Statement.{statement}
+use Rattle.drawing.proofs.paint_shape_row.Tie as tie
+
+-- the asked row as it is held is the asked row
+row-held : (c : tie.Start) → toZ w32 (ofZ w32 (c .args .y)) ≡ c .args .y
+row-held c = toZ-ofZ (c .pre .1 .1 .1 .fits)
+
+-- on the canvas: not above it, and not below it
+not-above : (c : tie.Else1) → ltZ (c .before .before .args .y) (pos 0) ≡ false
+not-above c = subst (λ (z : ℤ). ltZ z (pos 0) ≡ false) (row-held (c .before .before)) (c .if1 .left)
+
+place-is : (c : tie.After-floor0) → c .floor0 .result ≡ floor0 (c .before .before .before .args .y)
+place-is c = c .floor0 .ensures ∙ ap (λ (z : ℤ). floor0 z) (row-held (c .before .before .before))
+
+not-below : (c : tie.Else2) → floor0 (c .before .before .before .before .before .args .y) < c .before .before .before .before .before .args .size .height
+not-below c =
+    let left = c .if2 .left in
+    omega (arith, place-is (c .before .before))
+
+-- the styled row asked for
+row-is : (c : tie.After-row) → rowOf (c .before .before .before .before .before .before .args .shape) (c .before .before .before .before .before .before .args .y) ≡ c .row .result .row
+row-is c = sym (c .row .ensures ∙ ap (rowOf (c .before .before .before .before .before .before .args .shape)) (row-held (c .before .before .before .before .before .before)))
+
+returns : tie.Need-returns
+returns c =
+    let entry = c .before .before in
+    let a = entry .args in
+    sym (paint-by-above (rowOf (a .shape)) (a .style) (a .size .width) (a .size .height) (a .canvas .now) (a .y) (subst (λ (z : ℤ). ltZ z (pos 0) ≡ true) (row-held entry) (c .if1 .taken)))
+
+floor0-requires : tie.Need-floor0-requires
+floor0-requires c κs = search needs
+
+returns-2 : tie.Need-returns-2
+returns-2 c =
+    let a = c .before .before .before .before .before .args in
+    let past = c .if2 .taken in
+    sym (paint-by-below (rowOf (a .shape)) (a .style) (a .size .width) (a .size .height) (a .canvas .now) (a .y) (not-above (c .before .before .before)) (omega (arith, place-is (c .before .before))))
+
+row-requires : tie.Need-row-requires
+row-requires c κs =
+    let near = c .before .before .before .before .before .pre .1 .1 .1 in
+    (c .before .before .before .before .before .pre .1 .1 .0, rw (toZ-ofZ (near .fits)) near)
+
+enum-known-row : tie.Need-enum-known-row
+enum-known-row c = search needs
+
+enum-told : tie.Need-enum-told
+enum-told c = search needs
+
+returns-3 : tie.Need-returns-3
+returns-3 c =
+    let a = c .before .before .before .before .before .before .before .before .before .args in
+    sym (paint-by-lacking (rowOf (a .shape)) (a .style) (a .size .width) (a .size .height) (a .canvas .now) (a .y) (not-above (c .before .before .before .before .before .before .before)) (not-below (c .before .before .before .before)) (row-is (c .before .before .before) ∙ c .enum-told .given .1))
+
+paint-row-at-requires : tie.Need-paint-row-at-requires
+paint-row-at-requires c κs =
+    let entry = c .before .before .before .before .before .before .before .before .before .before .before in
+    let low = not-below (c .before .before .before .before .before .before) in
+    let place-low : c .before .before .before .before .before .before .before .before .floor0 .result < entry .args .size .height = omega (arith, place-is (c .before .before .before .before .before .before .before .before)) in
+    (entry .pre .1 .0, row-within (entry .args .size .width) (entry .args .size .height) _ (entry .args .canvas .now) place-low (entry .pre .0))
+
+same-length : tie.Need-same-length
+same-length c = search needs
+
+returns-4 : tie.Need-returns-4
+returns-4 c =
+    let a = c .before .before .before .before .before .before .before .before .before .before .before .before .before .before .args in
+    let runs = c .before .before .before .before .before .row2 .given .0 .0 in
+    c .before .before .paint-row-at .ensures
+    ∙ ap (λ (n : ℕ). overpaintAt (a .size .width) n (a .style) runs (a .canvas .now)) (place-is (c .before .before .before .before .before .before .before .before .before .before .before))
+    ∙ sym (paint-by-runs (rowOf (a .shape)) (a .style) (a .size .width) (a .size .height) (a .canvas .now) (a .y) (not-above (c .before .before .before .before .before .before .before .before .before .before .before .before)) (not-below (c .before .before .before .before .before .before .before .before .before)) runs (row-is (c .before .before .before .before .before .before .before .before) ∙ c .before .before .before .before .before .row2 .given .1))
+
+pub paint-shape-row-spec : {M : Type 1} → statement M
+paint-shape-row-spec =
+    tie.close
+    (tie.spec
+    returns
+    floor0-requires
+    returns-2
+    row-requires
+    enum-known-row
+    enum-told
+    returns-3
+    paint-row-at-requires
+    same-length
+    returns-4)
