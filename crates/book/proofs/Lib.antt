@@ -16,4 +16,5 @@ pub mod Picture
 pub mod Demand3
 pub mod OneMoreCall
 pub mod Whole
+pub mod WholeRows
 pub mod Examples

@@ -2,10 +2,10 @@
 -- means that a sheet with that one layer comes to the same bytes.
 -- Assumes nothing.
 use mathlib.Core.Path.{_≡_}
-use mathlib.Core.List.{List, [], _∷_}
+use mathlib.Core.List.{List, [], _∷_, _++_}
 use Prim.Native.Nat.{ℕ, zero, suc}
 use lib.IntN.{ℤ, pos, _+ℤ_}
-use lib.ListN.{replicate}
+use lib.ListN.{take, drop, replicate}
 use Rattle.book.specs.Book.{accepted, Drawing, Call, add, paint, endRow}
 use Rattle.book.specs.Sheet.{paintRow, answers, afterAll, opened}
 
@@ -18,6 +18,13 @@ module _ (d : Drawing) where
   -- The whole item: all its rows from the first on ("Sheet", last paragraph).
   abbrev pub paintWhole : ℕ → ℕ → d .Item → List ℕ → List ℕ
   paintWhole W H item canvas = paintRows W H item (d .first item) (d .rows item) canvas
+
+  -- n canvas rows from row y down, each overpainted by the item's styled row there ("The book"): what the one call makes of
+  -- a canvas, row by row. The law `whole-by-rows` (proofs/Whole.antt) says that it is the same as `paintWhole`.
+  unfoldable pub overpaintRows : ℕ → d .Item → ℕ → ℕ → List ℕ → List ℕ
+  overpaintRows W item y zero canvas = canvas
+  overpaintRows W item y (suc n) canvas =
+      d .over item (pos y) (take W canvas) ++ overpaintRows W item (suc y) n (drop W canvas)
 
   -- The calls by which a sheet with that one layer is painted to the end ("Sheet", last paragraph): the item is added,
   -- and layer 0 is painted as often as it has rows.

@@ -19,7 +19,7 @@ use Rattle.scanline.specs.Places.{findFrom, Placed}
 use Rattle.scanline.specs.Points.{runLength}
 use Rattle.scanline.proofs.Columns.{fromLeft, first-from-left}
 use Rattle.ellipse.specs.declared.EllipseContains.{EllipseContains}
-use Rattle.ellipse.specs.Ellipse.{insideAbout, row}
+use Rattle.ellipse.specs.Ellipse.{insideAbout}
 use Rattle.ellipse.specs.Relative.{gap, containsOf, columnInside, firstInside, firstRowInside, mirroredRun}
 use Rattle.ellipse.proofs.Rows.{inside-about-at, rowAt, row-out, row-lacking, row-placed, first-inside-half}
 use Rattle.ellipse_styled.specs.EllipseStyled.{aroundFill, styledBy, fillFrom, ellipseFill, ellipseStyledRow}

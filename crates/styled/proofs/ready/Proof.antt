@@ -1,7 +1,5 @@
 -- `styled::ready` meets its contract: the shapes are those of both areas.
 -- Assumes nothing.
-use native.Mathlib.Omega.{arith}
-use Rattle.signed.proofs.Laws.{int}
 use borrow.Author.Needs.{needs}
 use mathlib.Core.Path.{_∙_}
 use Rattle.styled_shape.specs.StyledRow.{styledRowOfShapes}

@@ -1,7 +1,5 @@
 -- `styled_shape::ellipse_row` meets its contract: the row is the ellipse's own.
 -- Assumes nothing.
-use native.Mathlib.Omega.{arith}
-use Rattle.signed.proofs.Laws.{int}
 use borrow.Author.Needs.{needs}
 use mathlib.Core.Path.{ap, _∙_}
 use mir.Facts.{toZ-ofZ}

@@ -1,8 +1,5 @@
 -- `StyledBox::new` meets its contract: each test made ready has the size and the radii of its area.
 -- Assumes nothing.
-use native.Mathlib.Omega.{arith}
-use Rattle.signed.proofs.Laws.{int}
-use borrow.Author.Needs.{needs}
 use mathlib.Core.Path.{sym}
 use Rattle.figure.proofs.Within.{area-box-bounded}
 use Rattle.styled_shape.proofs.StyledBox.new.Statement.{statement}

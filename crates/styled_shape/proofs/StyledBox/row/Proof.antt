@@ -1,15 +1,12 @@
 -- `StyledBox::row` meets its contract: the place of the asked row says whether there is one, the insets give the stroke area's run, and
 -- that keeps to the area's columns, so its fill can be looked for.
 -- Assumes nothing.
-use native.Mathlib.Omega.{arith}
-use Rattle.signed.proofs.Laws.{int}
 use borrow.Author.Needs.{needs}
 use mathlib.Core.Path.{_≡_, sym, ap, subst, _∙_}
 use Prim.Native.Nat.{_<_, _≤_}
 use lib.IntN.{ℤ}
 use mir.Facts.{toZ-ofZ}
 use Rattle.geometry.specs.declared.Size.{Size}
-use Rattle.geometry.specs.declared.Range.{Range}
 use Rattle.scanline.specs.declared.Row.{Row}
 use Rattle.scanline.specs.declared.Row.the-variants.{Run}
 use Rattle.scanline.specs.declared.StyledRow.the-variants.{Runs}

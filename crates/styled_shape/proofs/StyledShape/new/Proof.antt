@@ -1,7 +1,5 @@
 -- `StyledShape::new` meets its contract: the kinds of both shapes say which case of `styledRowOfShapes` holds.
 -- Assumes nothing.
-use native.Mathlib.Omega.{arith}
-use Rattle.signed.proofs.Laws.{int}
 use borrow.Author.Needs.{needs}
 use mathlib.Core.Path.{sym, subst, _∙_}
 use Rattle.ellipse_styled.specs.EllipseStyled.{ellipseStyledRow}

@@ -1,0 +1,4 @@
+-- `Passed`: what a passed check says. `Painted`: painting all of a figure's rows one after another overpaints every canvas row, and
+-- the loop that does it.
+pub mod Passed
+pub mod Painted

@@ -1,0 +1,81 @@
+-- `paint::paint_figure` meets its contract: the checks made are those of the definition, in the table's order. Passed, they bound what
+-- is painted, and painting all rows overpaints every canvas row; a refusal is the checks' own, and nothing was painted.
+-- Assumes nothing.
+use borrow.Author.Needs.{needs}
+use native.Mathlib.Omega.{arith}
+use mathlib.Core.Path.{_≡_, refl, sym, ap₂, _∙_}
+use Rattle.geometry.specs.Refusal.{orElse}
+use Rattle.paint.specs.Paint.{paintCheck}
+use Rattle.paint.proofs.Passed.{PaintPassed, paint-passed}
+use Rattle.paint.proofs.Painted.{whole-is-painted}
+use Rattle.paint.proofs.paint_figure.Statement.{statement}
+use Rattle.paint.proofs.paint_figure.Tie as tie
+
+-- the check made is the definition's
+checked : (c : tie.After-or-else2) → c .or-else2 .result ≡ paintCheck (c .before .before .before .before .before .before .args .figure) (c .before .before .before .before .before .before .args .style) (c .before .before .before .before .before .before .args .width) (c .before .before .before .before .before .before .args .height) (c .before .before .before .before .before .before .args .canvas .now)
+unfolding paintCheck
+checked c =
+    c .or-else2 .ensures
+    ∙ ap₂ orElse (c .before .or-else .ensures ∙ ap₂ orElse (c .before .before .before .before .check .ensures) (c .before .before .before .check2 .ensures)) (c .before .before .check-length .ensures)
+
+-- once it has passed
+passed : (c : tie.After-enum-told) → PaintPassed (c .before .before .before .before .before .before .before .before .args .figure) (c .before .before .before .before .before .before .before .before .args .style) (c .before .before .before .before .before .before .before .before .args .width) (c .before .before .before .before .before .before .before .before .args .height) (c .before .before .before .before .before .before .before .before .args .canvas .now)
+passed c = paint-passed _ _ _ _ _ (sym (checked (c .before .before)) ∙ c .enum-told .given .1)
+
+check-requires : tie.Need-check-requires
+check-requires c κs = search needs
+
+check-requires-2 : tie.Need-check-requires-2
+check-requires-2 c κs = search needs
+
+check-length-requires : tie.Need-check-length-requires
+check-length-requires c κs = search needs
+
+or-else-requires : tie.Need-or-else-requires
+or-else-requires c κs = search needs
+
+or-else-requires-2 : tie.Need-or-else-requires-2
+or-else-requires-2 c κs = search needs
+
+enum-known-refusal : tie.Need-enum-known-refusal
+enum-known-refusal c = search needs
+
+enum-told : tie.Need-enum-told
+enum-told c = search needs
+
+paint-whole-requires : tie.Need-paint-whole-requires
+paint-whole-requires c κs =
+    let p = passed (c .before) in
+    let wide = p .sides .width-most in
+    let stroke = p .stroke in
+    (p .size, (omega arith, (p .figure, omega arith)))
+
+same-length : tie.Need-same-length
+same-length c = search needs
+
+returns : tie.Need-returns
+returns c =
+    let a = c .before .before .before .before .before .before .before .before .before .before .before .before .args in
+    let p = passed (c .before .before .before .before) in
+    rw (sym (checked (c .before .before .before .before .before .before)) ∙ c .before .before .before .before .enum-told .given .1)
+    (refl, c .before .before .paint-whole .ensures ∙ whole-is-painted (a .figure) (a .style) (a .width) (a .height) (a .canvas .now) (p .size))
+
+-- refused
+returns-2 : tie.Need-returns-2
+returns-2 c = rw (sym (checked (c .before .before .before)) ∙ c .before .refusal .given .1) (refl, refl)
+
+pub paint-figure-spec : {M : Type 1} → statement M
+paint-figure-spec =
+    tie.close
+    (tie.spec
+    check-requires
+    check-requires-2
+    check-length-requires
+    or-else-requires
+    or-else-requires-2
+    enum-known-refusal
+    enum-told
+    paint-whole-requires
+    same-length
+    returns
+    returns-2)
