@@ -9,10 +9,10 @@ use mir.Syntax.{w32}
 use mir.Val.{SFits, toZ, ofZ}
 use mir.Facts.{toZ-ofZ}
 use Rattle.geometry.specs.declared.Size.{Size}
-use Rattle.geometry.specs.declared.Range.{Range}
-use Rattle.geometry.specs.Range.{contains as Range·contains}
+use Rattle.range.specs.declared.Range.{Range}
+use Rattle.range.specs.Range.{contains as Range·contains}
 use Rattle.geometry.specs.Rectangle.{rows}
-use Rattle.geometry.proofs.Fields.{range-by-fields}
+use Rattle.range.proofs.Fields.{range-by-fields}
 use Rattle.scanline.specs.declared.Place.the-variants.{At, Nowhere}
 use Rattle.scanline.specs.Places.{Placed}
 use Rattle.scanline.proofs.Find.{FoundAt, find-none, found-at, found-none}

@@ -4,9 +4,9 @@
 // the ellipse does. That column is contained but where corners overlap; there the walk goes on.
 // Columns are counted from the fill area's left edge, and for the last one from its right edge.
 use ellipse::Hint;
-use geometry::Range;
 use geometry::Size;
 use geometry::rectangle::Rectangle;
+use range::Range;
 use rounded_rectangle::RoundedRectangleContains;
 use rounded_rectangle::ellipse_quadrant::EllipseQuadrant;
 use scanline::Place;

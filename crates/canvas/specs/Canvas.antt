@@ -6,8 +6,8 @@ use mathlib.Core.List.{List, [], _∷_}
 use Prim.Native.Nat.{ℕ, suc}
 use lib.IntN.{pos}
 use Rattle.book.specs.Canvas.{canvasRow, putRow}
-use Rattle.geometry.specs.declared.Range.{Range}
-use Rattle.geometry.specs.Range.{contains}
+use Rattle.range.specs.declared.Range.{Range}
+use Rattle.range.specs.Range.{contains}
 use Rattle.scanline.specs.declared.StyledScanline.{StyledScanline}
 use Rattle.scanline.specs.declared.StyledRow.{StyledRow}
 use Rattle.scanline.specs.declared.StyledRow.the-variants.{Runs, NoRow}

@@ -1,7 +1,7 @@
 // Styled rows painted onto the rows of a canvas, after the order in which the pixel iterators of
 // embedded-graphics 0.8.2 `ellipse/styled.rs` and `rounded_rectangle/styled.rs` give pixels: left
 // stroke, fill, right stroke. A canvas is lent bytes, so there is no `DrawTarget`.
-use geometry::Range;
+use range::Range;
 use scanline::StyledScanline;
 use style::Paint;
 use style::Style;

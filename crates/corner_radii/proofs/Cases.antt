@@ -6,8 +6,8 @@ use mathlib.Core.List.{List, [], _∷_, map}
 use Prim.Native.Nat.{ℕ}
 use lib.IntN.{ℤ, pos, negsuc}
 use Rattle.geometry.specs.declared.Size.{Size}
-use Rattle.geometry.specs.declared.refusal.Refusal.the-variants.{Radius}
-use Rattle.geometry.specs.declared.refusal.Checked.the-variants.{Passed, Refused}
+use Rattle.refusal.specs.declared.Refusal.the-variants.{Radius}
+use Rattle.refusal.specs.declared.Checked.the-variants.{Passed, Refused}
 use Rattle.corner_radii.specs.declared.CornerRadii.{CornerRadii}
 use Rattle.corner_radii.specs.declared.Edge.{Edge}
 use Rattle.corner_radii.specs.declared.Edges.{Edges}

@@ -7,10 +7,10 @@ use lib.Dec.{ltb, eqb}
 use lib.IntN.{ℤ, pos, _+ℤ_}
 use Rattle.signed.specs.Signed.{floor0}
 use Rattle.geometry.specs.declared.Size.{Size}
-use Rattle.geometry.specs.declared.refusal.Refusal.the-variants.{Radius}
-use Rattle.geometry.specs.declared.refusal.Checked.{Checked}
+use Rattle.refusal.specs.declared.Refusal.the-variants.{Radius}
+use Rattle.refusal.specs.declared.Checked.{Checked}
 use Rattle.geometry.specs.Limits.{maxRadius}
-use Rattle.geometry.specs.Refusal.{refuseIf, orElse, above}
+use Rattle.refusal.specs.Refusal.{refuseIf, orElse, above}
 use Rattle.corner_radii.specs.declared.CornerRadii.{CornerRadii}
 use Rattle.corner_radii.specs.declared.Edge.{Edge}
 use Rattle.corner_radii.specs.declared.Edges.{Edges}

@@ -4,9 +4,9 @@
 // decides and scales by it; the Rust keeps that edge in three mutable locals. The Rust's builder is
 // left out.
 use geometry::Size;
-use geometry::refusal::Checked;
-use geometry::refusal::Refusal;
-use geometry::refusal::refuse_above;
+use refusal::Checked;
+use refusal::Refusal;
+use refusal::refuse_above;
 ghost use mathlib.Core.Path.{_≡_};
 ghost use Prim.Native.Nat.{_<_, _≤_};
 ghost use Rattle.signed.specs.Signed.{Near};

@@ -2,9 +2,9 @@
 use crate::EllipseContains;
 use crate::first_inside;
 use crate::gap;
-use geometry::Range;
 use geometry::Size;
 use geometry::rectangle::Rectangle;
+use range::Range;
 use scanline::Place;
 use scanline::Row;
 ghost use mathlib.Core.Path.{_≡_};

@@ -2,7 +2,7 @@
 -- Assumes nothing.
 use lib.IntN.{ℤ, _-ℤ_}
 use Rattle.geometry.specs.declared.Size.{Size}
-use Rattle.geometry.specs.declared.Range.{Range}
+use Rattle.range.specs.declared.Range.{Range}
 use Rattle.geometry.specs.declared.rectangle.Rectangle.{Rectangle}
 use Rattle.scanline.specs.declared.Row.{Row}
 use Rattle.scanline.specs.declared.Row.the-variants as row-of

@@ -9,7 +9,7 @@ use lib.Signed.{leZ}
 use mir.Syntax.{w32}
 use Rattle.signed.specs.Signed.{Near}
 use Rattle.signed.proofs.Laws.{int, add-law, sub-law, fits-by-parts}
-use Rattle.geometry.specs.declared.Range.{Range}
+use Rattle.range.specs.declared.Range.{Range}
 use Rattle.geometry.specs.Bounds.{widePoint}
 use Rattle.scanline.specs.Points.{runLength, EndsWithin}
 use Rattle.corner_radii.specs.Bounds.{wideStrokeSide}

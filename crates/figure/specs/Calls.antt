@@ -5,8 +5,8 @@ use mathlib.Core.List.{List, [], _∷_, _++_}
 use lib.IntN.{ℤ, pos}
 use Rattle.geometry.specs.declared.Point.{Point}
 use Rattle.geometry.specs.declared.Size.{Size}
-use Rattle.geometry.specs.declared.refusal.Checked.{Checked}
-use Rattle.geometry.specs.Refusal.{number, orElse, Outcome, refused, answered, unless}
+use Rattle.refusal.specs.declared.Checked.{Checked}
+use Rattle.refusal.specs.Refusal.{number, orElse, Outcome, refused, answered, unless}
 use Rattle.geometry.specs.Calls.{rangeValues, rectangleValues, sizeCheck, positionCheck, rectangleCheck, askedCheck, pointCheck, offsetCheck}
 use Rattle.geometry.specs.Rectangle.{withCenter}
 use Rattle.scanline.specs.declared.Row.{Row}

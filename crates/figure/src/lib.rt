@@ -4,7 +4,7 @@
 // are for callers that have made the checks; those that a host calls are in calls.rt.
 use geometry::Point;
 use geometry::rectangle::Rectangle;
-use geometry::refusal::Checked;
+use refusal::Checked;
 use rounded_rectangle::RoundedRectangle;
 use scanline::Row;
 

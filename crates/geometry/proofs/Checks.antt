@@ -1,44 +1,26 @@
--- What a passed check says: each of the checks that it is made of has passed, so every number is within its limit.
+-- What a passed check of a rectangle, a point or an offset says: every number is within its limit.
 -- Assumes nothing.
 use mathlib.Core.Path.{_≡_, refl}
 use mathlib.Core.Bool.{Bool, true, false}
 use Prim.Native.Nat.{ℕ, _+_, _*_, _≤_}
 use native.Mathlib.Omega.{arith}
-use borrow.Author.Tests.{ltb-true, ltb-false, lt-ltb}
+use borrow.Author.Tests.{ltb-true, lt-ltb}
 use lib.IntN.{ℤ, pos, natAbs, _-ℤ_}
 use Rattle.signed.specs.Signed.{Near}
 use Rattle.signed.proofs.Laws.{near-within, sub-law, magnitude-law}
 use Rattle.geometry.specs.declared.Point.{Point}
 use Rattle.geometry.specs.declared.Size.{Size}
 use Rattle.geometry.specs.declared.rectangle.Rectangle.{Rectangle}
-use Rattle.geometry.specs.declared.refusal.Refusal.{Refusal}
-use Rattle.geometry.specs.declared.refusal.Refusal.the-variants.{Side, Position}
-use Rattle.geometry.specs.declared.refusal.Checked.{Checked}
-use Rattle.geometry.specs.declared.refusal.Checked.the-variants.{Passed, Refused}
+use Rattle.refusal.specs.declared.Refusal.{Refusal}
+use Rattle.refusal.specs.declared.Refusal.the-variants.{Side, Position}
+use Rattle.refusal.specs.declared.Checked.{Checked}
+use Rattle.refusal.specs.declared.Checked.the-variants.{Passed, Refused}
 use Rattle.geometry.specs.Limits.{maxSide, maxPosition, maxAsked, maxOffset}
 use Rattle.geometry.specs.Bounds.{widePoint, PointNear, SizeUpTo, Bounded}
 use Rattle.geometry.specs.Rectangle.{centerTerm, withCenter}
-use Rattle.geometry.specs.Refusal.{refuseIf, orElse, above, beyond}
+use Rattle.refusal.specs.Refusal.{refuseIf, orElse, above, beyond}
+use Rattle.refusal.proofs.Checks.{passed-first, passed-next, passed-above, passed-beyond}
 use Rattle.geometry.specs.Calls.{sizeCheck, positionCheck, rectangleCheck, centerCheck, askedCheck, pointCheck, offsetCheck}
-
--- ---- checks in general
-pub passed-first : (a b : Checked) → orElse a b ≡ Passed → a ≡ Passed
-passed-first (Refused refusal) b e = e
-passed-first Passed b e = refl
-
-pub passed-next : (a b : Checked) → orElse a b ≡ Passed → b ≡ Passed
-passed-next (Refused refusal) b e = let z : _≡_ {A = ℕ} 0 1 = cc in absurd (omega arith)
-passed-next Passed b e = e
-
-pub passed-condition : (t : Bool) (refusal : Refusal) → refuseIf t refusal ≡ Passed → t ≡ false
-passed-condition true refusal e = let z : _≡_ {A = ℕ} 0 1 = cc in absurd (omega arith)
-passed-condition false refusal e = refl
-
-pub passed-above : (limit n : ℕ) (refusal : Refusal) → refuseIf (above limit n) refusal ≡ Passed → n ≤ limit
-passed-above limit n refusal e = ltb-false limit n (passed-condition (above limit n) refusal e)
-
-pub passed-beyond : (limit : ℕ) (z : ℤ) (refusal : Refusal) → refuseIf (beyond limit z) refusal ≡ Passed → natAbs z ≤ limit
-passed-beyond limit z refusal e = passed-above limit (natAbs z) refusal e
 
 -- ---- the checks of a rectangle
 pub size-passed : (s : Size) → sizeCheck s ≡ Passed → SizeUpTo maxSide s

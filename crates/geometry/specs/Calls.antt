@@ -6,7 +6,7 @@ use Prim.Native.Nat.{_+_}
 use lib.IntN.{ℤ, pos}
 use Rattle.geometry.specs.declared.Point.{Point}
 use Rattle.geometry.specs.declared.Size.{Size}
-use Rattle.geometry.specs.declared.Range.{Range}
+use Rattle.range.specs.declared.Range.{Range}
 use Rattle.geometry.specs.declared.rectangle.Rectangle.{Rectangle}
 use Rattle.geometry.specs.declared.rectangle.PointAnswer.{PointAnswer}
 use Rattle.geometry.specs.declared.rectangle.PointAnswer.the-variants as point-answer
@@ -14,11 +14,11 @@ use Rattle.geometry.specs.declared.rectangle.RangeAnswer.{RangeAnswer}
 use Rattle.geometry.specs.declared.rectangle.RangeAnswer.the-variants as range-answer
 use Rattle.geometry.specs.declared.rectangle.RectangleAnswer.{RectangleAnswer}
 use Rattle.geometry.specs.declared.rectangle.RectangleAnswer.the-variants as rectangle-answer
-use Rattle.geometry.specs.declared.refusal.Refusal.the-variants.{Side, Position, Asked, Offset}
-use Rattle.geometry.specs.declared.refusal.Checked.{Checked}
+use Rattle.refusal.specs.declared.Refusal.the-variants.{Side, Position, Asked, Offset}
+use Rattle.refusal.specs.declared.Checked.{Checked}
 use Rattle.geometry.specs.Limits.{maxSide, maxPosition, maxAsked, maxOffset}
 use Rattle.geometry.specs.Rectangle.{center, withCenter, rows, columns, offset}
-use Rattle.geometry.specs.Refusal.{number, refuseIf, orElse, above, beyond, Outcome, refused, answered, unless}
+use Rattle.refusal.specs.Refusal.{number, refuseIf, orElse, above, beyond, Outcome, refused, answered, unless}
 
 -- a point's x and y
 abbrev pub pointValues : Point → List ℤ

@@ -2,9 +2,9 @@
 // allows, which is more than the limits do, so that a stroke area passes too. After
 // embedded-graphics 0.8.2 `rectangle/mod.rs` (`OffsetOutline`).
 use crate::Point;
-use crate::Range;
 use crate::Size;
 use crate::rectangle::Rectangle;
+use range::Range;
 ghost use mathlib.Core.Path.{_≡_};
 ghost use Prim.Native.Nat.{_*_, _≤_};
 ghost use Rattle.signed.specs.Signed.{Near};

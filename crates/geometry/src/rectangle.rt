@@ -1,15 +1,15 @@
 // The rectangle and the calls that a host makes on it, after embedded-graphics 0.8.2
 // `rectangle/mod.rs`. No call has a `requires`: out of limits it refuses by the lowest number.
 use crate::Point;
-use crate::Range;
 use crate::Size;
 use crate::bounded;
-use crate::refusal::Checked;
-use crate::refusal::Refusal;
-use crate::refusal::refuse_above;
-use crate::refusal::refuse_beyond;
+use range::Range;
+use refusal::Checked;
+use refusal::Refusal;
+use refusal::refuse_above;
+use refusal::refuse_beyond;
 ghost use mathlib.Core.Path.{_≡_};
-ghost use Rattle.geometry.specs.Refusal.{unless};
+ghost use Rattle.refusal.specs.Refusal.{unless};
 ghost use Rattle.geometry.specs.Calls.{sizeCheck, positionCheck, rectangleCheck, centerCheck, askedCheck, pointCheck, offsetCheck, rectangleValues, pointOutcome, rangeOutcome, rectangleOutcome, centerCall, rowsCall, columnsCall, withCenterCall, offsetCall};
 
 pub struct Rectangle {

@@ -5,10 +5,10 @@ use mathlib.Core.List.{List, _++_}
 use Prim.Native.Nat.{ℕ, _+_, _^_, _≤_, _<_}
 use native.Mathlib.Omega.{arith}
 use lib.ListN.{length, drop, length-append}
-use Rattle.geometry.specs.declared.refusal.Refusal.the-variants.{BufferLength}
-use Rattle.geometry.specs.declared.refusal.Checked.the-variants.{Passed}
-use Rattle.geometry.specs.Refusal.{orElse}
-use Rattle.geometry.proofs.Checks.{passed-next, passed-above}
+use Rattle.refusal.specs.declared.Refusal.the-variants.{BufferLength}
+use Rattle.refusal.specs.declared.Checked.the-variants.{Passed}
+use Rattle.refusal.specs.Refusal.{orElse}
+use Rattle.refusal.proofs.Checks.{passed-next, passed-above}
 use Rattle.canvas_size.specs.CanvasSize.{canvasSizeCheck, canvasLengthCheck}
 use Rattle.netpbm.specs.Netpbm.{decimal, header, p5, writeCheck, fileAfter}
 use Rattle.netpbm.proofs.Written.{sets-start}

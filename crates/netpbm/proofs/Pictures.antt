@@ -6,7 +6,7 @@ use mathlib.Core.List.{List, [], _∷_, _++_, map}
 use Prim.Native.Nat.{ℕ}
 use lib.IntN.{pos}
 use lib.ListN.{replicate}
-use Rattle.geometry.specs.Refusal.{refused, answered}
+use Rattle.refusal.specs.Refusal.{refused, answered}
 use Rattle.canvas_size.specs.CanvasSize.{canvasSizeCheck, canvasLengthCheck}
 use Rattle.netpbm.specs.Netpbm.{decimalUpTo, decimal, header, writeCheck, writeCall, fileAfter}
 

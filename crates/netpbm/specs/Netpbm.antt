@@ -7,8 +7,8 @@ use lib.Dec.{ltb}
 use lib.IntN.{pos}
 use lib.ListN.{length}
 use lib.Seq.{sets}
-use Rattle.geometry.specs.declared.refusal.Checked.{Checked}
-use Rattle.geometry.specs.Refusal.{number, orElse, Outcome, refused, answered, unless, keeping, roomCheck}
+use Rattle.refusal.specs.declared.Checked.{Checked}
+use Rattle.refusal.specs.Refusal.{number, orElse, Outcome, refused, answered, unless, keeping, roomCheck}
 use Rattle.netpbm.specs.declared.WriteAnswer.{WriteAnswer}
 use Rattle.netpbm.specs.declared.WriteAnswer.the-variants as write-answer
 use Rattle.canvas_size.specs.CanvasSize.{canvasSizeCheck, canvasLengthCheck}

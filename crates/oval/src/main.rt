@@ -3,11 +3,11 @@
 use figure::Figure;
 use figure::calls::RowAnswer;
 use geometry::Point;
-use geometry::Range;
 use geometry::Size;
 use geometry::rectangle::Rectangle;
 use libc::STDOUT_FILENO;
 use netpbm::WriteAnswer;
+use range::Range;
 use scanline::Row;
 use scanline::StyledScanline;
 use style::Paint;

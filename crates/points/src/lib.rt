@@ -3,10 +3,10 @@
 // writes.
 use figure::Figure;
 use figure::Shape;
-use geometry::Range;
-use geometry::refusal::Checked;
-use geometry::refusal::Refusal;
-use geometry::refusal::check_room;
+use range::Range;
+use refusal::Checked;
+use refusal::Refusal;
+use refusal::check_room;
 use scanline::Row;
 ghost use mathlib.Core.Path.{_≡_};
 ghost use Prim.Native.Nat.{_*_, _≤_};

@@ -7,9 +7,9 @@ use ellipse::Hint;
 use ellipse_quadrant::EllipseQuadrant;
 use ellipse_quadrant::in_quadrant;
 use geometry::Point;
-use geometry::Range;
 use geometry::Size;
 use geometry::rectangle::Rectangle;
+use range::Range;
 use scanline::Place;
 use scanline::Row;
 

@@ -6,7 +6,7 @@ use Prim.Native.Nat.{ℕ, _+_, _-_, max}
 use lib.IntN.{ℤ, pos, _+ℤ_, _-ℤ_}
 use mir.Facts.{toZ-ofZ}
 use Rattle.geometry.specs.declared.Size.{Size}
-use Rattle.geometry.proofs.Fields.{range-by-fields}
+use Rattle.range.proofs.Fields.{range-by-fields}
 use Rattle.scanline.specs.declared.Place.{Place}
 use Rattle.scanline.specs.declared.Place.the-variants.{At}
 use Rattle.corner_radii.specs.declared.CornerRadii.{CornerRadii}

@@ -8,8 +8,8 @@ use native.Mathlib.Omega.{arith}
 use borrow.Author.Needs.{needs}
 use lib.IntN.{pos}
 use lib.ListN.{length}
-use Rattle.geometry.specs.Refusal.{orElse, answered}
-use Rattle.geometry.specs.Refusal.{roomCheck}
+use Rattle.refusal.specs.Refusal.{orElse, answered}
+use Rattle.refusal.specs.Refusal.{roomCheck}
 use Rattle.netpbm.specs.Netpbm.{writeCheck}
 use Rattle.netpbm.proofs.Header.{length-header-u32, length-p5, write-passed-room}
 use Rattle.netpbm.proofs.write_p5.Statement.{statement}

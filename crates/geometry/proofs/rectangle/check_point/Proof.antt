@@ -4,7 +4,7 @@ use mathlib.Core.Path.{ap, ap₂, _∙_}
 use mir.Syntax.{w32}
 use mir.Val.{SFits}
 use mir.Facts.{toZ-ofZ}
-use Rattle.geometry.specs.Refusal.{orElse}
+use Rattle.refusal.specs.Refusal.{orElse}
 use Rattle.geometry.specs.Calls.{askedCheck, pointCheck}
 use borrow.Author.Needs.{needs}
 use Rattle.geometry.proofs.rectangle.check_point.Statement.{statement}

@@ -5,9 +5,9 @@ use lib.IntN.{ℤ}
 use mir.Syntax.{w32}
 use mir.Val.{SFits}
 use mir.Facts.{toZ-ofZ}
-use Rattle.geometry.specs.declared.refusal.Refusal.the-variants.{Position}
+use Rattle.refusal.specs.declared.Refusal.the-variants.{Position}
 use Rattle.geometry.specs.Limits.{maxPosition}
-use Rattle.geometry.specs.Refusal.{refuseIf, orElse, beyond}
+use Rattle.refusal.specs.Refusal.{refuseIf, orElse, beyond}
 use Rattle.geometry.specs.Calls.{positionCheck}
 use borrow.Author.Needs.{needs}
 use Rattle.geometry.proofs.rectangle.check_position.Statement.{statement}

@@ -2,7 +2,7 @@
 -- Assumes nothing.
 use mathlib.Core.Path.{sym, ap, _∙_}
 use Rattle.geometry.specs.declared.Point.{Point}
-use Rattle.geometry.specs.Refusal.{answered}
+use Rattle.refusal.specs.Refusal.{answered}
 use Rattle.geometry.specs.Calls.{pointValues}
 use Rattle.geometry.proofs.Checks.{rectangle-bounded}
 use borrow.Author.Needs.{needs}

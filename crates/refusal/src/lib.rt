@@ -1,7 +1,7 @@
 // The refusals of document 01's table, and the checks that lead to them. A call makes its checks in
 // the table's order, so the first that fails gives the lowest number that applies.
 ghost use mathlib.Core.Path.{_≡_};
-ghost use Rattle.geometry.specs.Refusal.{number as Refusal·number, refuseIf, orElse, above, beyond, roomCheck};
+ghost use Rattle.refusal.specs.Refusal.{number as Refusal·number, refuseIf, orElse, above, beyond, roomCheck};
 
 pub enum Refusal {
     // A side above the limit.

@@ -1,8 +1,8 @@
--- `geometry::refusal::refuse_above` meets its contract: the test is the definition's own.
+-- `refusal::refuse_above` meets its contract: the test is the definition's own.
 -- Assumes nothing.
 use borrow.Author.Tests.{lt-ltb, le-ltb}
-use Rattle.geometry.proofs.refusal.refuse_above.Statement.{statement}
-use Rattle.geometry.proofs.refusal.refuse_above.Tie as tie
+use Rattle.refusal.proofs.refuse_above.Statement.{statement}
+use Rattle.refusal.proofs.refuse_above.Tie as tie
 
 returns : tie.Need-returns
 returns c = rw (lt-ltb _ _ (c .if1 .taken))

@@ -1,8 +1,8 @@
--- `geometry::refusal::check_room` meets its contract: the test is the definition's own.
+-- `refusal::check_room` meets its contract: the test is the definition's own.
 -- Assumes nothing.
 use borrow.Author.Tests.{lt-ltb, le-ltb}
-use Rattle.geometry.proofs.refusal.check_room.Statement.{statement}
-use Rattle.geometry.proofs.refusal.check_room.Tie as tie
+use Rattle.refusal.proofs.check_room.Statement.{statement}
+use Rattle.refusal.proofs.check_room.Tie as tie
 
 returns : tie.Need-returns
 returns c = rw (lt-ltb _ _ (c .if1 .taken))

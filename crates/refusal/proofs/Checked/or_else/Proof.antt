@@ -1,8 +1,8 @@
--- `geometry::refusal::Checked::or_else` meets its contract: the variant matched is the case of `orElse`.
+-- `refusal::Checked::or_else` meets its contract: the variant matched is the case of `orElse`.
 -- Assumes nothing.
 use borrow.Author.Needs.{needs}
-use Rattle.geometry.proofs.refusal.Checked.or_else.Statement.{statement}
-use Rattle.geometry.proofs.refusal.Checked.or_else.Tie as tie
+use Rattle.refusal.proofs.Checked.or_else.Statement.{statement}
+use Rattle.refusal.proofs.Checked.or_else.Tie as tie
 
 enum-known-self : tie.Need-enum-known-self
 enum-known-self c = search needs

@@ -1,4 +1,4 @@
--- `geometry::Range::contains` meets its contract: the first test decides, or else the second does.
+-- `range::Range::contains` meets its contract: the first test decides, or else the second does.
 -- Assumes nothing.
 use mathlib.Core.Path.{_≡_}
 use mathlib.Core.Bool.{true, false}
@@ -8,8 +8,8 @@ use mir.Val.{SFits}
 use borrow.Author.Needs.{needs}
 use native.Mathlib.Omega.{arith}
 use Rattle.signed.proofs.Laws.{int, tests-agree}
-use Rattle.geometry.proofs.Range.contains.Statement.{statement}
-use Rattle.geometry.proofs.Range.contains.Tie as tie
+use Rattle.range.proofs.Range.contains.Statement.{statement}
+use Rattle.range.proofs.Range.contains.Tie as tie
 
 returns : tie.Need-returns
 returns c =

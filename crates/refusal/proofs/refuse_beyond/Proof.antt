@@ -1,13 +1,13 @@
--- `geometry::refusal::refuse_beyond` meets its contract: the magnitude is above the limit exactly where the number is beyond it.
+-- `refusal::refuse_beyond` meets its contract: the magnitude is above the limit exactly where the number is beyond it.
 -- Assumes nothing.
 use mathlib.Core.Path.{ap, _∙_}
 use Prim.Native.Nat.{ℕ}
 use lib.IntN.{natAbs}
 use mir.Facts.{toZ-ofZ}
-use Rattle.geometry.specs.Refusal.{refuseIf, above}
+use Rattle.refusal.specs.Refusal.{refuseIf, above}
 use borrow.Author.Needs.{needs}
-use Rattle.geometry.proofs.refusal.refuse_beyond.Statement.{statement}
-use Rattle.geometry.proofs.refusal.refuse_beyond.Tie as tie
+use Rattle.refusal.proofs.refuse_beyond.Statement.{statement}
+use Rattle.refusal.proofs.refuse_beyond.Tie as tie
 
 magnitude-requires : tie.Need-magnitude-requires
 magnitude-requires c κs = search needs

@@ -4,7 +4,7 @@
 use mathlib.Core.Bool.{Bool, _&&_}
 use lib.IntN.{ℤ}
 use lib.Signed.{leZ, ltZ}
-use Rattle.geometry.specs.declared.Range.{Range}
+use Rattle.range.specs.declared.Range.{Range}
 
 -- `Range::contains`
 abbrev pub contains : Range → ℤ → Bool
