@@ -12,7 +12,8 @@ use Rattle.scanline.specs.declared.Place.the-variants.{At, Nowhere}
 use Rattle.scanline.specs.Places.{findFrom}
 use Rattle.scanline.proofs.Find.{found-at, found-none}
 use Rattle.ellipse.specs.declared.EllipseContains.{EllipseContains}
-use Rattle.ellipse.specs.Relative.{gap, containsOf, columnInside}
+use Rattle.ellipse.specs.Relative.{gap, containsOf}
+use Rattle.ellipse_search.specs.Search.{columnInside}
 use Rattle.corner_radii.specs.declared.CornerRadii.{CornerRadii}
 use Rattle.rounded_rectangle.specs.Relative.{insideCorner, inQuadrant}
 use Rattle.rounded_rectangle.proofs.Contains.{decided-top-left, decided-top-right, decided-bottom-left, decided-bottom-right}

@@ -3,7 +3,7 @@
 // here the columns that a corner's ellipse leaves out are skipped first, and the test begins where
 // the ellipse does. That column is contained but where corners overlap; there the walk goes on.
 // Columns are counted from the fill area's left edge, and for the last one from its right edge.
-use ellipse::Hint;
+use ellipse_search::Hint;
 use geometry::Size;
 use geometry::rectangle::Rectangle;
 use range::Range;
@@ -16,7 +16,7 @@ ghost use Prim.Native.Nat.{_+_, _-_, _*_, _<_, _≤_};
 ghost use Rattle.signed.specs.Signed.{Near};
 ghost use Rattle.geometry.specs.Bounds.{widePoint};
 ghost use Rattle.scanline.specs.declared.Place.the-variants.{At};
-ghost use Rattle.corner_radii.specs.Bounds.{wideStrokeSide};
+ghost use Rattle.corner.specs.Bounds.{wideStrokeSide};
 ghost use Rattle.rounded_rectangle.specs.Relative.{Ready, ReadyBox, radii};
 ghost use Rattle.box_fill.specs.BoxFill.{fillRun};
 ghost use Rattle.box_fill.specs.Relative.{ReadyFill, NearRun, boxOf, covered as Relative·covered, leftOut, NoneBefore, containedFromLeft, containedFromRight, firstContained, lastContained, placeIn, rowFill};
@@ -60,7 +60,7 @@ fn left_out(corner: EllipseQuadrant, e: u32, n: u32, hint: Hint) -> u32
     let radius = corner.radius;
     let test = corner.test;
     let y = ellipse::gap(2 * radius.height, e);
-    let Place::At(k) = ellipse::find_inside(test, 2 * radius.width, y, 0, n, hint) else {
+    let Place::At(k) = ellipse_search::find_inside(test, 2 * radius.width, y, 0, n, hint) else {
         return n;
     };
     k

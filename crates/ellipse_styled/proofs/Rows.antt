@@ -19,9 +19,12 @@ use Rattle.scanline.specs.Places.{findFrom, Placed}
 use Rattle.scanline.specs.Points.{runLength}
 use Rattle.scanline.proofs.Columns.{fromLeft, first-from-left}
 use Rattle.ellipse.specs.declared.EllipseContains.{EllipseContains}
-use Rattle.ellipse.specs.Ellipse.{insideAbout, row}
-use Rattle.ellipse.specs.Relative.{gap, containsOf, columnInside, firstInside, firstRowInside, mirroredRun}
-use Rattle.ellipse.proofs.Rows.{inside-about-at, rowAt, row-out, row-lacking, row-placed, first-inside-half}
+use Rattle.ellipse.specs.Ellipse.{insideAbout}
+use Rattle.ellipse_points.specs.EllipsePoints.{row}
+use Rattle.ellipse.specs.Relative.{gap, containsOf}
+use Rattle.ellipse_search.specs.Search.{columnInside}
+use Rattle.ellipse_points.specs.Relative.{firstInside, firstRowInside, mirroredRun}
+use Rattle.ellipse_points.proofs.Rows.{inside-about-at, rowAt, row-out, row-lacking, row-placed, first-inside-half}
 use Rattle.ellipse_styled.specs.EllipseStyled.{aroundFill, styledBy, fillFrom, ellipseFill, ellipseStyledRow}
 use Rattle.ellipse_styled.specs.Relative.{runsFrom}
 use Rattle.ellipse_styled.proofs.Fields.{scanline-by-ends}

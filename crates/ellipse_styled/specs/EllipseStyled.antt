@@ -11,7 +11,8 @@ use Rattle.scanline.specs.declared.StyledRow.{StyledRow}
 use Rattle.scanline.specs.declared.StyledRow.the-variants.{Runs, NoRow}
 use Rattle.scanline.specs.Columns.{Column, found, none, firstColumn}
 use Rattle.scanline.specs.Points.{runLength}
-use Rattle.ellipse.specs.Ellipse.{insideAbout, row}
+use Rattle.ellipse.specs.Ellipse.{insideAbout}
+use Rattle.ellipse_points.specs.EllipsePoints.{row}
 
 -- the stroke area's run s..e around a fill: left is s..fill start, right is fill end..e
 abbrev pub aroundFill : Range → Range → StyledScanline

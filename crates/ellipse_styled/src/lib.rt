@@ -2,9 +2,9 @@
 // (`StyledScanlines`). The fill is looked for among the stroke's columns, by the ellipse of the fill
 // sides about the centre of the stroke area.
 use ellipse::EllipseContains;
-use ellipse::Hint;
-use ellipse::find_inside;
-use ellipse::points::has_rows;
+use ellipse_points::has_rows;
+use ellipse_search::Hint;
+use ellipse_search::find_inside;
 use geometry::Size;
 use geometry::rectangle::Rectangle;
 use range::Range;
@@ -17,7 +17,8 @@ ghost use Rattle.signed.specs.Signed.{Near};
 ghost use Rattle.geometry.specs.Bounds.{wideSide, widePoint, SizeUpTo, Bounded};
 ghost use Rattle.scanline.specs.declared.Place.the-variants.{At, Nowhere};
 ghost use Rattle.scanline.specs.Places.{findFrom};
-ghost use Rattle.ellipse.specs.Relative.{wideDistance, SmallWeights, columnInside};
+ghost use Rattle.ellipse.specs.Relative.{wideDistance, SmallWeights};
+ghost use Rattle.ellipse_search.specs.Search.{columnInside};
 ghost use Rattle.ellipse_styled.specs.EllipseStyled.{ellipseStyledRow};
 ghost use Rattle.ellipse_styled.specs.Relative.{runsFrom};
 

@@ -20,7 +20,7 @@ use Rattle.geometry.specs.Rectangle.{withCenter, offset as Rectangle·offset}
 use Rattle.geometry.proofs.Offset.{offset-size-up-to, offset-position-near}
 use Rattle.refusal.proofs.Checks.{passed-first, passed-next}
 use Rattle.geometry.proofs.Checks.{size-passed, position-passed}
-use Rattle.corner_radii.specs.Bounds.{wideRadius}
+use Rattle.corner.specs.Bounds.{wideRadius}
 use Rattle.corner_radii.specs.CornerRadii.{radiiCheck}
 use Rattle.corner_radii.proofs.Bounds.{confine-up-to, w3c-up-to, offset-up-to, radii-up-to-wider}
 use Rattle.corner_radii.proofs.Checks.{radii-passed}

@@ -9,7 +9,8 @@ use Rattle.geometry.specs.declared.rectangle.Rectangle.{Rectangle}
 use Rattle.geometry.specs.Rectangle.{rows, offset as Rectangle·offset}
 use Rattle.scanline.specs.declared.Row.{Row}
 use Rattle.scanline.specs.Points.{pointsFrom}
-use Rattle.ellipse.specs.Ellipse.{contains as Ellipse·contains, row as Ellipse·row}
+use Rattle.ellipse.specs.Ellipse.{contains as Ellipse·contains}
+use Rattle.ellipse_points.specs.EllipsePoints.{row as Ellipse·row}
 use Rattle.corner_radii.specs.CornerRadii.{offset as CornerRadii·offset, confine, confineW3c}
 use Rattle.rounded_rectangle.specs.declared.RoundedRectangle.{RoundedRectangle}
 use Rattle.rounded_rectangle.specs.RoundedRectangle.{contains as RoundedRectangle·contains, row as RoundedRectangle·row}

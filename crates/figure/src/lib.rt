@@ -147,7 +147,7 @@ impl Shape {
         ensures { λ r. ⌜ (r ≡ rowOfShape self y) × RowWithin (Shape·rectangle self .«top_left» .x) (Shape·rectangle self .size .width) r ⌝ }
     {
         match self {
-            Shape::Ellipse(rectangle) => ellipse::points::row(rectangle, y),
+            Shape::Ellipse(rectangle) => ellipse_points::row(rectangle, y),
             Shape::RoundedBox(b) => b.row(y),
         }
     }

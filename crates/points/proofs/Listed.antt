@@ -19,7 +19,7 @@ use Rattle.range.specs.Range.{isEmpty}
 use Rattle.scanline.specs.declared.Row.the-variants.{Run}
 use Rattle.scanline.specs.Points.{runLength, pointsFrom}
 use Rattle.scanline.proofs.Listing.{pointsAfter, points-after-none, length-after-run}
-use Rattle.corner_radii.specs.Bounds.{wideStrokeSide}
+use Rattle.corner.specs.Bounds.{wideStrokeSide}
 use Rattle.figure.specs.declared.Figure.{Figure}
 use Rattle.figure.specs.declared.Shape.{Shape}
 use Rattle.figure.specs.declared.Shape.the-variants.{Ellipse, RoundedBox}

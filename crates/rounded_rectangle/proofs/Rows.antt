@@ -23,7 +23,8 @@ use Rattle.scanline.proofs.Find.{find-none, found-at}
 use Rattle.scanline.proofs.Columns.{fromLeft, fromRight, first-from-edge, last-from-edge}
 use Rattle.scanline.proofs.Placed.{place-among}
 use Rattle.ellipse.specs.declared.EllipseContains.{EllipseContains}
-use Rattle.ellipse.specs.Relative.{gap, containsOf, columnInside}
+use Rattle.ellipse.specs.Relative.{gap, containsOf}
+use Rattle.ellipse_search.specs.Search.{columnInside}
 use Rattle.ellipse.proofs.Distances.{no-width-outside}
 use Rattle.rounded_rectangle.specs.declared.RoundedRectangle.{RoundedRectangle}
 use Rattle.rounded_rectangle.specs.declared.Insets.{Insets}

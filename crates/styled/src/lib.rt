@@ -1,7 +1,7 @@
 // Styled figures: their areas, bounding box and rows, after embedded-graphics 0.8.2 both `styled.rs`
 // and `common/styled_scanline.rs`. A figure's stroke area and fill area are shapes of one kind.
 use box_fill::Hints;
-use ellipse::Hint;
+use ellipse_search::Hint;
 use figure::Figure;
 use figure::Shape;
 use geometry::rectangle::Rectangle;
