@@ -23,8 +23,9 @@ use Rattle.rounded_rectangle.specs.Quadrants.{left, top, width, height}
 use Rattle.rounded_rectangle.specs.RoundedRectangle.{contains}
 use Rattle.rounded_rectangle.proofs.Contains.{contains-relative, contains-no-column}
 use Rattle.box_fill.specs.BoxFill.{fillRun}
-use Rattle.box_fill.specs.Relative.{NoneBefore, containedFromLeft, containedFromRight, firstContained, lastContained, placeIn, startElse, endElse, rowFill}
-use Rattle.box_fill.proofs.Searches.{find-past, find-longer, holds-past, to-right, to-left}
+use Rattle.box_columns.specs.Columns.{NoneBefore, containedFromLeft, containedFromRight, firstContained, lastContained}
+use Rattle.box_fill.specs.Relative.{placeIn, startElse, endElse, rowFill}
+use Rattle.box_columns.proofs.Searches.{find-past, find-longer, holds-past, to-right, to-left}
 use Rattle.box_fill.proofs.Clipped.{start-clipped, end-clipped}
 
 -- ---- from signed columns to places

@@ -11,7 +11,7 @@ use Rattle.scanline.specs.declared.Place.{Place}
 use Rattle.scanline.specs.declared.Place.the-variants.{At}
 use Rattle.corner_radii.specs.declared.CornerRadii.{CornerRadii}
 use Rattle.rounded_rectangle.specs.Relative.{radii}
-use Rattle.box_fill.specs.Relative.{firstContained, lastContained}
+use Rattle.box_columns.specs.Columns.{firstContained, lastContained}
 use Rattle.box_fill.proofs.Rows.{Looked, first-in, first-mirrored, right-start, fill-none, fill-found, place-read}
 use borrow.Author.Needs.{needs}
 use native.Mathlib.Omega.{arith}

@@ -1,12 +1,12 @@
--- `box_fill::left_out` meets its contract: the search is the definition's, over the columns that the quadrant covers.
+-- `box_columns::left_out` meets its contract: the search is the definition's, over the columns that the quadrant covers.
 -- Assumes nothing.
 use mathlib.Core.Path.{sym, _∙_}
 use Rattle.scanline.specs.declared.Place.the-variants.{At, Nowhere}
-use Rattle.box_fill.proofs.Skips.{covered-row, covered-le, left-out-none, left-out-found}
+use Rattle.box_columns.proofs.Skips.{covered-row, covered-le, left-out-none, left-out-found}
 use borrow.Author.Needs.{needs}
 use native.Mathlib.Omega.{arith}
-use Rattle.box_fill.proofs.left_out.Statement.{statement}
-use Rattle.box_fill.proofs.left_out.Tie as tie
+use Rattle.box_columns.proofs.left_out.Statement.{statement}
+use Rattle.box_columns.proofs.left_out.Tie as tie
 
 returns : tie.Need-returns
 returns c = left-out-none _ _ _ (c .if1 .taken)

@@ -1,9 +1,9 @@
--- `box_fill::covered` meets its contract: the test on the row says which case of `covered` holds.
+-- `box_columns::covered` meets its contract: the test on the row says which case of `covered` holds.
 -- Assumes nothing.
 use borrow.Author.Tests.{lt-ltb, le-ltb}
-use Rattle.box_fill.specs.Relative.{covered}
-use Rattle.box_fill.proofs.covered.Statement.{statement}
-use Rattle.box_fill.proofs.covered.Tie as tie
+use Rattle.box_columns.specs.Columns.{covered}
+use Rattle.box_columns.proofs.covered.Statement.{statement}
+use Rattle.box_columns.proofs.covered.Tie as tie
 
 returns : tie.Need-returns
 unfolding covered

@@ -1,14 +1,14 @@
--- `box_fill::last_contained` meets its contract. The invariant: what is left to look through has the same answer as the
+-- `box_columns::last_contained` meets its contract. The invariant: what is left to look through has the same answer as the
 -- whole. At the last place the test holds.
 -- Assumes nothing.
 use mathlib.Core.Path.{_≡_, refl, sym, ap, _∙_}
 use Prim.Native.Nat.{_+_, _-_, _≤_}
 use Rattle.rounded_rectangle.specs.Relative.{radii}
-use Rattle.box_fill.specs.Relative.{containedFromRight, lastContained}
-use Rattle.box_fill.proofs.Searches.{find-here, find-next}
+use Rattle.box_columns.specs.Columns.{containedFromRight, lastContained}
+use Rattle.box_columns.proofs.Searches.{find-here, find-next}
 use native.Mathlib.Omega.{arith}
-use Rattle.box_fill.proofs.last_contained.Statement.{statement}
-use Rattle.box_fill.proofs.last_contained.Tie as tie
+use Rattle.box_columns.proofs.last_contained.Statement.{statement}
+use Rattle.box_columns.proofs.last_contained.Tie as tie
 
 abbrev Inv-loop : tie.InvT-loop
 Inv-loop b dy from to size k₀ k =

@@ -1,14 +1,14 @@
--- `box_fill::first_contained` meets its contract. The invariant: what is left to look through has the same answer as the
+-- `box_columns::first_contained` meets its contract. The invariant: what is left to look through has the same answer as the
 -- whole.
 -- Assumes nothing.
 use mathlib.Core.Path.{_≡_, refl, sym, _∙_}
 use Prim.Native.Nat.{_-_}
 use Rattle.rounded_rectangle.specs.Relative.{radii}
-use Rattle.box_fill.specs.Relative.{containedFromLeft, firstContained}
-use Rattle.box_fill.proofs.Searches.{find-here, find-next, find-end}
+use Rattle.box_columns.specs.Columns.{containedFromLeft, firstContained}
+use Rattle.box_columns.proofs.Searches.{find-here, find-next, find-end}
 use native.Mathlib.Omega.{arith}
-use Rattle.box_fill.proofs.first_contained.Statement.{statement}
-use Rattle.box_fill.proofs.first_contained.Tie as tie
+use Rattle.box_columns.proofs.first_contained.Statement.{statement}
+use Rattle.box_columns.proofs.first_contained.Tie as tie
 
 abbrev Inv-loop : tie.InvT-loop
 Inv-loop b dy from to dx₀ dx = firstContained (radii b) (b .size) dy dx to ≡ firstContained (radii b) (b .size) dy from to

@@ -17,7 +17,7 @@ use Rattle.ellipse_search.specs.Search.{columnInside}
 use Rattle.corner_radii.specs.declared.CornerRadii.{CornerRadii}
 use Rattle.rounded_rectangle.specs.Relative.{insideCorner, inQuadrant}
 use Rattle.rounded_rectangle.proofs.Contains.{decided-top-left, decided-top-right, decided-bottom-left, decided-bottom-right}
-use Rattle.box_fill.specs.Relative.{covered, placeElse, leftOut, NoneBefore, containedFromLeft, containedFromRight}
+use Rattle.box_columns.specs.Columns.{covered, placeElse, leftOut, NoneBefore, containedFromLeft, containedFromRight}
 
 -- ---- the columns that a quadrant covers
 in-quadrant-is : (r : Size) (d e : ℕ) → inQuadrant r d e ≡ ltb d (covered r e)

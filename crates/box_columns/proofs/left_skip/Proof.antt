@@ -1,14 +1,14 @@
--- `box_fill::left_skip` meets its contract: the columns are left out by the first corner of `containsAt` that has them
+-- `box_columns::left_skip` meets its contract: the columns are left out by the first corner of `containsAt` that has them
 -- (`top-left-skips`, `bottom-left-skips`).
 -- Assumes nothing.
 use mathlib.Core.Path.{ap, _∙_}
 use Rattle.rounded_rectangle.specs.Relative.{radii}
-use Rattle.box_fill.specs.Relative.{leftOut}
-use Rattle.box_fill.proofs.Skips.{top-left-skips, bottom-left-skips}
+use Rattle.box_columns.specs.Columns.{leftOut}
+use Rattle.box_columns.proofs.Skips.{top-left-skips, bottom-left-skips}
 use borrow.Author.Needs.{needs}
 use native.Mathlib.Omega.{arith}
-use Rattle.box_fill.proofs.left_skip.Statement.{statement}
-use Rattle.box_fill.proofs.left_skip.Tie as tie
+use Rattle.box_columns.proofs.left_skip.Statement.{statement}
+use Rattle.box_columns.proofs.left_skip.Tie as tie
 
 covered-requires : tie.Need-covered-requires
 covered-requires c κs = search needs

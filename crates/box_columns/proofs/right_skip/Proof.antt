@@ -1,12 +1,12 @@
--- `box_fill::right_skip` meets its contract: the columns are left out by the first corner of `containsAt` that has them
+-- `box_columns::right_skip` meets its contract: the columns are left out by the first corner of `containsAt` that has them
 -- (`top-right-skips`, `bottom-right-skips`).
 -- Assumes nothing.
 use Rattle.rounded_rectangle.specs.Relative.{radii}
-use Rattle.box_fill.proofs.Skips.{top-right-skips, bottom-right-skips}
+use Rattle.box_columns.proofs.Skips.{top-right-skips, bottom-right-skips}
 use borrow.Author.Needs.{needs}
 use native.Mathlib.Omega.{arith}
-use Rattle.box_fill.proofs.right_skip.Statement.{statement}
-use Rattle.box_fill.proofs.right_skip.Tie as tie
+use Rattle.box_columns.proofs.right_skip.Statement.{statement}
+use Rattle.box_columns.proofs.right_skip.Tie as tie
 
 covered-requires : tie.Need-covered-requires
 covered-requires c κs = search needs

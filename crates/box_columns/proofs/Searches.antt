@@ -11,7 +11,7 @@ use Rattle.scanline.specs.declared.Place.{Place}
 use Rattle.scanline.specs.declared.Place.the-variants.{At, Nowhere}
 use Rattle.scanline.specs.Places.{findFrom}
 use Rattle.scanline.proofs.Find.{find-at, find-none, found-at, found-none}
-use Rattle.box_fill.specs.Relative.{NoneBefore}
+use Rattle.box_columns.specs.Columns.{NoneBefore}
 
 -- by the order of two places
 by-order : {X : Type 0} (i m : ℕ) → (i < m → X) → (m ≤ i → X) → X
