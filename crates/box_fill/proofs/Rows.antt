@@ -8,7 +8,7 @@ use lib.IntN.{ℤ, pos, _+ℤ_, _-ℤ_}
 use mir.Syntax.{w32}
 use mir.Val.{SFits, toZ, ofZ}
 use mir.Facts.{toZ-ofZ}
-use Rattle.geometry.specs.declared.Size.{Size}
+use Rattle.plane.specs.declared.Size.{Size}
 use Rattle.range.specs.declared.Range.{Range}
 use Rattle.range.specs.Range.{contains as Range·contains}
 use Rattle.geometry.specs.Rectangle.{rows}

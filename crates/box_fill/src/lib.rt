@@ -13,7 +13,7 @@ use scanline::Place;
 ghost use mathlib.Core.Path.{_≡_};
 ghost use Prim.Native.Nat.{_*_, _<_, _≤_};
 ghost use Rattle.signed.specs.Signed.{Near};
-ghost use Rattle.geometry.specs.Bounds.{widePoint};
+ghost use Rattle.plane.specs.Bounds.{widePoint};
 ghost use Rattle.corner.specs.Bounds.{wideStrokeSide};
 ghost use Rattle.rounded_rectangle.specs.Relative.{ReadyBox, radii};
 ghost use Rattle.box_fill.specs.BoxFill.{fillRun};

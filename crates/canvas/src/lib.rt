@@ -8,7 +8,7 @@ use style::Style;
 ghost use mathlib.Core.Path.{_≡_};
 ghost use Prim.Native.Nat.{_+_, _*_, _≤_};
 ghost use lib.ListN.{length, replicate};
-ghost use Rattle.geometry.specs.Bounds.{wideSide};
+ghost use Rattle.plane.specs.Bounds.{wideSide};
 ghost use Rattle.canvas.specs.Canvas.{runOver, overpaintRuns, overpaintAt};
 ghost use Rattle.canvas.specs.Columns.{clipped, columnsOver};
 

@@ -6,7 +6,7 @@ use mathlib.Core.List.{List, [], _∷_, map}
 use Prim.Native.Nat.{ℕ, zero, suc, _+_}
 use lib.IntN.{ℤ, pos, negsuc, _+ℤ_}
 use lib.ListN.{length}
-use Rattle.geometry.specs.declared.Point.{Point}
+use Rattle.plane.specs.declared.Point.{Point}
 use Rattle.geometry.specs.declared.rectangle.Rectangle.{Rectangle}
 use Rattle.geometry.specs.Calls.{rectangleValues}
 use Rattle.scanline.specs.Points.{entries}

@@ -5,8 +5,8 @@ use Prim.Native.Nat.{ℕ, _-_, _*_, _/_}
 use lib.Dec.{leb, eqb}
 use lib.IntN.{ℤ, pos, _+ℤ_, _-ℤ_, _*ℤ_}
 use lib.Signed.{ltZ}
-use Rattle.geometry.specs.declared.Point.{Point}
-use Rattle.geometry.specs.declared.Size.{Size}
+use Rattle.plane.specs.declared.Point.{Point}
+use Rattle.plane.specs.declared.Size.{Size}
 use Rattle.geometry.specs.declared.rectangle.Rectangle.{Rectangle}
 
 -- C on one axis: 2 × top-left + max(side − 1, 0) (`center_2x`). `_-_` on ℕ stops at 0

@@ -1,7 +1,7 @@
 -- Document 01, 'Styled rows' (`ellipse/styled.rs`, `common/styled_scanline.rs`): a styled row as three runs, and the ellipse's.
 -- Assumes nothing.
 use lib.IntN.{ℤ, _-ℤ_}
-use Rattle.geometry.specs.declared.Size.{Size}
+use Rattle.plane.specs.declared.Size.{Size}
 use Rattle.range.specs.declared.Range.{Range}
 use Rattle.geometry.specs.declared.rectangle.Rectangle.{Rectangle}
 use Rattle.scanline.specs.declared.Row.{Row}

@@ -4,7 +4,7 @@
 use mathlib.Core.Bool.{Bool}
 use mathlib.Core.List.{List}
 use lib.IntN.{ℤ}
-use Rattle.geometry.specs.declared.Point.{Point}
+use Rattle.plane.specs.declared.Point.{Point}
 use Rattle.geometry.specs.declared.rectangle.Rectangle.{Rectangle}
 use Rattle.geometry.specs.Rectangle.{rows, offset as Rectangle·offset}
 use Rattle.scanline.specs.declared.Row.{Row}

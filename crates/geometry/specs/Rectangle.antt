@@ -3,8 +3,8 @@
 use Prim.Native.Nat.{ℕ, _-_, _/_}
 use lib.IntN.{ℤ, pos, _+ℤ_, _-ℤ_, _*ℤ_}
 use Rattle.signed.specs.Signed.{floor0}
-use Rattle.geometry.specs.declared.Point.{Point}
-use Rattle.geometry.specs.declared.Size.{Size}
+use Rattle.plane.specs.declared.Point.{Point}
+use Rattle.plane.specs.declared.Size.{Size}
 use Rattle.range.specs.declared.Range.{Range}
 use Rattle.geometry.specs.declared.rectangle.Rectangle.{Rectangle}
 

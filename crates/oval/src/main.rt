@@ -2,11 +2,11 @@
 // filled with 9, on a canvas of zeros.
 use figure::Figure;
 use figure::calls::RowAnswer;
-use geometry::Point;
-use geometry::Size;
 use geometry::rectangle::Rectangle;
 use libc::STDOUT_FILENO;
 use netpbm::WriteAnswer;
+use plane::Point;
+use plane::Size;
 use range::Range;
 use scanline::Row;
 use scanline::StyledScanline;

@@ -5,7 +5,7 @@ use Prim.Native.Nat.{ℕ, _+_, _/_}
 use lib.IntN.{ℤ, pos}
 use Rattle.refusal.specs.declared.Refusal.the-variants.{Offset}
 use Rattle.refusal.specs.declared.Checked.{Checked}
-use Rattle.geometry.specs.Limits.{maxStrokeWidth}
+use Rattle.plane.specs.Limits.{maxStrokeWidth}
 use Rattle.refusal.specs.Refusal.{number, refuseIf, above, Outcome, refused, answered, unless}
 use Rattle.style.specs.declared.Paint.{Paint}
 use Rattle.style.specs.declared.StrokeAlignment.{StrokeAlignment}

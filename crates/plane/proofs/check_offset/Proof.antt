@@ -1,11 +1,11 @@
--- `geometry::rectangle::check_offset` meets its contract: the check called is that of the definition.
+-- `plane::check_offset` meets its contract: the check called is that of the definition.
 -- Assumes nothing.
 use mathlib.Core.Path.{ap, _∙_}
 use mir.Facts.{toZ-ofZ}
-use Rattle.geometry.specs.Calls.{offsetCheck}
+use Rattle.plane.specs.Checks.{offsetCheck}
 use borrow.Author.Needs.{needs}
-use Rattle.geometry.proofs.rectangle.check_offset.Statement.{statement}
-use Rattle.geometry.proofs.rectangle.check_offset.Tie as tie
+use Rattle.plane.proofs.check_offset.Statement.{statement}
+use Rattle.plane.proofs.check_offset.Tie as tie
 
 refuse-beyond-requires : tie.Need-refuse-beyond-requires
 refuse-beyond-requires c κs = search needs

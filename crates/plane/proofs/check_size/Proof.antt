@@ -1,11 +1,11 @@
--- `geometry::rectangle::check_size` meets its contract: the checks called are those of the definition.
+-- `plane::check_size` meets its contract: the checks called are those of the definition.
 -- Assumes nothing.
 use mathlib.Core.Path.{ap₂, _∙_}
 use Rattle.refusal.specs.Refusal.{orElse}
-use Rattle.geometry.specs.Calls.{sizeCheck}
+use Rattle.plane.specs.Checks.{sizeCheck}
 use borrow.Author.Needs.{needs}
-use Rattle.geometry.proofs.rectangle.check_size.Statement.{statement}
-use Rattle.geometry.proofs.rectangle.check_size.Tie as tie
+use Rattle.plane.proofs.check_size.Statement.{statement}
+use Rattle.plane.proofs.check_size.Tie as tie
 
 refuse-above-requires : tie.Need-refuse-above-requires
 refuse-above-requires c κs = search needs

@@ -1,14 +1,14 @@
--- `geometry::rectangle::check_point` meets its contract: the checks called are those of the definition.
+-- `plane::check_point` meets its contract: the checks called are those of the definition.
 -- Assumes nothing.
 use mathlib.Core.Path.{ap, ap₂, _∙_}
 use mir.Syntax.{w32}
 use mir.Val.{SFits}
 use mir.Facts.{toZ-ofZ}
 use Rattle.refusal.specs.Refusal.{orElse}
-use Rattle.geometry.specs.Calls.{askedCheck, pointCheck}
+use Rattle.plane.specs.Checks.{askedCheck, pointCheck}
 use borrow.Author.Needs.{needs}
-use Rattle.geometry.proofs.rectangle.check_point.Statement.{statement}
-use Rattle.geometry.proofs.rectangle.check_point.Tie as tie
+use Rattle.plane.proofs.check_point.Statement.{statement}
+use Rattle.plane.proofs.check_point.Tie as tie
 
 check-row-requires : tie.Need-check-row-requires
 check-row-requires c κs = search needs

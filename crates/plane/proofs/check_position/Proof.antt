@@ -1,4 +1,4 @@
--- `geometry::rectangle::check_position` meets its contract: the checks called are those of the definition.
+-- `plane::check_position` meets its contract: the checks called are those of the definition.
 -- Assumes nothing.
 use mathlib.Core.Path.{ap, ap₂, _∙_}
 use lib.IntN.{ℤ}
@@ -6,12 +6,12 @@ use mir.Syntax.{w32}
 use mir.Val.{SFits}
 use mir.Facts.{toZ-ofZ}
 use Rattle.refusal.specs.declared.Refusal.the-variants.{Position}
-use Rattle.geometry.specs.Limits.{maxPosition}
+use Rattle.plane.specs.Limits.{maxPosition}
 use Rattle.refusal.specs.Refusal.{refuseIf, orElse, beyond}
-use Rattle.geometry.specs.Calls.{positionCheck}
+use Rattle.plane.specs.Checks.{positionCheck}
 use borrow.Author.Needs.{needs}
-use Rattle.geometry.proofs.rectangle.check_position.Statement.{statement}
-use Rattle.geometry.proofs.rectangle.check_position.Tie as tie
+use Rattle.plane.proofs.check_position.Statement.{statement}
+use Rattle.plane.proofs.check_position.Tie as tie
 
 refuse-beyond-requires : tie.Need-refuse-beyond-requires
 refuse-beyond-requires c κs = search needs

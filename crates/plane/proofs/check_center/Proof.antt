@@ -1,4 +1,4 @@
--- `geometry::rectangle::check_center` meets its contract: the checks called are those of the definition.
+-- `plane::check_center` meets its contract: the checks called are those of the definition.
 -- Assumes nothing.
 use mathlib.Core.Path.{ap, ap₂, _∙_}
 use Prim.Native.Nat.{_+_}
@@ -7,12 +7,12 @@ use mir.Syntax.{w32}
 use mir.Val.{SFits}
 use mir.Facts.{toZ-ofZ}
 use Rattle.refusal.specs.declared.Refusal.the-variants.{Position}
-use Rattle.geometry.specs.Limits.{maxSide, maxPosition}
+use Rattle.plane.specs.Limits.{maxSide, maxPosition}
 use Rattle.refusal.specs.Refusal.{refuseIf, orElse, beyond}
-use Rattle.geometry.specs.Calls.{centerCheck}
+use Rattle.plane.specs.Checks.{centerCheck}
 use borrow.Author.Needs.{needs}
-use Rattle.geometry.proofs.rectangle.check_center.Statement.{statement}
-use Rattle.geometry.proofs.rectangle.check_center.Tie as tie
+use Rattle.plane.proofs.check_center.Statement.{statement}
+use Rattle.plane.proofs.check_center.Tie as tie
 
 add-furthest : tie.Need-add-furthest
 add-furthest c = search needs

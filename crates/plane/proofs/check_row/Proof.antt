@@ -1,11 +1,11 @@
--- `geometry::rectangle::check_row` meets its contract: the check called is that of the definition.
+-- `plane::check_row` meets its contract: the check called is that of the definition.
 -- Assumes nothing.
 use mathlib.Core.Path.{ap, _∙_}
 use mir.Facts.{toZ-ofZ}
-use Rattle.geometry.specs.Calls.{askedCheck}
+use Rattle.plane.specs.Checks.{askedCheck}
 use borrow.Author.Needs.{needs}
-use Rattle.geometry.proofs.rectangle.check_row.Statement.{statement}
-use Rattle.geometry.proofs.rectangle.check_row.Tie as tie
+use Rattle.plane.proofs.check_row.Statement.{statement}
+use Rattle.plane.proofs.check_row.Tie as tie
 
 refuse-beyond-requires : tie.Need-refuse-beyond-requires
 refuse-beyond-requires c κs = search needs

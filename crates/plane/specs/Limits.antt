@@ -1,5 +1,5 @@
--- The limits of document 01, 'The records', each once: everything else cites them by name. Each is an associated constant of
--- the type that it belongs to, where that type is built.
+-- The limits of document 01, 'The records', each once: everything else cites them by name. In the code each is a constant beside
+-- what it limits.
 -- Assumes nothing.
 use Prim.Native.Nat.{ℕ}
 
