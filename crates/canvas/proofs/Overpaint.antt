@@ -17,8 +17,9 @@ use Rattle.scanline.specs.declared.StyledRow.the-variants.{Runs, NoRow}
 use Rattle.style.specs.declared.Paint.{Paint}
 use Rattle.style.specs.declared.Paint.the-variants.{Absent, Colour}
 use Rattle.style.specs.declared.Style.{Style}
-use Rattle.canvas.specs.Canvas.{under, byteOver, runOver, overpaintRuns, overpaint}
-use Rattle.canvas.proofs.Runs.{run-over-length, run-over-byte}
+use Rattle.canvas_run.specs.Run.{under, byteOver, runOver}
+use Rattle.canvas.specs.Canvas.{overpaintRuns, overpaint}
+use Rattle.canvas_run.proofs.Runs.{run-over-length, run-over-byte}
 
 -- ---- length
 pub overpaint-runs-length : (style : Style) (runs : StyledScanline) (row : List ℕ)

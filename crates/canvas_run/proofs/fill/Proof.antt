@@ -1,13 +1,13 @@
--- `canvas::fill` meets its contract. The invariant: the part up to i is of that colour.
+-- `canvas_run::fill` meets its contract. The invariant: the part up to i is of that colour.
 -- Assumes nothing.
 use mathlib.Core.Path.{_≡_, refl, ap, _∙_}
 use Prim.Native.Nat.{ℕ, _≤_, _-_}
 use lib.ListN.{length, take, replicate, length-set}
-use Rattle.canvas.proofs.LentPart.{fill-turn, fill-end}
+use Rattle.canvas_run.proofs.LentPart.{fill-turn, fill-end}
 use borrow.Author.Needs.{needs}
 use native.Mathlib.Omega.{arith}
-use Rattle.canvas.proofs.fill.Statement.{statement}
-use Rattle.canvas.proofs.fill.Tie as tie
+use Rattle.canvas_run.proofs.fill.Statement.{statement}
+use Rattle.canvas_run.proofs.fill.Tie as tie
 
 abbrev Inv-loop : tie.InvT-loop
 Inv-loop part₀ colour i₀ part i = (i ≤ length part) × (length part ≡ length part₀) × (take i part ≡ replicate i colour)

@@ -1,11 +1,11 @@
--- `canvas::paint_run` meets its contract: an absent paint leaves the row, and the columns set are those of the run.
+-- `canvas_run::paint_run` meets its contract: an absent paint leaves the row, and the columns set are those of the run.
 -- Assumes nothing.
 use mathlib.Core.Path.{sym}
 use lib.ListN.{length}
-use Rattle.canvas.proofs.Runs.{run-over-absent, run-over-by-columns, clipped-in-order, clipped-within}
+use Rattle.canvas_run.proofs.Runs.{run-over-absent, run-over-by-columns, clipped-in-order, clipped-within}
 use borrow.Author.Needs.{needs}
-use Rattle.canvas.proofs.paint_run.Statement.{statement}
-use Rattle.canvas.proofs.paint_run.Tie as tie
+use Rattle.canvas_run.proofs.paint_run.Statement.{statement}
+use Rattle.canvas_run.proofs.paint_run.Tie as tie
 
 enum-known-paint : tie.Need-enum-known-paint
 enum-known-paint c = search needs

@@ -17,10 +17,10 @@ use Rattle.range.specs.declared.Range.{Range}
 use Rattle.range.specs.Range.{contains}
 use Rattle.style.specs.declared.Paint.{Paint}
 use Rattle.style.specs.declared.Paint.the-variants.{Absent, Colour}
-use Rattle.canvas.specs.declared.Columns.{Columns}
-use Rattle.canvas.specs.Canvas.{byteOver, runOverFrom, runOver}
-use Rattle.canvas.specs.Columns.{clipped, columnsOver}
-use Rattle.canvas.proofs.LentPart.{withPart, lent-length, with-part-length, with-part-before, with-part-here, with-part-after}
+use Rattle.canvas_run.specs.declared.Columns.{Columns}
+use Rattle.canvas_run.specs.Run.{byteOver, runOverFrom, runOver}
+use Rattle.canvas_run.specs.Columns.{clipped, columnsOver}
+use Rattle.canvas_run.proofs.LentPart.{withPart, lent-length, with-part-length, with-part-before, with-part-here, with-part-after}
 
 -- two structs are equal by their fields
 pub columns-by-fields : {a b : Columns} → a .from ≡ b .from → a .to ≡ b .to → a ≡ b

@@ -1,9 +1,9 @@
--- `canvas::fill_columns` meets its contract: the part lent comes back as long and of one colour.
+-- `canvas_run::fill_columns` meets its contract: the part lent comes back as long and of one colour.
 -- Assumes nothing.
-use Rattle.canvas.proofs.Runs.{lent-columns-set}
+use Rattle.canvas_run.proofs.Runs.{lent-columns-set}
 use borrow.Author.Needs.{needs}
-use Rattle.canvas.proofs.fill_columns.Statement.{statement}
-use Rattle.canvas.proofs.fill_columns.Tie as tie
+use Rattle.canvas_run.proofs.fill_columns.Statement.{statement}
+use Rattle.canvas_run.proofs.fill_columns.Tie as tie
 
 sub-fill : tie.Need-sub-fill
 sub-fill c = search needs

@@ -1,4 +1,4 @@
--- `canvas::clip` meets its contract: the leaves' equations chain to the definition.
+-- `canvas_run::clip` meets its contract: the leaves' equations chain to the definition.
 -- Assumes nothing.
 use mathlib.Core.Path.{ap, ap₂, _∙_}
 use Prim.Native.Nat.{min}
@@ -6,11 +6,11 @@ use mir.Syntax.{w32}
 use mir.Val.{SFits}
 use mir.Facts.{toZ-ofZ}
 use Rattle.signed.specs.Signed.{floor0}
-use Rattle.canvas.specs.Columns.{clipped}
-use Rattle.canvas.proofs.Runs.{columns-by-fields}
+use Rattle.canvas_run.specs.Columns.{clipped}
+use Rattle.canvas_run.proofs.Runs.{columns-by-fields}
 use borrow.Author.Needs.{needs}
-use Rattle.canvas.proofs.clip.Statement.{statement}
-use Rattle.canvas.proofs.clip.Tie as tie
+use Rattle.canvas_run.proofs.clip.Statement.{statement}
+use Rattle.canvas_run.proofs.clip.Tie as tie
 
 floor0-requires : tie.Need-floor0-requires
 floor0-requires c κs = search needs
