@@ -17,7 +17,7 @@ use Rattle.scanline.proofs.Find.{FoundAt, find-at, find-none, found-at, found-n
 use Rattle.scanline.proofs.Columns.{fromLeft, fromRight, first-from-edge, last-from-edge}
 use Rattle.scanline.proofs.Placed.{placed-before, placed-after}
 use Rattle.box_fill.specs.Relative.{placeIn, startElse, endElse}
-use Rattle.box_fill.proofs.Searches.{FromRight, to-right, to-left}
+use Rattle.box_columns.proofs.Searches.{FromRight, to-right, to-left}
 
 -- ---- a search over signed columns, by its answer
 module _ (test : ℤ → Bool) (s : ℤ) (n : ℕ) where

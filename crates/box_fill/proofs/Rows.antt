@@ -8,11 +8,11 @@ use lib.IntN.{ℤ, pos, _+ℤ_, _-ℤ_}
 use mir.Syntax.{w32}
 use mir.Val.{SFits, toZ, ofZ}
 use mir.Facts.{toZ-ofZ}
-use Rattle.geometry.specs.declared.Size.{Size}
-use Rattle.geometry.specs.declared.Range.{Range}
-use Rattle.geometry.specs.Range.{contains as Range·contains}
+use Rattle.plane.specs.declared.Size.{Size}
+use Rattle.range.specs.declared.Range.{Range}
+use Rattle.range.specs.Range.{contains as Range·contains}
 use Rattle.geometry.specs.Rectangle.{rows}
-use Rattle.geometry.proofs.Fields.{range-by-fields}
+use Rattle.range.proofs.Fields.{range-by-fields}
 use Rattle.scanline.specs.declared.Place.the-variants.{At, Nowhere}
 use Rattle.scanline.specs.Places.{Placed}
 use Rattle.scanline.proofs.Find.{FoundAt, find-none, found-at, found-none}
@@ -23,8 +23,9 @@ use Rattle.rounded_rectangle.specs.Quadrants.{left, top, width, height}
 use Rattle.rounded_rectangle.specs.RoundedRectangle.{contains}
 use Rattle.rounded_rectangle.proofs.Contains.{contains-relative, contains-no-column}
 use Rattle.box_fill.specs.BoxFill.{fillRun}
-use Rattle.box_fill.specs.Relative.{NoneBefore, containedFromLeft, containedFromRight, firstContained, lastContained, placeIn, startElse, endElse, rowFill}
-use Rattle.box_fill.proofs.Searches.{find-past, find-longer, holds-past, to-right, to-left}
+use Rattle.box_columns.specs.Columns.{NoneBefore, containedFromLeft, containedFromRight, firstContained, lastContained}
+use Rattle.box_fill.specs.Relative.{placeIn, startElse, endElse, rowFill}
+use Rattle.box_columns.proofs.Searches.{find-past, find-longer, holds-past, to-right, to-left}
 use Rattle.box_fill.proofs.Clipped.{start-clipped, end-clipped}
 
 -- ---- from signed columns to places

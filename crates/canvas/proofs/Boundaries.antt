@@ -11,7 +11,8 @@ use Rattle.scanline.specs.declared.StyledRow.the-variants.{Runs, NoRow}
 use Rattle.style.specs.declared.Paint.{Paint}
 use Rattle.style.specs.declared.Paint.the-variants.{Absent, Colour}
 use Rattle.style.specs.Style.{styledByDefault}
-use Rattle.canvas.specs.Canvas.{runOverFrom, overpaintRuns, overpaint}
+use Rattle.canvas_run.specs.Run.{runOverFrom}
+use Rattle.canvas.specs.Canvas.{overpaintRuns, overpaint}
 
 -- a stroke paint, a fill paint, a styled row, a row before and the row that it must become
 record Case : Type 0 where

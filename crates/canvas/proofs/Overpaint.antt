@@ -9,16 +9,17 @@ use lib.IntN.{ℤ, pos}
 use lib.ListN.{length, getD}
 use lib.Signed.{leZ, ltZ}
 use Rattle.signed.proofs.Laws.{ltZ-true, lt-leZ}
-use Rattle.geometry.specs.declared.Range.{Range}
-use Rattle.geometry.specs.Range.{contains}
+use Rattle.range.specs.declared.Range.{Range}
+use Rattle.range.specs.Range.{contains}
 use Rattle.scanline.specs.declared.StyledScanline.{StyledScanline}
 use Rattle.scanline.specs.declared.StyledRow.{StyledRow}
 use Rattle.scanline.specs.declared.StyledRow.the-variants.{Runs, NoRow}
 use Rattle.style.specs.declared.Paint.{Paint}
 use Rattle.style.specs.declared.Paint.the-variants.{Absent, Colour}
 use Rattle.style.specs.declared.Style.{Style}
-use Rattle.canvas.specs.Canvas.{under, byteOver, runOver, overpaintRuns, overpaint}
-use Rattle.canvas.proofs.Runs.{run-over-length, run-over-byte}
+use Rattle.canvas_run.specs.Run.{under, byteOver, runOver}
+use Rattle.canvas.specs.Canvas.{overpaintRuns, overpaint}
+use Rattle.canvas_run.proofs.Runs.{run-over-length, run-over-byte}
 
 -- ---- length
 pub overpaint-runs-length : (style : Style) (runs : StyledScanline) (row : List ℕ)

@@ -1,3 +1,2 @@
--- `Canvas` says what a styled row makes of a canvas row; `Columns` says the same by the columns that the code sets.
+-- `Canvas` says what a styled row makes of a canvas row.
 pub mod Canvas
-pub mod Columns

@@ -7,11 +7,11 @@ use native.Mathlib.Nat.{mul-le-mul}
 use native.Mathlib.Omega.{arith}
 use borrow.Author.Tests.{ltb-false, eqb-true}
 use lib.Dec.{ltb, eqb}
-use Rattle.geometry.specs.declared.refusal.Refusal.the-variants.{CanvasSide, CanvasLength}
-use Rattle.geometry.specs.declared.refusal.Checked.the-variants.{Passed}
-use Rattle.geometry.specs.Limits.{maxCanvasSide}
-use Rattle.geometry.specs.Refusal.{refuseIf}
-use Rattle.geometry.proofs.Checks.{passed-first, passed-next, passed-condition, passed-above}
+use Rattle.refusal.specs.declared.Refusal.the-variants.{CanvasSide, CanvasLength}
+use Rattle.refusal.specs.declared.Checked.the-variants.{Passed}
+use Rattle.plane.specs.Limits.{maxCanvasSide}
+use Rattle.refusal.specs.Refusal.{refuseIf}
+use Rattle.refusal.proofs.Checks.{passed-first, passed-next, passed-condition, passed-above}
 use Rattle.canvas_size.specs.CanvasSize.{sideCheck, canvasSizeCheck, canvasLengthCheck, CanvasSides}
 
 pub side-passed-least : (n : ℕ) → sideCheck n ≡ Passed → 1 ≤ n

@@ -3,10 +3,10 @@
 use mathlib.Core.Bool.{not}
 use Prim.Native.Nat.{ℕ, _*_, _≤_}
 use lib.Dec.{ltb, eqb}
-use Rattle.geometry.specs.declared.refusal.Refusal.the-variants.{CanvasSide, CanvasLength}
-use Rattle.geometry.specs.declared.refusal.Checked.{Checked}
-use Rattle.geometry.specs.Limits.{maxCanvasSide}
-use Rattle.geometry.specs.Refusal.{refuseIf, orElse, above}
+use Rattle.refusal.specs.declared.Refusal.the-variants.{CanvasSide, CanvasLength}
+use Rattle.refusal.specs.declared.Checked.{Checked}
+use Rattle.plane.specs.Limits.{maxCanvasSide}
+use Rattle.refusal.specs.Refusal.{refuseIf, orElse, above}
 
 -- 6 of one side: it is below 1, or above the limit
 abbrev pub sideCheck : ℕ → Checked

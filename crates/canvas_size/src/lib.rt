@@ -1,8 +1,8 @@
 // The width and height of a lent canvas, with the checks that every call on a canvas makes first
 // (refusals 6 and 8). Document 01 adds it; the Rust has no such type.
-use geometry::refusal::Checked;
-use geometry::refusal::Refusal;
-use geometry::refusal::refuse_above;
+use refusal::Checked;
+use refusal::Refusal;
+use refusal::refuse_above;
 ghost use mathlib.Core.Path.{_≡_};
 ghost use Rattle.canvas_size.specs.CanvasSize.{sideCheck, canvasSizeCheck, canvasLengthCheck};
 

@@ -5,8 +5,10 @@ use mathlib.Core.List.{map}
 use Rattle.geometry.specs.Rectangle.{center, withCenter, offsetSide, offset}
 use Rattle.scanline.specs.Columns.{firstColumn, lastColumn}
 use Rattle.scanline.specs.Points.{runPoints, pointsFrom, entries}
-use Rattle.ellipse.specs.Ellipse.{center2x, fromCenter2x, threshold, inside, insideAbout, scanline, hasRows, row as Ellipse·row, rowCount}
-use Rattle.corner_radii.specs.CornerRadii.{offsetRadius, offsetCorner, offset as CornerRadii·offset, scaledCorner, scaled, reduced, overlap, furtherOver, tighter, someOver, confine, confineW3c}
+use Rattle.ellipse.specs.Ellipse.{center2x, fromCenter2x, threshold, inside, insideAbout}
+use Rattle.ellipse_points.specs.EllipsePoints.{scanline, hasRows, row as Ellipse·row, rowCount}
+use Rattle.corner.specs.Corner.{offsetRadius, offsetCorner, scaledCorner, overlap, furtherOver, tighter, someOver}
+use Rattle.corner_radii.specs.CornerRadii.{offset as CornerRadii·offset, scaled, reduced, confine, confineW3c}
 use Rattle.rounded_rectangle.specs.Quadrants.{insideTopLeft, insideTopRight, insideBottomRight, insideBottomLeft}
 use Rattle.rounded_rectangle.specs.RoundedRectangle.{contains, runStart, runEnd, row}
 use Rattle.figure.specs.Figure.{confined, confinedW3c, offsetBox, pointsOfShape}

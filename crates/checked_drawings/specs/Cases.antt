@@ -6,11 +6,12 @@ use mathlib.Core.List.{List, [], _∷_, map}
 use Prim.Native.Nat.{ℕ, zero, suc, _+_}
 use lib.IntN.{ℤ, pos, negsuc, _+ℤ_}
 use lib.ListN.{length}
-use Rattle.geometry.specs.declared.Point.{Point}
+use Rattle.plane.specs.declared.Point.{Point}
 use Rattle.geometry.specs.declared.rectangle.Rectangle.{Rectangle}
 use Rattle.geometry.specs.Calls.{rectangleValues}
 use Rattle.scanline.specs.Points.{entries}
-use Rattle.ellipse.specs.Ellipse.{threshold, isRun, row as Ellipse·row, rowCount}
+use Rattle.ellipse.specs.Ellipse.{threshold}
+use Rattle.ellipse_points.specs.EllipsePoints.{isRun, row as Ellipse·row, rowCount}
 use Rattle.corner_radii.specs.CornerRadii.{equalRadii}
 use Rattle.rounded_rectangle.specs.declared.RoundedRectangle.{RoundedRectangle}
 use Rattle.style.specs.declared.Paint.the-variants.{Absent}

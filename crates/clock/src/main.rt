@@ -2,12 +2,12 @@
 // the left the oval is filled, so the person is clocked in; on the right it is hollow.
 use corner_radii::CornerRadii;
 use figure::Figure;
-use geometry::Point;
-use geometry::Size;
 use geometry::rectangle::Rectangle;
 use libc::STDOUT_FILENO;
 use netpbm::WriteAnswer;
 use paint::PaintAnswer;
+use plane::Point;
+use plane::Size;
 use rounded_rectangle::RoundedRectangle;
 use style::Paint;
 use style::StrokeAlignment;

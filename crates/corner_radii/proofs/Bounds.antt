@@ -3,19 +3,20 @@
 -- Assumes nothing.
 use mathlib.Core.Path.{_≡_, refl, sym, subst}
 use mathlib.Core.Bool.{Bool, true, false, cond}
-use Prim.Native.Nat.{ℕ, _+_, _-_, _*_, _/_, _≤_, _<_}
+use Prim.Native.Nat.{ℕ, _+_, _*_, _/_, _≤_, _<_}
 use native.Mathlib.Nat.{le-refl, le-trans, le-of-lt, mul-comm, mul-le-mul-left, div-le-of-le-mul}
 use native.Mathlib.Omega.{arith}
 use borrow.Author.Tests.{ltb-true}
-use lib.IntN.{ℤ, pos}
-use Rattle.signed.specs.Signed.{positivePart as P, negativePart as N, Near}
-use Rattle.signed.proofs.Laws.{add-law}
-use Rattle.geometry.specs.declared.Size.{Size}
-use Rattle.geometry.specs.Bounds.{SizeUpTo}
+use lib.IntN.{ℤ}
+use Rattle.signed.specs.Signed.{Near}
+use Rattle.plane.specs.declared.Size.{Size}
+use Rattle.plane.specs.Bounds.{SizeUpTo}
 use Rattle.corner_radii.specs.declared.CornerRadii.{CornerRadii}
-use Rattle.corner_radii.specs.declared.Edge.{Edge}
+use Rattle.corner.specs.declared.Edge.{Edge}
+use Rattle.corner.specs.Corner.{S, L, offsetRadius, offsetCorner, over, scaledCorner, mostOver, tightest}
+use Rattle.corner.proofs.Offset.{offset-radius-by-parts}
 use Rattle.corner_radii.specs.Bounds.{RadiiUpTo, SizeWithin, RadiiWithin}
-use Rattle.corner_radii.specs.CornerRadii.{S, L, equalRadii, eachCorner, offsetRadius, offsetCorner, offset, edges, over, scaledCorner, scaled, reduced, mostOver, tightest, confine, confineW3c}
+use Rattle.corner_radii.specs.CornerRadii.{equalRadii, eachCorner, offset, edges, scaled, reduced, confine, confineW3c}
 use Rattle.corner_radii.proofs.W3cRule.{w3c-by-tightest, w3c-fits-edges}
 
 -- ---- changes made at each corner
@@ -114,11 +115,6 @@ w3c-within-box r s =
     }
 
 -- ---- offset radii
--- a radius number offset by k, by the parts of k
-pub offset-radius-by-parts : (k : ℤ) (r : ℕ) → offsetRadius k r ≡ r + P k - N k
-unfolding offsetRadius
-offset-radius-by-parts k r = omega (arith, add-law (pos r) k)
-
 -- offset by at most m, radii up to n are at most n + m
 pub offset-up-to : (n m : ℕ) (r : CornerRadii) (k : ℤ) → RadiiUpTo n r → Near m k → RadiiUpTo (n + m) (offset r k)
 unfolding offset offsetCorner

@@ -5,13 +5,14 @@ use mathlib.Core.Path.{_≡_, refl}
 use mathlib.Core.List.{List, [], _∷_, map}
 use Prim.Native.Nat.{ℕ}
 use lib.IntN.{ℤ, pos, negsuc}
-use Rattle.geometry.specs.declared.Size.{Size}
-use Rattle.geometry.specs.declared.refusal.Refusal.the-variants.{Radius}
-use Rattle.geometry.specs.declared.refusal.Checked.the-variants.{Passed, Refused}
+use Rattle.plane.specs.declared.Size.{Size}
+use Rattle.refusal.specs.declared.Refusal.the-variants.{Radius}
+use Rattle.refusal.specs.declared.Checked.the-variants.{Passed, Refused}
 use Rattle.corner_radii.specs.declared.CornerRadii.{CornerRadii}
-use Rattle.corner_radii.specs.declared.Edge.{Edge}
-use Rattle.corner_radii.specs.declared.Edges.{Edges}
-use Rattle.corner_radii.specs.CornerRadii.{equalRadii, radiusCheck, radiiCheck, offsetRadius, offsetCorner, offset, overlap, furtherOver, mostOver, reduced, confine, tighter, tightest, someOver, scaledCorner, scaled, confineW3c}
+use Rattle.corner.specs.declared.Edge.{Edge}
+use Rattle.corner.specs.declared.Edges.{Edges}
+use Rattle.corner.specs.Corner.{offsetRadius, offsetCorner, overlap, furtherOver, mostOver, tighter, tightest, someOver, scaledCorner}
+use Rattle.corner_radii.specs.CornerRadii.{equalRadii, radiusCheck, radiiCheck, offset, reduced, confine, scaled, confineW3c}
 
 abbrev size : ℕ → ℕ → Size
 size w h = record { width = w; height = h }

@@ -9,16 +9,17 @@ use native.Mathlib.Omega.{arith}
 use lib.IntN.{ℤ, pos, _+ℤ_}
 use Rattle.signed.specs.Signed.{Near}
 use Rattle.geometry.specs.declared.rectangle.Rectangle.{Rectangle}
-use Rattle.geometry.specs.declared.Size.{Size}
-use Rattle.geometry.specs.declared.Range.{Range}
-use Rattle.geometry.specs.Range.{contains as Range·contains}
+use Rattle.plane.specs.declared.Size.{Size}
+use Rattle.range.specs.declared.Range.{Range}
+use Rattle.range.specs.Range.{contains as Range·contains}
 use Rattle.geometry.specs.Rectangle.{rows, offset as Rectangle·offset}
 use Rattle.scanline.specs.declared.Row.the-variants as row-of
 use Rattle.scanline.specs.declared.StyledRow.{StyledRow}
 use Rattle.scanline.specs.declared.StyledRow.the-variants.{NoRow}
-use Rattle.ellipse.specs.Ellipse.{row as Ellipse·row, scanline, rowCount, hasRows}
+use Rattle.ellipse_points.specs.EllipsePoints.{row as Ellipse·row}
+use Rattle.ellipse_points.specs.EllipsePoints.{scanline, rowCount, hasRows}
 use Rattle.ellipse_styled.specs.EllipseStyled.{styledBy, ellipseFill, ellipseStyledRow}
-use Rattle.corner_radii.specs.Bounds.{wideStrokeSide}
+use Rattle.corner.specs.Bounds.{wideStrokeSide}
 use Rattle.rounded_rectangle.specs.declared.RoundedRectangle.{RoundedRectangle}
 use Rattle.figure.specs.declared.Figure.the-variants.{Ellipse, CrateBox, W3cBox}
 use Rattle.rounded_rectangle.specs.RoundedRectangle.{row as RoundedRectangle·row}

@@ -2,7 +2,7 @@
 -- Assumes nothing.
 use Rattle.geometry.specs.declared.rectangle.Rectangle.{Rectangle}
 use Rattle.geometry.specs.Rectangle.{rows}
-use Rattle.ellipse.specs.Ellipse.{rowCount}
+use Rattle.ellipse_points.specs.EllipsePoints.{rowCount}
 use Rattle.figure.specs.declared.Figure.{Figure}
 use Rattle.figure.specs.declared.Shape.{Shape}
 use Rattle.figure.specs.declared.Shape.the-variants as shape-of

@@ -4,7 +4,7 @@
 use canvas_size::CanvasSize;
 use figure::Figure;
 use geometry::rectangle::Rectangle;
-use geometry::refusal::Checked;
+use refusal::Checked;
 use scanline::StyledRow;
 use style::Style;
 use styled_shape::RowHints;
@@ -14,9 +14,9 @@ ghost use mathlib.Core.Path.{_≡_};
 ghost use Prim.Native.Nat.{_*_, _≤_};
 ghost use lib.ListN.{length};
 ghost use Rattle.signed.specs.Signed.{Near};
-ghost use Rattle.geometry.specs.Bounds.{widePoint, wideSide};
+ghost use Rattle.plane.specs.Bounds.{widePoint, wideSide};
 ghost use Rattle.geometry.specs.Rectangle.{offset as Rectangle·offset};
-ghost use Rattle.corner_radii.specs.Bounds.{wideStrokeSide};
+ghost use Rattle.corner.specs.Bounds.{wideStrokeSide};
 ghost use Rattle.figure.specs.Bounds.{wideOffset, wideAreaPosition, OwnRectangle, OwnFigure};
 ghost use Rattle.book.specs.Sheet.{paintRow as Sheet·paintRow};
 ghost use Rattle.styled_shape.specs.Ready.{rowOf, Ready};
@@ -61,7 +61,7 @@ fn ellipse_rows(rectangle: Rectangle, k: i32) -> StrokeRows
     let top_left = area.top_left;
     StrokeRows {
         first: top_left.y,
-        count: ellipse::points::row_count(area),
+        count: ellipse_points::row_count(area),
     }
 }
 

@@ -1,19 +1,13 @@
--- Document 01, 'Ellipse' (`ellipse/mod.rs`, `ellipse/points.rs`): C, X, Y, t, the test of a point, and the rows.
+-- Document 01, 'Ellipse' (`ellipse/mod.rs`): C, X, Y, t, and the test of a point.
 -- Assumes nothing.
-use mathlib.Core.Bool.{Bool, true, false, cond, _&&_}
+use mathlib.Core.Bool.{Bool, cond}
 use Prim.Native.Nat.{ℕ, _-_, _*_, _/_}
 use lib.Dec.{leb, eqb}
 use lib.IntN.{ℤ, pos, _+ℤ_, _-ℤ_, _*ℤ_}
 use lib.Signed.{ltZ}
-use Rattle.geometry.specs.declared.Point.{Point}
-use Rattle.geometry.specs.declared.Size.{Size}
-use Rattle.geometry.specs.declared.Range.{Range}
+use Rattle.plane.specs.declared.Point.{Point}
+use Rattle.plane.specs.declared.Size.{Size}
 use Rattle.geometry.specs.declared.rectangle.Rectangle.{Rectangle}
-use Rattle.geometry.specs.Range.{contains as Range·contains}
-use Rattle.geometry.specs.Rectangle.{rows, columns}
-use Rattle.scanline.specs.declared.Row.{Row}
-use Rattle.scanline.specs.declared.Row.the-variants.{Run, NoRow}
-use Rattle.scanline.specs.Columns.{Column, found, none, firstColumn}
 
 -- C on one axis: 2 × top-left + max(side − 1, 0) (`center_2x`). `_-_` on ℕ stops at 0
 unfoldable pub center2x : ℤ → ℕ → ℤ
@@ -44,28 +38,3 @@ insideAbout sides r x y =
 -- `Ellipse::contains`
 abbrev pub contains : Rectangle → Point → Bool
 contains e p = insideAbout (e .size) e (p .x) (p .y)
-
--- a row's run: from its first inside column c to columns.end − (c − columns.start)
-abbrev pub runFrom : Range → Column → Row
-runFrom columns (found c) = Run (record { start = c; end = columns .end -ℤ (c -ℤ columns .start) })
-runFrom columns none = NoRow
-
--- what `Scanlines` gives at row y: the first inside column is looked for among all columns of the rectangle
-unfoldable pub scanline : Rectangle → ℤ → Row
-scanline e y = runFrom (columns e) (firstColumn (λ x. insideAbout (e .size) e x y) (columns e .start) (e .size .width))
-
-abbrev pub isRun : Row → Bool
-isRun (Run r) = true
-isRun NoRow = false
-
--- `Scanlines` ends at the first row with no inside column, so an ellipse has all its rows, or none if the first lacks one
-unfoldable pub hasRows : Rectangle → Bool
-hasRows e = isRun (scanline e (rows e .start))
-
--- the row at y, 'no row' where the ellipse lacks it
-unfoldable pub row : Rectangle → ℤ → Row
-row e y = cond (Range·contains (rows e) y && hasRows e) (scanline e y) NoRow
-
--- how many rows there are
-unfoldable pub rowCount : Rectangle → ℕ
-rowCount e = cond (hasRows e) (e .size .height) 0

@@ -1,14 +1,9 @@
--- The forms that the code computes: by distances from the middle, and places counted from the box's corner. The laws of
--- proofs/Distances.antt and proofs/Rows.antt equate them with `Ellipse`.
+-- The forms that the code computes: by distances from the middle. The laws of proofs/Distances.antt equate them with `Ellipse`.
 -- Assumes nothing.
 use mathlib.Core.Bool.{Bool, cond}
 use Prim.Native.Nat.{ℕ, _+_, _-_, _*_, _≤_}
 use lib.Dec.{ltb, eqb}
-use lib.IntN.{ℤ, pos, _+ℤ_, _-ℤ_}
-use Rattle.geometry.specs.declared.Range.{Range}
-use Rattle.geometry.specs.Bounds.{wideSide, widePoint}
-use Rattle.scanline.specs.declared.Place.{Place}
-use Rattle.scanline.specs.Places.{findFrom, isAt}
+use Rattle.plane.specs.Bounds.{wideSide, widePoint}
 use Rattle.ellipse.specs.declared.EllipseContains.{EllipseContains}
 use Rattle.ellipse.specs.Ellipse.{threshold}
 
@@ -47,19 +42,3 @@ pub record SmallWeights (c : EllipseContains) : Type 0 where
 -- inside at the distances x and y
 unfoldable pub belowThreshold : EllipseContains → ℕ → ℕ → Bool
 belowThreshold c x y = ltb (c .«x_weight» * (x * x) + c .«y_weight» * (y * y)) (c .threshold)
-
--- inside at column k of `width`, on a row at the distance y
-unfoldable pub columnInside : EllipseContains → ℕ → ℕ → ℕ → Bool
-columnInside c width y k = belowThreshold c (gap width k) y
-
--- row dy's first inside column
-unfoldable pub firstInside : ℕ → ℕ → ℕ → Place
-firstInside w h dy = findFrom (columnInside (containsOf w h) w (gap h dy)) w 0
-
--- all rows or none: by the first
-unfoldable pub firstRowInside : ℕ → ℕ → Bool
-firstRowInside w h = isAt (firstInside w h 0)
-
--- the run from place k of w columns to its mirror image
-abbrev pub mirroredRun : ℤ → ℕ → ℕ → Range
-mirroredRun left w k = record { start = left +ℤ pos k; end = left +ℤ pos w -ℤ pos k }

@@ -7,7 +7,7 @@ use Prim.Native.Nat.{ℕ, _+_, _-_, _*_, _≤_, _<_}
 use native.Mathlib.Omega.{arith}
 use lib.IntN.{ℤ, pos, _+ℤ_, _-ℤ_}
 use Rattle.signed.proofs.Laws.{int, add-law, sub-law}
-use Rattle.geometry.specs.declared.Size.{Size}
+use Rattle.plane.specs.declared.Size.{Size}
 use Rattle.geometry.specs.declared.rectangle.Rectangle.{Rectangle}
 use Rattle.scanline.specs.declared.Row.{Row}
 use Rattle.scanline.specs.declared.Row.the-variants as row-of
@@ -20,8 +20,11 @@ use Rattle.scanline.specs.Points.{runLength}
 use Rattle.scanline.proofs.Columns.{fromLeft, first-from-left}
 use Rattle.ellipse.specs.declared.EllipseContains.{EllipseContains}
 use Rattle.ellipse.specs.Ellipse.{insideAbout}
-use Rattle.ellipse.specs.Relative.{gap, containsOf, columnInside, firstInside, firstRowInside, mirroredRun}
-use Rattle.ellipse.proofs.Rows.{inside-about-at, rowAt, row-out, row-lacking, row-placed, first-inside-half}
+use Rattle.ellipse.specs.Relative.{gap, containsOf}
+use Rattle.ellipse_search.specs.Search.{columnInside}
+use Rattle.ellipse_points.specs.Relative.{firstInside, firstRowInside, mirroredRun}
+use Rattle.ellipse_points.proofs.Rows.{inside-about-at, rowAt, row-lacking, first-inside-half}
+use Rattle.ellipse_points.proofs.Rows.{row-out, row-placed}
 use Rattle.ellipse_styled.specs.EllipseStyled.{aroundFill, styledBy, fillFrom, ellipseFill, ellipseStyledRow}
 use Rattle.ellipse_styled.specs.Relative.{runsFrom}
 use Rattle.ellipse_styled.proofs.Fields.{scanline-by-ends}

@@ -1,8 +1,8 @@
 -- Document 01, 'Styled rows' (`ellipse/styled.rs`, `common/styled_scanline.rs`): a styled row as three runs, and the ellipse's.
 -- Assumes nothing.
 use lib.IntN.{ℤ, _-ℤ_}
-use Rattle.geometry.specs.declared.Size.{Size}
-use Rattle.geometry.specs.declared.Range.{Range}
+use Rattle.plane.specs.declared.Size.{Size}
+use Rattle.range.specs.declared.Range.{Range}
 use Rattle.geometry.specs.declared.rectangle.Rectangle.{Rectangle}
 use Rattle.scanline.specs.declared.Row.{Row}
 use Rattle.scanline.specs.declared.Row.the-variants as row-of
@@ -11,7 +11,8 @@ use Rattle.scanline.specs.declared.StyledRow.{StyledRow}
 use Rattle.scanline.specs.declared.StyledRow.the-variants.{Runs, NoRow}
 use Rattle.scanline.specs.Columns.{Column, found, none, firstColumn}
 use Rattle.scanline.specs.Points.{runLength}
-use Rattle.ellipse.specs.Ellipse.{insideAbout, row}
+use Rattle.ellipse.specs.Ellipse.{insideAbout}
+use Rattle.ellipse_points.specs.EllipsePoints.{row}
 
 -- the stroke area's run s..e around a fill: left is s..fill start, right is fill end..e
 abbrev pub aroundFill : Range → Range → StyledScanline

@@ -7,7 +7,8 @@ use Rattle.scanline.specs.declared.StyledScanline.{StyledScanline}
 use Rattle.scanline.specs.declared.Place.{Place}
 use Rattle.scanline.specs.declared.Place.the-variants.{At, Nowhere}
 use Rattle.geometry.specs.Bounds.{Bounded}
-use Rattle.ellipse.specs.Relative.{containsOf, SmallWeights, firstRowInside}
+use Rattle.ellipse.specs.Relative.{containsOf, SmallWeights}
+use Rattle.ellipse_points.specs.Relative.{firstRowInside}
 use Rattle.ellipse_styled.specs.declared.StyledEllipse.{StyledEllipse}
 
 -- a column counted from the left edge, and one counted before the end of w columns

@@ -2,22 +2,24 @@
 // (`StyledScanlines`). The fill is looked for among the stroke's columns, by the ellipse of the fill
 // sides about the centre of the stroke area.
 use ellipse::EllipseContains;
-use ellipse::Hint;
-use ellipse::find_inside;
-use ellipse::points::has_rows;
-use geometry::Range;
-use geometry::Size;
+use ellipse_points::has_rows;
+use ellipse_search::Hint;
+use ellipse_search::find_inside;
 use geometry::rectangle::Rectangle;
+use plane::Size;
+use range::Range;
 use scanline::Place;
 use scanline::StyledRow;
 use scanline::StyledScanline;
 ghost use mathlib.Core.Path.{_≡_};
 ghost use Prim.Native.Nat.{_*_, _-_, _<_, _≤_};
 ghost use Rattle.signed.specs.Signed.{Near};
-ghost use Rattle.geometry.specs.Bounds.{wideSide, widePoint, SizeUpTo, Bounded};
+ghost use Rattle.plane.specs.Bounds.{wideSide, widePoint, SizeUpTo};
+ghost use Rattle.geometry.specs.Bounds.{Bounded};
 ghost use Rattle.scanline.specs.declared.Place.the-variants.{At, Nowhere};
 ghost use Rattle.scanline.specs.Places.{findFrom};
-ghost use Rattle.ellipse.specs.Relative.{wideDistance, SmallWeights, columnInside};
+ghost use Rattle.ellipse.specs.Relative.{wideDistance, SmallWeights};
+ghost use Rattle.ellipse_search.specs.Search.{columnInside};
 ghost use Rattle.ellipse_styled.specs.EllipseStyled.{ellipseStyledRow};
 ghost use Rattle.ellipse_styled.specs.Relative.{runsFrom, ReadyEllipse};
 

@@ -9,10 +9,10 @@ use lib.Signed.{leZ}
 use mir.Syntax.{w32}
 use Rattle.signed.specs.Signed.{Near}
 use Rattle.signed.proofs.Laws.{int, add-law, sub-law, fits-by-parts}
-use Rattle.geometry.specs.declared.Range.{Range}
-use Rattle.geometry.specs.Bounds.{widePoint}
+use Rattle.range.specs.declared.Range.{Range}
+use Rattle.plane.specs.Bounds.{widePoint}
 use Rattle.scanline.specs.Points.{runLength, EndsWithin}
-use Rattle.corner_radii.specs.Bounds.{wideStrokeSide}
+use Rattle.corner.specs.Bounds.{wideStrokeSide}
 use Rattle.figure.specs.Bounds.{wideAreaPosition}
 
 -- a run that keeps to w columns from left on has at most w columns, and its ends are near

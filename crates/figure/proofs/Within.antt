@@ -7,19 +7,22 @@ use Prim.Native.Nat.{ℕ, _+_, _≤_}
 use native.Mathlib.Omega.{arith}
 use lib.IntN.{ℤ, pos}
 use Rattle.signed.specs.Signed.{Near}
-use Rattle.geometry.specs.declared.Point.{Point}
-use Rattle.geometry.specs.declared.Size.{Size}
+use Rattle.plane.specs.declared.Point.{Point}
+use Rattle.plane.specs.declared.Size.{Size}
 use Rattle.geometry.specs.declared.rectangle.Rectangle.{Rectangle}
-use Rattle.geometry.specs.declared.refusal.Checked.{Checked}
-use Rattle.geometry.specs.declared.refusal.Checked.the-variants.{Passed, Refused}
-use Rattle.geometry.specs.Limits.{maxRadius}
-use Rattle.geometry.specs.Bounds.{PointNear, SizeUpTo, Bounded}
-use Rattle.geometry.specs.Refusal.{orElse, refused, answered, unless}
-use Rattle.geometry.specs.Calls.{rectangleValues, sizeCheck, positionCheck, rectangleCheck}
+use Rattle.refusal.specs.declared.Checked.{Checked}
+use Rattle.refusal.specs.declared.Checked.the-variants.{Passed, Refused}
+use Rattle.plane.specs.Limits.{maxRadius}
+use Rattle.plane.specs.Bounds.{PointNear, SizeUpTo}
+use Rattle.geometry.specs.Bounds.{Bounded}
+use Rattle.refusal.specs.Refusal.{orElse, refused, answered, unless}
+use Rattle.geometry.specs.Calls.{rectangleValues, rectangleCheck}
+use Rattle.plane.specs.Checks.{sizeCheck, positionCheck}
 use Rattle.geometry.specs.Rectangle.{withCenter, offset as Rectangle·offset}
 use Rattle.geometry.proofs.Offset.{offset-size-up-to, offset-position-near}
-use Rattle.geometry.proofs.Checks.{passed-first, passed-next, size-passed, position-passed}
-use Rattle.corner_radii.specs.Bounds.{wideRadius}
+use Rattle.refusal.proofs.Checks.{passed-first, passed-next}
+use Rattle.plane.proofs.Checks.{size-passed, position-passed}
+use Rattle.corner.specs.Bounds.{wideRadius}
 use Rattle.corner_radii.specs.CornerRadii.{radiiCheck}
 use Rattle.corner_radii.proofs.Bounds.{confine-up-to, w3c-up-to, offset-up-to, radii-up-to-wider}
 use Rattle.corner_radii.proofs.Checks.{radii-passed}

@@ -2,8 +2,9 @@
 -- Assumes nothing.
 use Prim.Native.Nat.{ℕ, _+_}
 use Rattle.geometry.specs.declared.rectangle.Rectangle.{Rectangle}
-use Rattle.geometry.specs.Bounds.{PointNear, SizeUpTo}
-use Rattle.corner_radii.specs.Bounds.{wideRadius, wideStrokeSide, RadiiUpTo}
+use Rattle.plane.specs.Bounds.{PointNear, SizeUpTo}
+use Rattle.corner.specs.Bounds.{wideRadius, wideStrokeSide}
+use Rattle.corner_radii.specs.Bounds.{RadiiUpTo}
 use Rattle.rounded_rectangle.specs.declared.RoundedRectangle.{RoundedRectangle}
 use Rattle.figure.specs.declared.Figure.{Figure}
 use Rattle.figure.specs.declared.Figure.the-variants.{Ellipse, CrateBox, W3cBox}

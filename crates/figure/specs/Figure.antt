@@ -4,12 +4,13 @@
 use mathlib.Core.Bool.{Bool}
 use mathlib.Core.List.{List}
 use lib.IntN.{ℤ}
-use Rattle.geometry.specs.declared.Point.{Point}
+use Rattle.plane.specs.declared.Point.{Point}
 use Rattle.geometry.specs.declared.rectangle.Rectangle.{Rectangle}
 use Rattle.geometry.specs.Rectangle.{rows, offset as Rectangle·offset}
 use Rattle.scanline.specs.declared.Row.{Row}
 use Rattle.scanline.specs.Points.{pointsFrom}
-use Rattle.ellipse.specs.Ellipse.{contains as Ellipse·contains, row as Ellipse·row}
+use Rattle.ellipse.specs.Ellipse.{contains as Ellipse·contains}
+use Rattle.ellipse_points.specs.EllipsePoints.{row as Ellipse·row}
 use Rattle.corner_radii.specs.CornerRadii.{offset as CornerRadii·offset, confine, confineW3c}
 use Rattle.rounded_rectangle.specs.declared.RoundedRectangle.{RoundedRectangle}
 use Rattle.rounded_rectangle.specs.RoundedRectangle.{contains as RoundedRectangle·contains, row as RoundedRectangle·row}

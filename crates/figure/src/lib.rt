@@ -2,9 +2,9 @@
 // match on the figure. After embedded-graphics 0.8.2 `ellipse/mod.rs`, `rounded_rectangle/mod.rs`
 // (`OffsetOutline`, `confine_radii`); the W3C box is not in the source. The functions of this file
 // are for callers that have made the checks; those that a host calls are in calls.rt.
-use geometry::Point;
 use geometry::rectangle::Rectangle;
-use geometry::refusal::Checked;
+use plane::Point;
+use refusal::Checked;
 use rounded_rectangle::RoundedRectangle;
 use scanline::Row;
 
@@ -12,7 +12,7 @@ pub mod calls;
 
 ghost use mathlib.Core.Path.{_≡_};
 ghost use Rattle.signed.specs.Signed.{Near};
-ghost use Rattle.geometry.specs.Bounds.{widePoint, PointNear};
+ghost use Rattle.plane.specs.Bounds.{widePoint, PointNear};
 ghost use Rattle.scanline.specs.Points.{RowWithin};
 ghost use Rattle.figure.specs.Bounds.{wideOffset, OwnBox, AreaBox, OwnFigure, BoundedFigure, BoundedShape};
 ghost use Rattle.figure.specs.Figure.{confined as Figure·confined, confinedW3c, offsetBox, offset as Figure·offset, shape as Figure·shape, rectangle as Shape·rectangle, containsShape, rowOfShape};
@@ -76,8 +76,8 @@ fn check_box(b: RoundedRectangle) -> Checked
 {
     let rectangle = b.rectangle;
     let corners = b.corners;
-    let size = geometry::rectangle::check_size(rectangle.size);
-    let position = geometry::rectangle::check_position(rectangle.top_left);
+    let size = plane::check_size(rectangle.size);
+    let position = plane::check_position(rectangle.top_left);
     size.or_else(corners.check()).or_else(position)
 }
 
@@ -147,7 +147,7 @@ impl Shape {
         ensures { λ r. ⌜ (r ≡ rowOfShape self y) × RowWithin (Shape·rectangle self .«top_left» .x) (Shape·rectangle self .size .width) r ⌝ }
     {
         match self {
-            Shape::Ellipse(rectangle) => ellipse::points::row(rectangle, y),
+            Shape::Ellipse(rectangle) => ellipse_points::row(rectangle, y),
             Shape::RoundedBox(b) => b.row(y),
         }
     }

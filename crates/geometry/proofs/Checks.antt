@@ -1,61 +1,29 @@
--- What a passed check says: each of the checks that it is made of has passed, so every number is within its limit.
+-- What a passed check of a rectangle says, and what a refused centre does.
 -- Assumes nothing.
 use mathlib.Core.Path.{_≡_, refl}
 use mathlib.Core.Bool.{Bool, true, false}
-use Prim.Native.Nat.{ℕ, _+_, _*_, _≤_}
+use Prim.Native.Nat.{ℕ, _+_, _≤_}
 use native.Mathlib.Omega.{arith}
-use borrow.Author.Tests.{ltb-true, ltb-false, lt-ltb}
+use borrow.Author.Tests.{ltb-true, lt-ltb}
 use lib.IntN.{ℤ, pos, natAbs, _-ℤ_}
 use Rattle.signed.specs.Signed.{Near}
-use Rattle.signed.proofs.Laws.{near-within, sub-law, magnitude-law}
-use Rattle.geometry.specs.declared.Point.{Point}
-use Rattle.geometry.specs.declared.Size.{Size}
+use Rattle.signed.proofs.Laws.{sub-law, magnitude-law}
+use Rattle.refusal.specs.declared.Refusal.{Refusal}
+use Rattle.refusal.specs.declared.Refusal.the-variants.{Position}
+use Rattle.refusal.specs.declared.Checked.{Checked}
+use Rattle.refusal.specs.declared.Checked.the-variants.{Passed, Refused}
+use Rattle.refusal.specs.Refusal.{refuseIf, orElse, beyond}
+use Rattle.refusal.proofs.Checks.{passed-first, passed-next}
+use Rattle.plane.specs.declared.Point.{Point}
+use Rattle.plane.specs.declared.Size.{Size}
+use Rattle.plane.specs.Limits.{maxSide, maxPosition}
+use Rattle.plane.specs.Bounds.{widePoint, SizeUpTo}
+use Rattle.plane.specs.Checks.{sizeCheck, positionCheck, centerCheck}
+use Rattle.plane.proofs.Checks.{size-passed, position-passed}
 use Rattle.geometry.specs.declared.rectangle.Rectangle.{Rectangle}
-use Rattle.geometry.specs.declared.refusal.Refusal.{Refusal}
-use Rattle.geometry.specs.declared.refusal.Refusal.the-variants.{Side, Position}
-use Rattle.geometry.specs.declared.refusal.Checked.{Checked}
-use Rattle.geometry.specs.declared.refusal.Checked.the-variants.{Passed, Refused}
-use Rattle.geometry.specs.Limits.{maxSide, maxPosition, maxAsked, maxOffset}
-use Rattle.geometry.specs.Bounds.{widePoint, PointNear, SizeUpTo, Bounded}
+use Rattle.geometry.specs.Bounds.{Bounded}
 use Rattle.geometry.specs.Rectangle.{centerTerm, withCenter}
-use Rattle.geometry.specs.Refusal.{refuseIf, orElse, above, beyond}
-use Rattle.geometry.specs.Calls.{sizeCheck, positionCheck, rectangleCheck, centerCheck, askedCheck, pointCheck, offsetCheck}
-
--- ---- checks in general
-pub passed-first : (a b : Checked) → orElse a b ≡ Passed → a ≡ Passed
-passed-first (Refused refusal) b e = e
-passed-first Passed b e = refl
-
-pub passed-next : (a b : Checked) → orElse a b ≡ Passed → b ≡ Passed
-passed-next (Refused refusal) b e = let z : _≡_ {A = ℕ} 0 1 = cc in absurd (omega arith)
-passed-next Passed b e = e
-
-pub passed-condition : (t : Bool) (refusal : Refusal) → refuseIf t refusal ≡ Passed → t ≡ false
-passed-condition true refusal e = let z : _≡_ {A = ℕ} 0 1 = cc in absurd (omega arith)
-passed-condition false refusal e = refl
-
-pub passed-above : (limit n : ℕ) (refusal : Refusal) → refuseIf (above limit n) refusal ≡ Passed → n ≤ limit
-passed-above limit n refusal e = ltb-false limit n (passed-condition (above limit n) refusal e)
-
-pub passed-beyond : (limit : ℕ) (z : ℤ) (refusal : Refusal) → refuseIf (beyond limit z) refusal ≡ Passed → natAbs z ≤ limit
-passed-beyond limit z refusal e = passed-above limit (natAbs z) refusal e
-
--- ---- the checks of a rectangle
-pub size-passed : (s : Size) → sizeCheck s ≡ Passed → SizeUpTo maxSide s
-unfolding sizeCheck
-size-passed s e =
-    record {
-      width = passed-above maxSide (s .width) Side (passed-first _ _ e);
-      height = passed-above maxSide (s .height) Side (passed-next (refuseIf (above maxSide (s .width)) Side) _ e);
-    }
-
-pub position-passed : (p : Point) → positionCheck p ≡ Passed → PointNear maxPosition p
-unfolding positionCheck
-position-passed p e =
-    record {
-      x = near-within maxPosition (p .x) (passed-beyond maxPosition (p .x) Position (passed-first _ _ e)) (omega arith);
-      y = near-within maxPosition (p .y) (passed-beyond maxPosition (p .y) Position (passed-next (refuseIf (beyond maxPosition (p .x)) Position) _ e)) (omega arith);
-    }
+use Rattle.geometry.specs.Calls.{rectangleCheck}
 
 pub rectangle-bounded : (r : Rectangle) → rectangleCheck r ≡ Passed → Bounded r
 unfolding rectangleCheck
@@ -69,31 +37,6 @@ rectangle-bounded r e =
   where
     wider : {z : ℤ} → Near maxPosition z → Near widePoint z
     wider n = record { above = let h = n .above in omega arith; below = let h = n .below in omega arith; fits = n .fits }
-
-pub offset-passed : (k : ℤ) → offsetCheck k ≡ Passed → Near maxOffset k
-unfolding offsetCheck
-offset-passed k e = near-within maxOffset k (passed-beyond maxOffset k _ e) (omega arith)
-
-pub asked-passed : (z : ℤ) → askedCheck z ≡ Passed → Near maxAsked z
-unfolding askedCheck
-asked-passed z e = near-within maxAsked z (passed-beyond maxAsked z _ e) (omega arith)
-
-pub point-passed : (p : Point) → pointCheck p ≡ Passed → PointNear maxAsked p
-unfolding pointCheck
-point-passed p e =
-    record { x = asked-passed (p .x) (passed-first _ _ e); y = asked-passed (p .y) (passed-next (askedCheck (p .x)) _ e) }
-
--- ---- a centre that passes is near
-pub center-passed : (c : Point) → centerCheck c ≡ Passed → PointNear (2 * widePoint) c
-unfolding centerCheck
-center-passed c e =
-    record {
-      x = wider (c .x) (passed-beyond (maxPosition + maxSide) (c .x) Position (passed-first _ _ e));
-      y = wider (c .y) (passed-beyond (maxPosition + maxSide) (c .y) Position (passed-next (refuseIf (beyond (maxPosition + maxSide) (c .x)) Position) _ e));
-    }
-  where
-    wider : (z : ℤ) → natAbs z ≤ maxPosition + maxSide → Near (2 * widePoint) z
-    wider z h = near-within (2 * widePoint) z (omega arith) (omega arith)
 
 -- about a centre that does not pass, every rectangle within the limit of its sides is out of position
 pub center-refused : (c : Point) (s : Size) (refusal : Refusal) → SizeUpTo maxSide s → centerCheck c ≡ Refused refusal

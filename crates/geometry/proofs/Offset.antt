@@ -6,9 +6,10 @@ use native.Mathlib.Omega.{arith}
 use lib.IntN.{ℤ, pos, _+ℤ_, _-ℤ_, _*ℤ_}
 use Rattle.signed.specs.Signed.{positivePart as P, negativePart as N, Near}
 use Rattle.signed.proofs.Laws.{int, add-law, times-law, near-add, near-sub, one-part-zero}
-use Rattle.geometry.specs.declared.Size.{Size}
+use Rattle.plane.specs.declared.Size.{Size}
 use Rattle.geometry.specs.declared.rectangle.Rectangle.{Rectangle}
-use Rattle.geometry.specs.Bounds.{widePoint, wideSide, PointNear, SizeUpTo, Bounded}
+use Rattle.plane.specs.Bounds.{widePoint, wideSide, PointNear, SizeUpTo}
+use Rattle.geometry.specs.Bounds.{Bounded}
 use Rattle.geometry.specs.Rectangle.{centerTerm, center, withCenter, offsetSide, offsetSize, offset}
 
 -- a side offset by k, by the parts of k

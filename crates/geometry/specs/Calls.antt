@@ -1,12 +1,10 @@
--- What the calls on rectangles promise: the lowest of the refusals 1, 3 and 5 that applies, else the values of `Rectangle`. The
--- check of refusal 4 stands here too, for the crates above.
+-- What the calls on rectangles promise: the lowest of the refusals 1, 3 and 5 that applies, else the values of `Rectangle`.
 -- Assumes nothing.
 use mathlib.Core.List.{List, [], _∷_}
-use Prim.Native.Nat.{_+_}
 use lib.IntN.{ℤ, pos}
-use Rattle.geometry.specs.declared.Point.{Point}
-use Rattle.geometry.specs.declared.Size.{Size}
-use Rattle.geometry.specs.declared.Range.{Range}
+use Rattle.plane.specs.declared.Point.{Point}
+use Rattle.plane.specs.declared.Size.{Size}
+use Rattle.range.specs.declared.Range.{Range}
 use Rattle.geometry.specs.declared.rectangle.Rectangle.{Rectangle}
 use Rattle.geometry.specs.declared.rectangle.PointAnswer.{PointAnswer}
 use Rattle.geometry.specs.declared.rectangle.PointAnswer.the-variants as point-answer
@@ -14,11 +12,10 @@ use Rattle.geometry.specs.declared.rectangle.RangeAnswer.{RangeAnswer}
 use Rattle.geometry.specs.declared.rectangle.RangeAnswer.the-variants as range-answer
 use Rattle.geometry.specs.declared.rectangle.RectangleAnswer.{RectangleAnswer}
 use Rattle.geometry.specs.declared.rectangle.RectangleAnswer.the-variants as rectangle-answer
-use Rattle.geometry.specs.declared.refusal.Refusal.the-variants.{Side, Position, Asked, Offset}
-use Rattle.geometry.specs.declared.refusal.Checked.{Checked}
-use Rattle.geometry.specs.Limits.{maxSide, maxPosition, maxAsked, maxOffset}
+use Rattle.refusal.specs.declared.Checked.{Checked}
+use Rattle.plane.specs.Checks.{sizeCheck, positionCheck, offsetCheck}
 use Rattle.geometry.specs.Rectangle.{center, withCenter, rows, columns, offset}
-use Rattle.geometry.specs.Refusal.{number, refuseIf, orElse, above, beyond, Outcome, refused, answered, unless}
+use Rattle.refusal.specs.Refusal.{number, orElse, Outcome, refused, answered, unless}
 
 -- a point's x and y
 abbrev pub pointValues : Point → List ℤ
@@ -45,33 +42,9 @@ abbrev pub rectangleOutcome : RectangleAnswer → Outcome
 rectangleOutcome (rectangle-answer.Refused refusal) = refused (number refusal)
 rectangleOutcome (rectangle-answer.Answered r) = answered (rectangleValues r)
 
--- 1: a side above the limit
-unfoldable pub sizeCheck : Size → Checked
-sizeCheck s = orElse (refuseIf (above maxSide (s .width)) Side) (refuseIf (above maxSide (s .height)) Side)
-
--- 3: a rectangle's x or y beyond the limit
-unfoldable pub positionCheck : Point → Checked
-positionCheck p = orElse (refuseIf (beyond maxPosition (p .x)) Position) (refuseIf (beyond maxPosition (p .y)) Position)
-
 -- 1 and 3 of a rectangle
 unfoldable pub rectangleCheck : Rectangle → Checked
 rectangleCheck r = orElse (sizeCheck (r .size)) (positionCheck (r .«top_left»))
-
--- a centre further out than that of any rectangle within limits: the check by which `with_center` keeps its difference small
-unfoldable pub centerCheck : Point → Checked
-centerCheck c =
-    orElse (refuseIf (beyond (maxPosition + maxSide) (c .x)) Position) (refuseIf (beyond (maxPosition + maxSide) (c .y)) Position)
-
--- 4: an asked coordinate or row beyond the limit, and a point of two
-unfoldable pub askedCheck : ℤ → Checked
-askedCheck z = refuseIf (beyond maxAsked z) Asked
-
-unfoldable pub pointCheck : Point → Checked
-pointCheck p = orElse (askedCheck (p .x)) (askedCheck (p .y))
-
--- 5: an offset beyond the limit
-unfoldable pub offsetCheck : ℤ → Checked
-offsetCheck k = refuseIf (beyond maxOffset k) Offset
 
 -- `Rectangle::center`, `rows`, `columns`
 abbrev pub centerCall : Rectangle → Outcome

@@ -3,9 +3,9 @@
 use Prim.Native.Nat.{ℕ, _-_, _/_}
 use lib.IntN.{ℤ, pos, _+ℤ_, _-ℤ_, _*ℤ_}
 use Rattle.signed.specs.Signed.{floor0}
-use Rattle.geometry.specs.declared.Point.{Point}
-use Rattle.geometry.specs.declared.Size.{Size}
-use Rattle.geometry.specs.declared.Range.{Range}
+use Rattle.plane.specs.declared.Point.{Point}
+use Rattle.plane.specs.declared.Size.{Size}
+use Rattle.range.specs.declared.Range.{Range}
 use Rattle.geometry.specs.declared.rectangle.Rectangle.{Rectangle}
 
 -- floor(max(side − 1, 0) / 2): how far the centre lies from a side's first pixel. `_-_` on ℕ stops at 0

@@ -1,14 +1,15 @@
 // The operations on rectangles for callers that have tested the limits: each takes what `Bounds`
 // allows, which is more than the limits do, so that a stroke area passes too. After
 // embedded-graphics 0.8.2 `rectangle/mod.rs` (`OffsetOutline`).
-use crate::Point;
-use crate::Range;
-use crate::Size;
 use crate::rectangle::Rectangle;
+use plane::Point;
+use plane::Size;
+use range::Range;
 ghost use mathlib.Core.Path.{_≡_};
 ghost use Prim.Native.Nat.{_*_, _≤_};
 ghost use Rattle.signed.specs.Signed.{Near};
-ghost use Rattle.geometry.specs.Bounds.{wideSide, widePoint, PointNear, SizeUpTo, Bounded};
+ghost use Rattle.plane.specs.Bounds.{wideSide, widePoint, PointNear, SizeUpTo};
+ghost use Rattle.geometry.specs.Bounds.{Bounded};
 ghost use Rattle.geometry.specs.Rectangle.{centerTerm, center as Rectangle·center, withCenter, rows as Rectangle·rows, columns as Rectangle·columns, offsetSide, offset as Rectangle·offset};
 
 // How far the centre lies from a side's first pixel.

@@ -1,16 +1,19 @@
 // The rectangle and the calls that a host makes on it, after embedded-graphics 0.8.2
 // `rectangle/mod.rs`. No call has a `requires`: out of limits it refuses by the lowest number.
-use crate::Point;
-use crate::Range;
-use crate::Size;
 use crate::bounded;
-use crate::refusal::Checked;
-use crate::refusal::Refusal;
-use crate::refusal::refuse_above;
-use crate::refusal::refuse_beyond;
+use plane::Point;
+use plane::Size;
+use plane::check_center;
+use plane::check_offset;
+use plane::check_position;
+use plane::check_size;
+use range::Range;
+use refusal::Checked;
+use refusal::Refusal;
 ghost use mathlib.Core.Path.{_≡_};
-ghost use Rattle.geometry.specs.Refusal.{unless};
-ghost use Rattle.geometry.specs.Calls.{sizeCheck, positionCheck, rectangleCheck, centerCheck, askedCheck, pointCheck, offsetCheck, rectangleValues, pointOutcome, rangeOutcome, rectangleOutcome, centerCall, rowsCall, columnsCall, withCenterCall, offsetCall};
+ghost use Rattle.refusal.specs.Refusal.{unless};
+ghost use Rattle.plane.specs.Checks.{positionCheck};
+ghost use Rattle.geometry.specs.Calls.{rectangleCheck, rectangleValues, pointOutcome, rangeOutcome, rectangleOutcome, centerCall, rowsCall, columnsCall, withCenterCall, offsetCall};
 
 pub struct Rectangle {
     pub top_left: Point,
@@ -32,54 +35,6 @@ pub enum RectangleAnswer {
     Answered(Rectangle),
 }
 
-// Refusal 1 of a size.
-pub fn check_size(size: Size) -> Checked
-    ensures { λ r. ⌜ r ≡ sizeCheck size ⌝ }
-{
-    let width = refuse_above(Size::MAX_SIDE, size.width, Refusal::Side);
-    let height = refuse_above(Size::MAX_SIDE, size.height, Refusal::Side);
-    width.or_else(height)
-}
-
-// Refusal 3 of a rectangle's position.
-pub fn check_position(top_left: Point) -> Checked
-    ensures { λ r. ⌜ r ≡ positionCheck «top_left» ⌝ }
-{
-    let x = refuse_beyond(Rectangle::MAX_POSITION, top_left.x, Refusal::Position);
-    let y = refuse_beyond(Rectangle::MAX_POSITION, top_left.y, Refusal::Position);
-    x.or_else(y)
-}
-
-// Refusal 4 of an asked row, and of an asked point.
-pub fn check_row(y: i32) -> Checked
-    ensures { λ r. ⌜ r ≡ askedCheck y ⌝ }
-{
-    refuse_beyond(Point::MAX_ASKED, y, Refusal::Asked)
-}
-
-pub fn check_point(point: Point) -> Checked
-    ensures { λ r. ⌜ r ≡ pointCheck point ⌝ }
-{
-    check_row(point.x).or_else(check_row(point.y))
-}
-
-// Refusal 5 of an offset.
-pub fn check_offset(k: i32) -> Checked
-    ensures { λ r. ⌜ r ≡ offsetCheck k ⌝ }
-{
-    refuse_beyond(Rectangle::MAX_OFFSET, k, Refusal::Offset)
-}
-
-// Refusal 3 of a centre so far out that it is the centre of no rectangle within limits.
-fn check_center(center: Point) -> Checked
-    ensures { λ r. ⌜ r ≡ centerCheck center ⌝ }
-{
-    let furthest = Rectangle::MAX_POSITION + Size::MAX_SIDE;
-    let x = refuse_beyond(furthest, center.x, Refusal::Position);
-    let y = refuse_beyond(furthest, center.y, Refusal::Position);
-    x.or_else(y)
-}
-
 // The rectangle, or refusal 3 of its position.
 fn within_limits(rectangle: Rectangle) -> RectangleAnswer
     ensures { λ r. ⌜ rectangleOutcome r ≡ unless (positionCheck (rectangle .«top_left»)) (rectangleValues rectangle) ⌝ }
@@ -91,11 +46,6 @@ fn within_limits(rectangle: Rectangle) -> RectangleAnswer
 }
 
 impl Rectangle {
-    // The largest distance of x and y from 0 (refusal 3).
-    pub const MAX_POSITION: u32 = 4096;
-    // The largest distance of an offset from 0 (refusal 5).
-    pub const MAX_OFFSET: u32 = 256;
-
     // Refusals 1 and 3.
     pub fn check(self) -> Checked
         ensures { λ r. ⌜ r ≡ rectangleCheck self ⌝ }

@@ -6,9 +6,11 @@ use mathlib.Core.List.{List, [], _∷_, _++_, map}
 use Prim.Native.Nat.{ℕ}
 use lib.IntN.{pos}
 use lib.ListN.{replicate}
-use Rattle.geometry.specs.Refusal.{refused, answered}
+use Rattle.refusal.specs.Refusal.{refused, answered}
 use Rattle.canvas_size.specs.CanvasSize.{canvasSizeCheck, canvasLengthCheck}
-use Rattle.netpbm.specs.Netpbm.{decimalUpTo, decimal, header, writeCheck, writeCall, fileAfter}
+use Rattle.text.specs.Decimal.{decimalUpTo, decimal}
+use Rattle.p5_header.specs.Header.{header}
+use Rattle.netpbm.specs.Netpbm.{writeCheck, writeCall, fileAfter}
 
 decimals-hold : map decimal (0 ∷ 1 ∷ 2 ∷ 3 ∷ 4 ∷ 5 ∷ 6 ∷ 7 ∷ 8 ∷ 9 ∷ 10 ∷ 99 ∷ 100 ∷ 999 ∷ 1000 ∷ 1024 ∷ 4096 ∷ [])
     ≡ (48 ∷ []) ∷ (49 ∷ []) ∷ (50 ∷ []) ∷ (51 ∷ []) ∷ (52 ∷ []) ∷ (53 ∷ []) ∷ (54 ∷ []) ∷ (55 ∷ []) ∷ (56 ∷ []) ∷ (57 ∷ [])

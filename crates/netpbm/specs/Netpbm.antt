@@ -1,49 +1,18 @@
 -- Document 01, end of 'Sheet': the bytes of a canvas that is written as Netpbm P5, and what the call that writes it promises.
 -- Assumes nothing.
-use mathlib.Core.Bool.{cond}
 use mathlib.Core.List.{List, [], _∷_, _++_}
-use Prim.Native.Nat.{ℕ, zero, suc, _+_, _/_, _%_}
-use lib.Dec.{ltb}
+use Prim.Native.Nat.{ℕ}
 use lib.IntN.{pos}
 use lib.ListN.{length}
 use lib.Seq.{sets}
-use Rattle.geometry.specs.declared.refusal.Checked.{Checked}
-use Rattle.geometry.specs.Refusal.{number, orElse, Outcome, refused, answered, unless, keeping, roomCheck}
+use Rattle.refusal.specs.declared.Checked.{Checked}
+use Rattle.refusal.specs.Refusal.{number, orElse, Outcome, refused, answered, unless, keeping, roomCheck}
 use Rattle.netpbm.specs.declared.WriteAnswer.{WriteAnswer}
 use Rattle.netpbm.specs.declared.WriteAnswer.the-variants as write-answer
 use Rattle.canvas_size.specs.CanvasSize.{canvasSizeCheck, canvasLengthCheck}
+use Rattle.p5_header.specs.Header.{header}
 
--- the byte of a decimal digit; 48 is `0`
-abbrev pub digit : ℕ → ℕ
-digit d = 48 + d
-
--- the decimal digits of n, the most significant first: n itself below ten, else those of n / 10 and then the last. The first
--- number is how many digits there may be
-unfoldable pub decimalUpTo : ℕ → ℕ → List ℕ
-decimalUpTo zero n = []
-decimalUpTo (suc most) n =
-    let front = decimalUpTo most (n / 10) in
-    cond (ltb n 10) (digit n ∷ []) (front ++ (digit (n % 10) ∷ []))
-
--- a number in decimal, without leading zeros. It never has more than n + 1 digits
-unfoldable pub decimal : ℕ → List ℕ
-decimal n = decimalUpTo (suc n) n
-
--- the fixed parts of a header: `P5` and LF before W; space between W and H; LF, `255` and LF after H
-abbrev pub magic : List ℕ
-magic = 80 ∷ 53 ∷ 10 ∷ []
-
-abbrev pub space : List ℕ
-space = 32 ∷ []
-
-abbrev pub maximum : List ℕ
-maximum = 10 ∷ 50 ∷ 53 ∷ 53 ∷ 10 ∷ []
-
--- `P5`, LF, W, space, H, LF, `255`, LF
-unfoldable pub header : ℕ → ℕ → List ℕ
-header W H = magic ++ decimal W ++ space ++ decimal H ++ maximum
-
--- then the bytes of the canvas
+-- the header, then the bytes of the canvas
 abbrev pub p5 : ℕ → ℕ → List ℕ → List ℕ
 p5 W H canvas = header W H ++ canvas
 

@@ -3,46 +3,23 @@
 //
 // The call that a host makes has no `requires`: it refuses by the lowest number that applies and
 // then has written nothing. The functions below it are for callers that have made the checks.
-pub mod text;
-
-use crate::text::number_length;
-use crate::text::put;
-use crate::text::put_number;
 use canvas_size::CanvasSize;
-use geometry::refusal::Checked;
-use geometry::refusal::Refusal;
-use geometry::refusal::check_room;
+use p5_header::header_length;
+use p5_header::put_header;
+use refusal::Checked;
+use refusal::Refusal;
+use refusal::check_room;
+use text::put;
 ghost use mathlib.Core.Path.{_≡_};
 ghost use Prim.Native.Nat.{_≤_};
 ghost use lib.ListN.{length};
-ghost use Rattle.netpbm.specs.Netpbm.{header, p5, writeOutcome, writeCall, fileAfter};
-ghost use Rattle.netpbm.specs.Written.{Wrote};
+ghost use Rattle.text.specs.Written.{Wrote};
+ghost use Rattle.netpbm.specs.Netpbm.{p5, writeOutcome, writeCall, fileAfter};
 
 pub enum WriteAnswer {
     Refused(Refusal),
     // The length of the file, from the buffer's start.
     Written(usize),
-}
-
-// The bytes of a header other than its two numbers.
-const HEADER_FIXED: usize = 9;
-
-fn header_length(size: CanvasSize) -> usize
-    ensures { λ r. ⌜ r ≡ length (header (size .width) (size .height)) ⌝ }
-{
-    HEADER_FIXED + number_length(size.width) + number_length(size.height)
-}
-
-// Puts `P5`, LF, W, space, H, LF, `255`, LF at the start of file.
-fn put_header(file: &mut [u8], size: CanvasSize) -> usize
-    requires { ⌜ length (header (size .width) (size .height)) ≤ length (now file) ⌝ }
-    ensures { λ r. ⌜ Wrote (now (file .entry)) 0 (header (size .width) (size .height)) (now (file .exit)) r ⌝ }
-{
-    let width_at = put(file, 0, b"P5\n");
-    let space_at = put_number(file, width_at, size.width);
-    let height_at = put(file, space_at, b" ");
-    let maximum_at = put_number(file, height_at, size.height);
-    put(file, maximum_at, b"\n255\n")
 }
 
 // Puts the header and then the canvas.

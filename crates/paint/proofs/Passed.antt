@@ -4,10 +4,10 @@ use mathlib.Core.Path.{_≡_}
 use mathlib.Core.List.{List}
 use Prim.Native.Nat.{ℕ, _*_, _≤_}
 use lib.ListN.{length}
-use Rattle.geometry.specs.declared.refusal.Checked.the-variants.{Passed}
-use Rattle.geometry.specs.Limits.{maxStrokeWidth}
-use Rattle.geometry.specs.Refusal.{orElse}
-use Rattle.geometry.proofs.Checks.{passed-first, passed-next}
+use Rattle.refusal.specs.declared.Checked.the-variants.{Passed}
+use Rattle.plane.specs.Limits.{maxStrokeWidth}
+use Rattle.refusal.specs.Refusal.{orElse}
+use Rattle.refusal.proofs.Checks.{passed-first, passed-next}
 use Rattle.figure.specs.declared.Figure.{Figure}
 use Rattle.figure.specs.Bounds.{OwnFigure}
 use Rattle.figure.specs.Calls.{figureCheck}

@@ -3,8 +3,8 @@
 use mathlib.Core.List.{List, []}
 use Prim.Native.Nat.{ℕ}
 use lib.ListN.{length}
-use Rattle.geometry.specs.declared.refusal.Checked.{Checked}
-use Rattle.geometry.specs.Refusal.{number, orElse, Outcome, refused, answered, unless, keeping}
+use Rattle.refusal.specs.declared.Checked.{Checked}
+use Rattle.refusal.specs.Refusal.{number, orElse, Outcome, refused, answered, unless, keeping}
 use Rattle.figure.specs.declared.Figure.{Figure}
 use Rattle.style.specs.declared.Style.{Style}
 use Rattle.canvas_size.specs.CanvasSize.{canvasSizeCheck, canvasLengthCheck}

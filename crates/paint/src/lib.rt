@@ -3,14 +3,14 @@
 // once for the figure, and each row hands its hints to the next.
 use canvas_size::CanvasSize;
 use figure::Figure;
-use geometry::refusal::Checked;
-use geometry::refusal::Refusal;
+use refusal::Checked;
+use refusal::Refusal;
 use style::Style;
 use styled_shape::no_hints;
 ghost use mathlib.Core.Path.{_≡_};
 ghost use Prim.Native.Nat.{_*_, _≤_};
 ghost use lib.ListN.{length};
-ghost use Rattle.geometry.specs.Bounds.{wideSide};
+ghost use Rattle.plane.specs.Bounds.{wideSide};
 ghost use Rattle.figure.specs.Bounds.{wideOffset, OwnFigure};
 ghost use Rattle.book.specs.Whole.{paintWhole};
 ghost use Rattle.drawing.specs.Drawing.{styledFigure, drawing};

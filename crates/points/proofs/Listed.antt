@@ -7,19 +7,19 @@ use Prim.Native.Nat.{ℕ, _+_, _*_, _≤_, _<_}
 use native.Mathlib.Omega.{arith}
 use lib.IntN.{ℤ, pos, _+ℤ_}
 use lib.ListN.{length}
-use Rattle.geometry.specs.declared.Range.{Range}
+use Rattle.range.specs.declared.Range.{Range}
 use Rattle.geometry.specs.declared.rectangle.Rectangle.{Rectangle}
-use Rattle.geometry.specs.declared.refusal.Refusal.{Refusal}
-use Rattle.geometry.specs.declared.refusal.Refusal.the-variants.{BufferLength}
-use Rattle.geometry.specs.declared.refusal.Checked.{Checked}
-use Rattle.geometry.specs.declared.refusal.Checked.the-variants.{Passed, Refused}
-use Rattle.geometry.specs.Refusal.{roomCheck}
-use Rattle.geometry.proofs.Checks.{passed-above}
-use Rattle.geometry.specs.Range.{isEmpty}
+use Rattle.refusal.specs.declared.Refusal.{Refusal}
+use Rattle.refusal.specs.declared.Refusal.the-variants.{BufferLength}
+use Rattle.refusal.specs.declared.Checked.{Checked}
+use Rattle.refusal.specs.declared.Checked.the-variants.{Passed, Refused}
+use Rattle.refusal.specs.Refusal.{roomCheck}
+use Rattle.refusal.proofs.Checks.{passed-above}
+use Rattle.range.specs.Range.{isEmpty}
 use Rattle.scanline.specs.declared.Row.the-variants.{Run}
 use Rattle.scanline.specs.Points.{runLength, pointsFrom}
 use Rattle.scanline.proofs.Listing.{pointsAfter, points-after-none, length-after-run}
-use Rattle.corner_radii.specs.Bounds.{wideStrokeSide}
+use Rattle.corner.specs.Bounds.{wideStrokeSide}
 use Rattle.figure.specs.declared.Figure.{Figure}
 use Rattle.figure.specs.declared.Shape.{Shape}
 use Rattle.figure.specs.declared.Shape.the-variants.{Ellipse, RoundedBox}

@@ -5,8 +5,8 @@ use Prim.Native.Nat.{ℕ, _*_}
 use lib.IntN.{ℤ, pos}
 use lib.ListN.{length}
 use lib.Seq.{sets}
-use Rattle.geometry.specs.declared.refusal.Checked.{Checked}
-use Rattle.geometry.specs.Refusal.{number, orElse, Outcome, refused, answered, unless, keeping, roomCheck}
+use Rattle.refusal.specs.declared.Checked.{Checked}
+use Rattle.refusal.specs.Refusal.{number, orElse, Outcome, refused, answered, unless, keeping, roomCheck}
 use Rattle.scanline.specs.Points.{entries}
 use Rattle.figure.specs.declared.Figure.{Figure}
 use Rattle.figure.specs.Figure.{points}

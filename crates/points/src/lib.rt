@@ -3,17 +3,17 @@
 // writes.
 use figure::Figure;
 use figure::Shape;
-use geometry::Range;
-use geometry::refusal::Checked;
-use geometry::refusal::Refusal;
-use geometry::refusal::check_room;
+use range::Range;
+use refusal::Checked;
+use refusal::Refusal;
+use refusal::check_room;
 use scanline::Row;
 ghost use mathlib.Core.Path.{_≡_};
 ghost use Prim.Native.Nat.{_*_, _≤_};
 ghost use lib.ListN.{length};
 ghost use lib.Seq.{sets};
 ghost use Rattle.signed.specs.Signed.{Near};
-ghost use Rattle.geometry.specs.Bounds.{wideSide, widePoint};
+ghost use Rattle.plane.specs.Bounds.{wideSide, widePoint};
 ghost use Rattle.scanline.specs.Points.{runLength, entries};
 ghost use Rattle.figure.specs.Bounds.{BoundedShape};
 ghost use Rattle.figure.specs.Figure.{pointsOfShape};

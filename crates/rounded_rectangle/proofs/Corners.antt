@@ -8,9 +8,10 @@ use lib.Dec.{ltb}
 use lib.IntN.{ℤ, pos, natAbs, _+ℤ_, _-ℤ_}
 use lib.Signed.{ltZ, leZ}
 use Rattle.signed.proofs.Laws.{int, tests-agree, add-law, sub-law}
-use Rattle.geometry.specs.declared.Size.{Size}
+use Rattle.plane.specs.declared.Size.{Size}
 use Rattle.ellipse.specs.Ellipse.{center2x, fromCenter2x, insideAbout}
-use Rattle.ellipse.specs.Relative.{gap, containsOf, belowThreshold, columnInside}
+use Rattle.ellipse.specs.Relative.{gap, containsOf, belowThreshold}
+use Rattle.ellipse_search.specs.Search.{columnInside}
 use Rattle.ellipse.proofs.Distances.{inside-by-distance, distance-from-first, distance-from-last, no-width-outside}
 use Rattle.rounded_rectangle.specs.declared.RoundedRectangle.{RoundedRectangle}
 use Rattle.rounded_rectangle.specs.Quadrants.{left, top, width, height, insideWhole, insideTopLeft, insideTopRight, insideBottomRight, insideBottomLeft}

@@ -9,10 +9,10 @@ use borrow.Author.Tests.{ltb-true, lt-ltb, le-ltb}
 use lib.Dec.{ltb}
 use lib.IntN.{ℤ, pos, _+ℤ_, _-ℤ_}
 use Rattle.signed.proofs.Laws.{int, add-law, sub-law}
-use Rattle.geometry.specs.declared.Size.{Size}
-use Rattle.geometry.specs.Range.{contains as Range·contains}
+use Rattle.plane.specs.declared.Size.{Size}
+use Rattle.range.specs.Range.{contains as Range·contains}
 use Rattle.geometry.specs.Rectangle.{rows}
-use Rattle.geometry.proofs.Fields.{range-by-fields}
+use Rattle.range.proofs.Fields.{range-by-fields}
 use Rattle.scanline.specs.declared.Place.{Place}
 use Rattle.scanline.specs.declared.Place.the-variants.{At, Nowhere}
 use Rattle.scanline.specs.declared.Row.the-variants.{Run, NoRow}
@@ -23,7 +23,8 @@ use Rattle.scanline.proofs.Find.{find-none, found-at}
 use Rattle.scanline.proofs.Columns.{fromLeft, fromRight, first-from-edge, last-from-edge}
 use Rattle.scanline.proofs.Placed.{place-among}
 use Rattle.ellipse.specs.declared.EllipseContains.{EllipseContains}
-use Rattle.ellipse.specs.Relative.{gap, containsOf, columnInside}
+use Rattle.ellipse.specs.Relative.{gap, containsOf}
+use Rattle.ellipse_search.specs.Search.{columnInside}
 use Rattle.ellipse.proofs.Distances.{no-width-outside}
 use Rattle.rounded_rectangle.specs.declared.RoundedRectangle.{RoundedRectangle}
 use Rattle.rounded_rectangle.specs.declared.Insets.{Insets}

@@ -6,13 +6,15 @@ use mathlib.Core.Bool.{Bool, true, cond, _&&_}
 use Prim.Native.Nat.{ℕ, _-_, _*_}
 use lib.Dec.{ltb}
 use lib.IntN.{ℤ, pos, _+ℤ_, _-ℤ_}
-use Rattle.geometry.specs.declared.Size.{Size}
-use Rattle.geometry.specs.declared.Range.{Range}
-use Rattle.geometry.specs.Bounds.{widePoint, PointNear, SizeUpTo}
+use Rattle.plane.specs.declared.Size.{Size}
+use Rattle.range.specs.declared.Range.{Range}
+use Rattle.plane.specs.Bounds.{widePoint, PointNear, SizeUpTo}
 use Rattle.scanline.specs.Places.{findFrom, placeElse0}
-use Rattle.ellipse.specs.Relative.{gap, containsOf, SmallWeights, columnInside}
+use Rattle.ellipse.specs.Relative.{gap, containsOf, SmallWeights}
+use Rattle.ellipse_search.specs.Search.{columnInside}
 use Rattle.corner_radii.specs.declared.CornerRadii.{CornerRadii}
-use Rattle.corner_radii.specs.Bounds.{wideRadius, wideStrokeSide, RadiiUpTo}
+use Rattle.corner.specs.Bounds.{wideRadius, wideStrokeSide}
+use Rattle.corner_radii.specs.Bounds.{RadiiUpTo}
 use Rattle.rounded_rectangle.specs.declared.RoundedRectangle.{RoundedRectangle}
 use Rattle.rounded_rectangle.specs.declared.Insets.{Insets}
 use Rattle.rounded_rectangle.specs.declared.RoundedRectangleContains.{RoundedRectangleContains}

@@ -1,14 +1,14 @@
 // A corner of a box: the test of the whole ellipse of twice its radii, by columns and rows counted
 // from the corner inward, after embedded-graphics 0.8.2 `rounded_rectangle/ellipse_quadrant.rs`.
 use ellipse::EllipseContains;
-use ellipse::Hint;
-use geometry::Size;
+use ellipse_search::Hint;
+use plane::Size;
 use scanline::Place;
 ghost use mathlib.Core.Path.{_≡_};
 ghost use mathlib.Core.Bool.{true};
 ghost use Prim.Native.Nat.{_<_, _≤_};
-ghost use Rattle.geometry.specs.Bounds.{wideSide, SizeUpTo};
-ghost use Rattle.corner_radii.specs.Bounds.{wideRadius};
+ghost use Rattle.plane.specs.Bounds.{wideSide, SizeUpTo};
+ghost use Rattle.corner.specs.Bounds.{wideRadius};
 ghost use Rattle.rounded_rectangle.specs.Relative.{Ready, insideCorner, inQuadrant, inset as Relative·inset};
 
 pub struct EllipseQuadrant {
@@ -65,7 +65,7 @@ impl EllipseQuadrant {
         }
         let test = self.test;
         let y = ellipse::gap(2 * radius.height, e);
-        let Place::At(k) = ellipse::find_inside(test, 2 * radius.width, y, 0, n, hint) else {
+        let Place::At(k) = ellipse_search::find_inside(test, 2 * radius.width, y, 0, n, hint) else {
             return 0;
         };
         k

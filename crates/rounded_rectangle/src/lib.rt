@@ -3,13 +3,13 @@
 // rows are counted from the box's corners, unsigned; signed numbers come in with the asked point or
 // row, and go out with the run.
 use corner_radii::CornerRadii;
-use ellipse::Hint;
 use ellipse_quadrant::EllipseQuadrant;
 use ellipse_quadrant::in_quadrant;
-use geometry::Point;
-use geometry::Range;
-use geometry::Size;
+use ellipse_search::Hint;
 use geometry::rectangle::Rectangle;
+use plane::Point;
+use plane::Size;
+use range::Range;
 use scanline::Place;
 use scanline::Row;
 
@@ -19,9 +19,10 @@ ghost use mathlib.Core.Path.{_≡_};
 ghost use Prim.Native.Nat.{_<_, _≤_};
 ghost use lib.IntN.{pos, _+ℤ_};
 ghost use Rattle.signed.specs.Signed.{Near};
-ghost use Rattle.geometry.specs.Bounds.{widePoint, wideSide, PointNear, SizeUpTo};
+ghost use Rattle.plane.specs.Bounds.{widePoint, wideSide, PointNear, SizeUpTo};
 ghost use Rattle.scanline.specs.Points.{RowWithin};
-ghost use Rattle.corner_radii.specs.Bounds.{wideRadius, wideStrokeSide, RadiiUpTo};
+ghost use Rattle.corner.specs.Bounds.{wideRadius, wideStrokeSide};
+ghost use Rattle.corner_radii.specs.Bounds.{RadiiUpTo};
 ghost use Rattle.rounded_rectangle.specs.RoundedRectangle.{contains as RoundedRectangle·contains, run as RoundedRectangle·run, row as RoundedRectangle·row};
 ghost use Rattle.rounded_rectangle.specs.Relative.{BoundedBox, Ready, ReadyBox, radii, sideInset, containsAt, rowInsets, runBetween};
 

@@ -1,14 +1,14 @@
 // Rows of figures, and the places of columns and rows in them, after embedded-graphics 0.8.2
 // `common/scanline.rs`. Inside a figure's box columns and rows are counted from a corner, unsigned;
 // the leaves here carry signed columns to places and back.
-use geometry::Range;
+use range::Range;
 ghost use mathlib.Core.Path.{_≡_};
 ghost use Prim.Native.Nat.{_+_, _*_, _≤_};
 ghost use lib.IntN.{pos, _+ℤ_, _-ℤ_};
 ghost use lib.ListN.{length};
 ghost use lib.Seq.{sets};
 ghost use Rattle.signed.specs.Signed.{Near, Is};
-ghost use Rattle.geometry.specs.Bounds.{wideSide, widePoint};
+ghost use Rattle.plane.specs.Bounds.{wideSide, widePoint};
 ghost use Rattle.scanline.specs.Places.{Placed};
 ghost use Rattle.scanline.specs.Points.{runPoints, entries};
 

@@ -3,10 +3,10 @@
 use mathlib.Core.List.{List, [], _∷_}
 use Prim.Native.Nat.{ℕ, _+_, _/_}
 use lib.IntN.{ℤ, pos}
-use Rattle.geometry.specs.declared.refusal.Refusal.the-variants.{Offset}
-use Rattle.geometry.specs.declared.refusal.Checked.{Checked}
-use Rattle.geometry.specs.Limits.{maxStrokeWidth}
-use Rattle.geometry.specs.Refusal.{number, refuseIf, above, Outcome, refused, answered, unless}
+use Rattle.refusal.specs.declared.Refusal.the-variants.{Offset}
+use Rattle.refusal.specs.declared.Checked.{Checked}
+use Rattle.plane.specs.Limits.{maxStrokeWidth}
+use Rattle.refusal.specs.Refusal.{number, refuseIf, above, Outcome, refused, answered, unless}
 use Rattle.style.specs.declared.Paint.{Paint}
 use Rattle.style.specs.declared.StrokeAlignment.{StrokeAlignment}
 use Rattle.style.specs.declared.StrokeAlignment.the-variants.{Inside, Center, Outside}

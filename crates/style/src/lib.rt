@@ -1,8 +1,8 @@
 // Paints and styles, after embedded-graphics 0.8.2 `primitives/primitive_style.rs`. A colour is one
 // byte, so `Option<C>` is the enum `Paint`, and the builder is left out.
-use geometry::refusal::Checked;
-use geometry::refusal::Refusal;
-use geometry::refusal::refuse_above;
+use refusal::Checked;
+use refusal::Refusal;
+use refusal::refuse_above;
 ghost use mathlib.Core.Path.{_≡_};
 ghost use Rattle.style.specs.Style.{defaultAlignment, styled, styledByDefault, styleCheck, outsideStrokeWidth, insideStrokeWidth, widthsOutcome, widthsCall};
 

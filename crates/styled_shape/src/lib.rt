@@ -2,12 +2,12 @@
 // 0.8.2 `StyledScanlines` of both `styled.rs`. A scan hands the hints that a row leaves to the next
 // row; they choose where searches start, and no answer depends on them.
 use box_fill::Hints;
-use ellipse::Hint;
+use ellipse_search::Hint;
 use ellipse_styled::EllipseHints;
 use ellipse_styled::StyledEllipse;
 use figure::Shape;
-use geometry::Range;
 use geometry::rectangle::Rectangle;
+use range::Range;
 use rounded_rectangle::RoundedRectangle;
 use rounded_rectangle::RoundedRectangleContains;
 use rounded_rectangle::run_between;
@@ -17,7 +17,7 @@ use scanline::StyledScanline;
 ghost use mathlib.Core.Path.{_≡_};
 ghost use lib.IntN.{ℤ};
 ghost use Rattle.signed.specs.Signed.{Near};
-ghost use Rattle.geometry.specs.Bounds.{widePoint};
+ghost use Rattle.plane.specs.Bounds.{widePoint};
 ghost use Rattle.figure.specs.Bounds.{AreaBox, BoundedShape};
 ghost use Rattle.ellipse_styled.specs.EllipseStyled.{aroundFill, ellipseStyledRow};
 ghost use Rattle.ellipse_styled.specs.Relative.{ReadyEllipse};

@@ -5,13 +5,13 @@ use mathlib.Core.Path.{_≡_, sym, ap, _∙_}
 use Prim.Native.Nat.{ℕ, _+_, _-_, max}
 use lib.IntN.{ℤ, pos, _+ℤ_, _-ℤ_}
 use mir.Facts.{toZ-ofZ}
-use Rattle.geometry.specs.declared.Size.{Size}
-use Rattle.geometry.proofs.Fields.{range-by-fields}
+use Rattle.plane.specs.declared.Size.{Size}
+use Rattle.range.proofs.Fields.{range-by-fields}
 use Rattle.scanline.specs.declared.Place.{Place}
 use Rattle.scanline.specs.declared.Place.the-variants.{At}
 use Rattle.corner_radii.specs.declared.CornerRadii.{CornerRadii}
 use Rattle.rounded_rectangle.specs.Relative.{radii}
-use Rattle.box_fill.specs.Relative.{firstContained, lastContained}
+use Rattle.box_columns.specs.Columns.{firstContained, lastContained}
 use Rattle.box_fill.proofs.Rows.{Looked, first-in, first-mirrored, right-start, fill-none, fill-found, place-read}
 use borrow.Author.Needs.{needs}
 use native.Mathlib.Omega.{arith}

@@ -1,7 +1,7 @@
 -- `canvas::paint_row_at` meets its contract: the part lent is the canvas row, and what comes back takes its place.
 -- Assumes nothing.
 use Rattle.canvas.specs.Canvas.{overpaintRuns}
-use Rattle.canvas.proofs.LentPart.{lent-row-length, lent-row-put}
+use Rattle.canvas_run.proofs.LentPart.{lent-row-length, lent-row-put}
 use borrow.Author.Needs.{needs}
 use native.Mathlib.Omega.{arith}
 use Rattle.canvas.proofs.paint_row_at.Statement.{statement}

@@ -1,7 +1,7 @@
 -- `corner_radii::check_radius` meets its contract: the checks called are those of the definition.
 -- Assumes nothing.
 use mathlib.Core.Path.{ap₂, _∙_}
-use Rattle.geometry.specs.Refusal.{orElse}
+use Rattle.refusal.specs.Refusal.{orElse}
 use Rattle.corner_radii.specs.CornerRadii.{radiusCheck}
 use borrow.Author.Needs.{needs}
 use Rattle.corner_radii.proofs.check_radius.Statement.{statement}

@@ -2,7 +2,7 @@
 -- Assumes nothing.
 use borrow.Author.Needs.{needs}
 use mathlib.Core.Path.{ap₂, _∙_}
-use Rattle.geometry.specs.Refusal.{orElse}
+use Rattle.refusal.specs.Refusal.{orElse}
 use Rattle.drawing.specs.Drawing.{styledCheck}
 use Rattle.drawing.proofs.check.Statement.{statement}
 use Rattle.drawing.proofs.check.Tie as tie

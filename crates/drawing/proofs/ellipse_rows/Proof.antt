@@ -10,7 +10,7 @@ use Rattle.figure.proofs.Within.{own-area, area-bounded, offset-area}
 use mir.Syntax.{w32}
 use mir.Val.{SFits}
 use Rattle.geometry.specs.declared.rectangle.Rectangle.{Rectangle}
-use Rattle.ellipse.specs.Ellipse.{rowCount}
+use Rattle.ellipse_points.specs.EllipsePoints.{rowCount}
 use Rattle.drawing.proofs.ellipse_rows.Statement.{statement}
 use Rattle.drawing.proofs.ellipse_rows.Tie as tie
 

@@ -1,7 +1,7 @@
 -- `figure::check_box` meets its contract: the checks called are those of the definition, in its order.
 -- Assumes nothing.
 use mathlib.Core.Path.{ap₂, _∙_}
-use Rattle.geometry.specs.Refusal.{orElse}
+use Rattle.refusal.specs.Refusal.{orElse}
 use Rattle.figure.specs.Calls.{boxCheck}
 use borrow.Author.Needs.{needs}
 use Rattle.figure.proofs.check_box.Statement.{statement}

@@ -4,7 +4,7 @@ use mathlib.Core.Path.{ap, _∙_}
 use mir.Facts.{toZ-ofZ}
 use Rattle.geometry.specs.Rectangle.{offset as Rectangle·offset}
 use Rattle.corner_radii.specs.CornerRadii.{offset as CornerRadii·offset}
-use Rattle.corner_radii.specs.Bounds.{wideRadius}
+use Rattle.corner.specs.Bounds.{wideRadius}
 use Rattle.corner_radii.proofs.Bounds.{radii-up-to-wider}
 use Rattle.figure.specs.Bounds.{wideOwnSide}
 use Rattle.figure.specs.Figure.{offsetBox}

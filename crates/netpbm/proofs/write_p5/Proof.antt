@@ -8,10 +8,11 @@ use native.Mathlib.Omega.{arith}
 use borrow.Author.Needs.{needs}
 use lib.IntN.{pos}
 use lib.ListN.{length}
-use Rattle.geometry.specs.Refusal.{orElse, answered}
-use Rattle.geometry.specs.Refusal.{roomCheck}
+use Rattle.refusal.specs.Refusal.{orElse, answered}
+use Rattle.refusal.specs.Refusal.{roomCheck}
 use Rattle.netpbm.specs.Netpbm.{writeCheck}
-use Rattle.netpbm.proofs.Header.{length-header-u32, length-p5, write-passed-room}
+use Rattle.p5_header.proofs.Header.{length-header-u32}
+use Rattle.netpbm.proofs.File.{length-p5, write-passed-room}
 use Rattle.netpbm.proofs.write_p5.Statement.{statement}
 use Rattle.netpbm.proofs.write_p5.Tie as tie
 

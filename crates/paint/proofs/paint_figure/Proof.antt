@@ -4,7 +4,7 @@
 use borrow.Author.Needs.{needs}
 use native.Mathlib.Omega.{arith}
 use mathlib.Core.Path.{_≡_, refl, sym, ap₂, _∙_}
-use Rattle.geometry.specs.Refusal.{orElse}
+use Rattle.refusal.specs.Refusal.{orElse}
 use Rattle.paint.specs.Paint.{paintCheck}
 use Rattle.paint.proofs.Passed.{PaintPassed, paint-passed}
 use Rattle.paint.proofs.Painted.{whole-is-painted}

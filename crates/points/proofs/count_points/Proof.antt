@@ -7,12 +7,12 @@ use lib.IntN.{ℤ, pos, _+ℤ_}
 use mir.Syntax.{w32}
 use mir.Val.{toZ, ofZ}
 use mir.Facts.{toZ-ofZ}
-use Rattle.geometry.specs.declared.Range.{Range}
+use Rattle.range.specs.declared.Range.{Range}
 use Rattle.geometry.specs.declared.rectangle.Rectangle.{Rectangle}
 use Rattle.scanline.specs.declared.Row.the-variants.{Run}
 use Rattle.scanline.specs.Points.{EndsWithin, RowWithin, pointsFrom}
 use Rattle.scanline.proofs.Listing.{points-after-all, points-after-empty, points-after-no-row}
-use Rattle.corner_radii.specs.Bounds.{wideStrokeSide}
+use Rattle.corner.specs.Bounds.{wideStrokeSide}
 use Rattle.figure.specs.Bounds.{AreaRectangle}
 use Rattle.figure.specs.Figure.{rowOfShape}
 use Rattle.figure.proofs.Runs.{run-length-le, start-is-near, end-is-near}

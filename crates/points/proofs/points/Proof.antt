@@ -7,8 +7,8 @@ use Prim.Native.Nat.{ℕ, _*_}
 use lib.IntN.{pos}
 use lib.ListN.{length}
 use lib.Seq.{sets}
-use Rattle.geometry.specs.declared.refusal.Checked.the-variants.{Passed}
-use Rattle.geometry.specs.Refusal.{answered, roomCheck}
+use Rattle.refusal.specs.declared.Checked.the-variants.{Passed}
+use Rattle.refusal.specs.Refusal.{answered, roomCheck}
 use Rattle.scanline.specs.Points.{entries}
 use Rattle.figure.specs.declared.Shape.{Shape}
 use Rattle.figure.specs.Figure.{points, pointsOfShape}

@@ -6,9 +6,10 @@ use borrow.Author.Needs.{needs}
 use mathlib.Core.Path.{_≡_, sym, ap, ap₂, _∙_}
 use mir.Facts.{toZ-ofZ}
 use Rattle.scanline.specs.declared.StyledRow.{StyledRow}
-use Rattle.geometry.specs.Refusal.{orElse, answered}
-use Rattle.geometry.specs.Calls.{askedCheck}
-use Rattle.geometry.proofs.Checks.{passed-first, passed-next, asked-passed}
+use Rattle.refusal.specs.Refusal.{orElse, answered}
+use Rattle.plane.specs.Checks.{askedCheck}
+use Rattle.refusal.proofs.Checks.{passed-first, passed-next}
+use Rattle.plane.proofs.Checks.{asked-passed}
 use Rattle.figure.specs.Calls.{figureCheck}
 use Rattle.figure.proofs.Within.{figure-passed}
 use Rattle.style.specs.Style.{styleCheck}

@@ -2,7 +2,7 @@
 -- Assumes nothing.
 use mathlib.Core.Path.{ap₂, _∙_}
 use borrow.Author.Needs.{needs}
-use Rattle.geometry.specs.Refusal.{orElse}
+use Rattle.refusal.specs.Refusal.{orElse}
 use Rattle.canvas_size.specs.CanvasSize.{canvasSizeCheck}
 use Rattle.canvas_size.proofs.CanvasSize.check.Statement.{statement}
 use Rattle.canvas_size.proofs.CanvasSize.check.Tie as tie

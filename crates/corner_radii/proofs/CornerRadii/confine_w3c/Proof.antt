@@ -2,8 +2,9 @@
 -- edge, and that edge overlaps where some edge does.
 -- Assumes nothing.
 use mathlib.Core.Path.{sym, ap, _∙_}
-use Rattle.corner_radii.specs.declared.Edge.{Edge}
-use Rattle.corner_radii.specs.CornerRadii.{tightest, reduced}
+use Rattle.corner.specs.declared.Edge.{Edge}
+use Rattle.corner.specs.Corner.{tightest}
+use Rattle.corner_radii.specs.CornerRadii.{reduced}
 use Rattle.corner_radii.proofs.W3cRule.{w3c-by-tightest}
 use borrow.Author.Needs.{needs}
 use Rattle.corner_radii.proofs.CornerRadii.confine_w3c.Statement.{statement}

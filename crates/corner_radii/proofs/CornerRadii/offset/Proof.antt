@@ -3,7 +3,8 @@
 use mathlib.Core.Path.{ap, _∙_}
 use lib.IntN.{ℤ}
 use mir.Facts.{toZ-ofZ}
-use Rattle.corner_radii.specs.CornerRadii.{offsetCorner, offset}
+use Rattle.corner.specs.Corner.{offsetCorner}
+use Rattle.corner_radii.specs.CornerRadii.{offset}
 use Rattle.corner_radii.proofs.Fields.{corner-radii-by-fields}
 use borrow.Author.Needs.{needs}
 use Rattle.corner_radii.proofs.CornerRadii.offset.Statement.{statement}

@@ -12,8 +12,9 @@ use Rattle.scanline.specs.declared.Place.the-variants.{At}
 use Rattle.scanline.specs.declared.StyledRow.the-variants.{Runs}
 use Rattle.scanline.specs.Places.{findFrom, Placed}
 use Rattle.scanline.proofs.Placed.{placed-told}
-use Rattle.ellipse.specs.Relative.{columnInside, firstInside, firstRowInside}
-use Rattle.ellipse.proofs.Rows.{first-row-wide, first-inside-half}
+use Rattle.ellipse_search.specs.Search.{columnInside}
+use Rattle.ellipse_points.specs.Relative.{firstInside, firstRowInside}
+use Rattle.ellipse_points.proofs.Rows.{first-row-wide, first-inside-half}
 use Rattle.ellipse_styled.specs.Relative.{runsFrom}
 use Rattle.ellipse_styled.proofs.Rows.{styled-out, styled-lacking, styled-none, styled-found, first-inside-found}
 use Rattle.ellipse_styled.proofs.StyledEllipse.row.Statement.{statement}

@@ -2,9 +2,10 @@
 -- Assumes nothing.
 use mathlib.Core.Path.{_≡_, sym, ap, ap₂, _∙_}
 use mir.Facts.{toZ-ofZ}
-use Rattle.geometry.specs.Refusal.{orElse, answered}
-use Rattle.geometry.specs.Calls.{askedCheck}
-use Rattle.geometry.proofs.Checks.{passed-first, passed-next, asked-passed}
+use Rattle.refusal.specs.Refusal.{orElse, answered}
+use Rattle.plane.specs.Checks.{askedCheck}
+use Rattle.refusal.proofs.Checks.{passed-first, passed-next}
+use Rattle.plane.proofs.Checks.{asked-passed}
 use Rattle.scanline.specs.declared.Row.{Row}
 use Rattle.figure.specs.Calls.{figureCheck, rowValues}
 use Rattle.figure.specs.Figure.{rowOfShape}

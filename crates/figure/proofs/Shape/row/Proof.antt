@@ -2,7 +2,7 @@
 -- Assumes nothing.
 use mathlib.Core.Path.{ap, sym, subst, _∙_}
 use mir.Facts.{toZ-ofZ}
-use Rattle.ellipse.specs.Ellipse.{row as Ellipse·row}
+use Rattle.ellipse_points.specs.EllipsePoints.{row as Ellipse·row}
 use Rattle.rounded_rectangle.specs.RoundedRectangle.{row as RoundedRectangle·row}
 use Rattle.scanline.specs.Points.{RowWithin}
 use Rattle.figure.specs.declared.Shape.{Shape}

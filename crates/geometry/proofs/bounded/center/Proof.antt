@@ -1,7 +1,7 @@
 -- `geometry::bounded::center` meets its contract: each coordinate is the definition's sum, and fits by the bounds.
 -- Assumes nothing.
 use Rattle.geometry.specs.Rectangle.{center}
-use Rattle.geometry.proofs.Fields.{point-by-fields}
+use Rattle.plane.proofs.Fields.{point-by-fields}
 use borrow.Author.Needs.{needs}
 use native.Mathlib.Omega.{arith}
 use Rattle.signed.proofs.Laws.{int}

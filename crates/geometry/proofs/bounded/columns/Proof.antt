@@ -1,6 +1,6 @@
 -- `geometry::bounded::columns` meets its contract: the end is the definition's sum, and fits by the bounds.
 -- Assumes nothing.
-use Rattle.geometry.proofs.Fields.{range-by-fields}
+use Rattle.range.proofs.Fields.{range-by-fields}
 use borrow.Author.Needs.{needs}
 use native.Mathlib.Omega.{arith}
 use Rattle.signed.proofs.Laws.{int}

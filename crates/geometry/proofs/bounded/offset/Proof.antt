@@ -4,9 +4,9 @@
 use mathlib.Core.Path.{sym, ap, ap₂, _∙_, subst}
 use mir.Facts.{toZ-ofZ}
 use Prim.Native.Nat.{_*_}
-use Rattle.geometry.specs.Bounds.{wideSide, widePoint, PointNear}
+use Rattle.plane.specs.Bounds.{wideSide, widePoint, PointNear}
 use Rattle.geometry.specs.Rectangle.{withCenter, offsetSide, offset}
-use Rattle.geometry.proofs.Fields.{size-by-fields}
+use Rattle.plane.proofs.Fields.{size-by-fields}
 use Rattle.geometry.proofs.Offset.{center-near, offset-size-up-to}
 use borrow.Author.Needs.{needs}
 use native.Mathlib.Omega.{arith}

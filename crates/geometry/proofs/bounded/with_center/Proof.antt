@@ -2,7 +2,8 @@
 -- Assumes nothing.
 use mathlib.Core.Path.{refl}
 use Rattle.geometry.specs.Rectangle.{withCenter}
-use Rattle.geometry.proofs.Fields.{point-by-fields, rectangle-by-fields}
+use Rattle.plane.proofs.Fields.{point-by-fields}
+use Rattle.geometry.proofs.Fields.{rectangle-by-fields}
 use borrow.Author.Needs.{needs}
 use native.Mathlib.Omega.{arith}
 use Rattle.signed.proofs.Laws.{int}

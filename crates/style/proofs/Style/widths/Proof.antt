@@ -3,7 +3,7 @@
 -- Assumes nothing.
 use mathlib.Core.Path.{sym, ap₂, _∙_}
 use Prim.Native.Nat.{ℕ}
-use Rattle.geometry.specs.Refusal.{Outcome, answered}
+use Rattle.refusal.specs.Refusal.{Outcome, answered}
 use Rattle.style.specs.Style.{widthsValues}
 use borrow.Author.Needs.{needs}
 use Rattle.style.proofs.Style.widths.Statement.{statement}

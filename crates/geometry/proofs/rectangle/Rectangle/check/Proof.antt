@@ -1,7 +1,7 @@
 -- `geometry::rectangle::Rectangle::check` meets its contract: the checks called are those of the definition.
 -- Assumes nothing.
 use mathlib.Core.Path.{ap₂, _∙_}
-use Rattle.geometry.specs.Refusal.{orElse}
+use Rattle.refusal.specs.Refusal.{orElse}
 use Rattle.geometry.specs.Calls.{rectangleCheck}
 use borrow.Author.Needs.{needs}
 use Rattle.geometry.proofs.rectangle.Rectangle.check.Statement.{statement}

@@ -4,10 +4,13 @@
 use mathlib.Core.Path.{_≡_, sym, ap, ap₂, _∙_}
 use mir.Facts.{toZ-ofZ}
 use Rattle.geometry.specs.declared.rectangle.Rectangle.{Rectangle}
-use Rattle.geometry.specs.Refusal.{answered, orElse}
+use Rattle.refusal.specs.Refusal.{answered, orElse}
 use Rattle.geometry.specs.Rectangle.{offset as offsetRectangle}
-use Rattle.geometry.specs.Calls.{rectangleCheck, offsetCheck, rectangleValues}
-use Rattle.geometry.proofs.Checks.{passed-first, passed-next, rectangle-bounded, offset-passed}
+use Rattle.geometry.specs.Calls.{rectangleCheck, rectangleValues}
+use Rattle.plane.specs.Checks.{offsetCheck}
+use Rattle.refusal.proofs.Checks.{passed-first, passed-next}
+use Rattle.geometry.proofs.Checks.{rectangle-bounded}
+use Rattle.plane.proofs.Checks.{offset-passed}
 use borrow.Author.Needs.{needs}
 use native.Mathlib.Omega.{arith}
 use Rattle.signed.proofs.Laws.{int}

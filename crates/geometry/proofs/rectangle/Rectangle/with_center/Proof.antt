@@ -3,9 +3,12 @@
 -- Assumes nothing.
 use mathlib.Core.Path.{_≡_, sym, ap, ap₂, _∙_}
 use Rattle.geometry.specs.declared.rectangle.Rectangle.{Rectangle}
-use Rattle.geometry.specs.Refusal.{unless, orElse}
-use Rattle.geometry.specs.Calls.{sizeCheck, positionCheck, centerCheck, rectangleValues}
-use Rattle.geometry.proofs.Checks.{passed-first, passed-next, size-passed, center-passed, with-center-refused}
+use Rattle.refusal.specs.Refusal.{unless, orElse}
+use Rattle.plane.specs.Checks.{sizeCheck, positionCheck, centerCheck}
+use Rattle.geometry.specs.Calls.{rectangleValues}
+use Rattle.refusal.proofs.Checks.{passed-first, passed-next}
+use Rattle.plane.proofs.Checks.{size-passed, center-passed}
+use Rattle.geometry.proofs.Checks.{with-center-refused}
 use borrow.Author.Needs.{needs}
 use native.Mathlib.Omega.{arith}
 use Rattle.geometry.proofs.rectangle.Rectangle.with_center.Statement.{statement}

@@ -2,7 +2,8 @@
 -- and the row in the whole ellipse.
 -- Assumes nothing.
 use mathlib.Core.Path.{_∙_}
-use Rattle.ellipse.specs.Relative.{belowThreshold, columnInside}
+use Rattle.ellipse.specs.Relative.{belowThreshold}
+use Rattle.ellipse_search.specs.Search.{columnInside}
 use Rattle.rounded_rectangle.specs.Relative.{insideCorner}
 use Rattle.rounded_rectangle.proofs.Contains.{in-quadrant-row, in-quadrant-column}
 use borrow.Author.Needs.{needs}

