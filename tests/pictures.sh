@@ -1,0 +1,10 @@
+#!/bin/sh
+# Makes the pictures of README anew from the bytes that the programs write: enlarged so that pixels
+# show, and with the brightest byte made white.
+set -eu
+cd "$(dirname "$0")/.."
+picture() { # the program, how much it is enlarged, the brightest byte
+    pamenlarge "$2" "crates/$1/stdout" | pnmnorm -bvalue=0 -wvalue="$3" 2>/dev/null | pnmtopng >"docs/pictures/$1.png"
+}
+picture oval 16 9
+picture clock 4 255
