@@ -6,7 +6,7 @@ use Prim.Native.Nat.{ℕ, _*_, _≤_, _<_}
 use native.Mathlib.Nat.{le-refl, le-of-lt, mul-comm, mul-le-mul-left, mul-le-mul-right, mul-right-comm, le-of-mul-le-mul-right, mul-lt-mul-of-pos-right}
 use native.Mathlib.Decide.{decLe}
 use native.Mathlib.Omega.{arith}
-use borrow.Author.Tests.{lt-ltb, le-ltb, ltb-true, ltb-false, eq-eqb, ne-eqb}
+use borrow.Author.Tests.{lt-ltb, le-ltb, ltb-false, eq-eqb, ne-eqb}
 use Rattle.corner.specs.declared.Edge.{Edge}
 use Rattle.corner.specs.declared.Edges.{Edges}
 use Rattle.corner.specs.Corner.{S, L, over, tighter, tightest, someOver, FitsEdges}
