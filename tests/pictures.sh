@@ -8,3 +8,4 @@ picture() { # the program, how much it is enlarged, the brightest byte
 }
 picture oval 16 9
 picture clock 4 255
+picture cafe 3 255

@@ -1,0 +1,210 @@
+-- The rules of layers by their rows. Of one layer: each test that the code makes decides `layerKeepsRules`, and a layer that
+-- passes has a figure, a style and rows within bounds. Of the places from one on: they keep the rules if their first does, with
+-- the rows of those after it at hand.
+-- Assumes nothing.
+use mathlib.Core.Path.{_≡_, refl, sym, ap, ap₂, subst, _∙_}
+use mathlib.Core.Bool.{Bool, true, false, cond, not, _&&_, _||_}
+use mathlib.Core.List.{List, [], _∷_, map}
+use Prim.Native.Nat.{ℕ, zero, suc, _+_, _<_, _≤_}
+use native.Mathlib.Omega.{arith}
+use native.Mathlib.Numerals.{add-one}
+use lib.IntN.{ℤ, pos, _+ℤ_}
+use lib.ListN.{length, take, drop, getD, set}
+use lib.Signed.{leZ, ltZ}
+use Rattle.signed.specs.Signed.{Near}
+use Rattle.signed.proofs.Laws.{int, add-law}
+use Rattle.refusal.specs.declared.Refusal.{Refusal}
+use Rattle.refusal.specs.declared.Checked.{Checked}
+use Rattle.refusal.specs.declared.Checked.the-variants.{Passed, Refused}
+use Rattle.plane.specs.Bounds.{widePoint}
+use Rattle.refusal.proofs.Checks.{passed-first, passed-next}
+use Rattle.corner.specs.Bounds.{wideStrokeSide}
+use Rattle.figure.specs.declared.Figure.{Figure}
+use Rattle.figure.specs.declared.Figure.the-variants.{Ellipse, CrateBox, W3cBox}
+use Rattle.figure.specs.Calls.{figureCheck}
+use Rattle.figure.specs.Bounds.{wideOffset, wideAreaPosition, OwnFigure}
+use Rattle.figure.proofs.Within.{figure-passed, offset-area}
+use Rattle.style.specs.declared.Style.{Style}
+use Rattle.style.specs.Style.{styleCheck, outsideStrokeWidth}
+use Rattle.style.proofs.StrokeWidths.{style-passed, outside-within-stroke}
+use Rattle.book.specs.Sheet.{layerOwes, someLayerOwes, layerKeepsRules, overtakes, noneOvertakes, layersKeepRules}
+use Rattle.book.specs.Sheet.{isAccepted}
+use Rattle.book.specs.Book.{accepted, hasRow}
+use Rattle.book.proofs.Tests.{and-true-parts, is-accepted-true, refused-apart}
+use Rattle.drawing.specs.Drawing.{answerOf, styledCheck, drawing}
+use Rattle.drawing.specs.Rows.{strokeRows}
+use Rattle.drawing.proofs.Rows.{rows-of-ellipse, rows-of-crate-box, rows-of-w3c-box, RowsWithin, box-rows-within, ellipse-rows-within}
+use Rattle.layers.specs.declared.Layer.{Layer}
+use Rattle.layers.specs.declared.LayerRows.{LayerRows}
+use Rattle.layers.specs.declared.RowsFound.the-variants.{Broken, Kept}
+use Rattle.layers.specs.Layers.{layerOf, blankLayer, layerRows, rowsOwe, someRowsOwe, rowsOvertake, noRowsOvertake}
+use Rattle.layers.proofs.RowTests.{RowsFit, place-here, put-here}
+
+-- ---- one layer
+module _ (l : Layer) where
+  pub broken-by-check : (refusal : Refusal) → styledCheck (l .figure) (l .style) ≡ Refused refusal
+      → layerKeepsRules drawing (layerOf l) ≡ false
+  unfolding layerKeepsRules
+  broken-by-check refusal refused = rw refused
+
+  module _ (passed : styledCheck (l .figure) (l .style) ≡ Passed) where
+    pub broken-above : ltZ (l .«next_row») (layerRows l .first) ≡ true → layerKeepsRules drawing (layerOf l) ≡ false
+    unfolding layerKeepsRules layerRows
+    broken-above above =
+        let first : leZ (strokeRows (l .figure) (l .style) .first) (l .«next_row») ≡ false = omega (arith, int) in
+        rw (passed, first)
+
+    module _ (from : ltZ (l .«next_row») (layerRows l .first) ≡ false) where
+      pub broken-below : ltZ (layerRows l .end) (l .«next_row») ≡ true → layerKeepsRules drawing (layerOf l) ≡ false
+      unfolding layerKeepsRules layerRows
+      broken-below below =
+          let s = strokeRows (l .figure) (l .style) in
+          let first : leZ (s .first) (l .«next_row») ≡ true = omega (arith, int) in
+          let end : leZ (l .«next_row») (s .first +ℤ pos (s .count)) ≡ false = omega (arith, int) in
+          rw (passed, first, end)
+
+      pub kept-among : ltZ (layerRows l .end) (l .«next_row») ≡ false → layerKeepsRules drawing (layerOf l) ≡ true
+      unfolding layerKeepsRules layerRows
+      kept-among among =
+          let s = strokeRows (l .figure) (l .style) in
+          let first : leZ (s .first) (l .«next_row») ≡ true = omega (arith, int) in
+          let end : leZ (l .«next_row») (s .first +ℤ pos (s .count)) ≡ true = omega (arith, int) in
+          rw (passed, first, end)
+
+-- ---- what a passed check bounds
+pub checked-figure : (f : Figure) (style : Style) → styledCheck f style ≡ Passed → OwnFigure f
+unfolding styledCheck
+checked-figure f style passed = figure-passed f (passed-first (figureCheck f) (styleCheck style) passed)
+
+pub checked-stroke : (f : Figure) (style : Style) → styledCheck f style ≡ Passed → style .«stroke_width» ≤ wideOffset
+unfolding styledCheck
+checked-stroke f style passed = omega (arith, style-passed style (passed-next (figureCheck f) (styleCheck style) passed))
+
+stroke-rows-within : (f : Figure) (style : Style) → OwnFigure f → style .«stroke_width» ≤ wideOffset → RowsWithin (strokeRows f style)
+stroke-rows-within (Ellipse r) style own stroke = rw (rows-of-ellipse style r) (ellipse-rows-within _ (offset-area r (pos (outsideStrokeWidth style)) own (omega (arith, int, outside-within-stroke style))))
+stroke-rows-within (CrateBox b) style own stroke = rw (rows-of-crate-box style b) (box-rows-within _ (offset-area (b .rectangle) (pos (outsideStrokeWidth style)) (own .rectangle) (omega (arith, int, outside-within-stroke style))))
+stroke-rows-within (W3cBox b) style own stroke = rw (rows-of-w3c-box style b) (box-rows-within _ (offset-area (b .rectangle) (pos (outsideStrokeWidth style)) (own .rectangle) (omega (arith, int, outside-within-stroke style))))
+
+-- ---- rows for layers
+pub owe-by-rows : (layers : List Layer) (y : ℤ) → someLayerOwes drawing (map layerOf layers) y ≡ someRowsOwe (map layerRows layers) y
+unfolding someLayerOwes someRowsOwe layerOwes rowsOwe hasRow layerRows
+owe-by-rows [] y = refl
+owe-by-rows (l ∷ rest) y = ap (λ (t : Bool). rowsOwe (layerRows l) y || t) (owe-by-rows rest y)
+
+pub overtake-by-rows : (l : Layer) (layers : List Layer)
+    → noneOvertakes drawing (layerOf l) (map layerOf layers) ≡ noRowsOvertake (layerRows l) (map layerRows layers)
+unfolding noneOvertakes noRowsOvertake overtakes rowsOvertake layerRows
+overtake-by-rows l [] = refl
+overtake-by-rows l (later ∷ rest) = ap (λ (t : Bool). not (rowsOvertake (layerRows l) (layerRows later)) && t) (overtake-by-rows l rest)
+
+-- ---- what the test of one layer found
+module _ (t : Bool) (r : LayerRows) where
+  pub found-broken : Broken ≡ cond t (Kept r) Broken → t ≡ false
+  found-broken e = by-test t e
+    where
+      by-test : (t : Bool) → Broken ≡ cond t (Kept r) Broken → t ≡ false
+      by-test true e = let z : _≡_ {A = ℕ} 0 1 = cc in absurd (omega arith)
+      by-test false e = refl
+
+  pub found-kept : (q : LayerRows) → Kept q ≡ cond t (Kept r) Broken → (t ≡ true) × (q ≡ r)
+  found-kept q e = by-test t e
+    where
+      by-test : (t : Bool) → Kept q ≡ cond t (Kept r) Broken → (t ≡ true) × (q ≡ r)
+      by-test true e = (refl, cc)
+      by-test false e = let z : _≡_ {A = ℕ} 0 1 = cc in absurd (omega arith)
+
+-- ---- the places from one on
+and-false : (a : Bool) → (a && false) ≡ false
+and-false true = refl
+and-false false = refl
+
+pub rest-broken : (k : ℕ) (layers : List Layer) → layersKeepRules drawing (map layerOf (drop k layers)) ≡ false
+    → layersKeepRules drawing (map layerOf layers) ≡ false
+unfolding layersKeepRules
+rest-broken zero layers e = e
+rest-broken (suc k) [] e = e
+rest-broken (suc k) (l ∷ layers) e =
+    rw (rest-broken k layers e)
+    (and-false (layerKeepsRules drawing (layerOf l) && noneOvertakes drawing (layerOf l) (map layerOf layers)))
+
+-- i is a place, and next the one after it
+module _ (layers : List Layer) (count i next : ℕ) (step : i + 1 ≡ next) (here : i < count) (enough : count ≤ length layers) where
+  -- the layer that stands here, and those after it
+  abbrev at : Layer
+  at = getD layers i blankLayer
+
+  abbrev after : List Layer
+  after = drop next (take count layers)
+
+  split : drop i (take count layers) ≡ at ∷ after
+  split = place-here layers count i blankLayer here enough ∙ ap {B = List Layer} (λ n. at ∷ drop n (take count layers)) step
+
+  broken-whole : layersKeepRules drawing (map layerOf (at ∷ after)) ≡ false → layersKeepRules drawing (map layerOf (take count layers)) ≡ false
+  broken-whole e = rest-broken i (take count layers) (rw split e)
+
+  pub broken-here : layerKeepsRules drawing (layerOf at) ≡ false → layersKeepRules drawing (map layerOf (take count layers)) ≡ false
+  broken-here broken = broken-whole (unfold layersKeepRules in rw broken)
+
+  module _ (own : layerKeepsRules drawing (layerOf at) ≡ true) where
+    pub broken-order : noRowsOvertake (layerRows at) (map layerRows after) ≡ false
+        → layersKeepRules drawing (map layerOf (take count layers)) ≡ false
+    broken-order broken = broken-whole (unfold layersKeepRules in rw (own, overtake-by-rows at after, broken))
+
+    pub kept-here : noRowsOvertake (layerRows at) (map layerRows after) ≡ true → layersKeepRules drawing (map layerOf after) ≡ true
+        → layersKeepRules drawing (map layerOf (drop i (take count layers))) ≡ true
+    kept-here order rest = rw split (unfold layersKeepRules in rw (own, overtake-by-rows at after, order, rest))
+
+  -- the rows found are put where they belong
+  pub rows-put : (rows : List LayerRows) → count ≤ length rows → drop next (take count rows) ≡ map layerRows after
+      → drop i (take count (set rows i (layerRows at))) ≡ map layerRows (drop i (take count layers))
+  rows-put rows room rest =
+      put-here rows count i (layerRows at) here (omega arith)
+      ∙ ap {B = List LayerRows} (λ t. layerRows at ∷ t) (ap (λ (n : ℕ). drop n (take count rows)) step ∙ rest)
+      ∙ sym (ap (map layerRows) split)
+
+-- ---- what the rules bound
+pub answer-passed : (check : Checked) → answerOf check ≡ accepted → check ≡ Passed
+answer-passed Passed e = refl
+answer-passed (Refused refusal) e = absurd (refused-apart e)
+
+-- a layer that its functions take
+pub record LayerWithin (l : Layer) : Type 0 where
+  pub figure : OwnFigure (l .figure)
+  pub stroke : l .style .«stroke_width» ≤ wideOffset
+  pub next : Near widePoint (l .«next_row»)
+  pub rows : RowsFit (layerRows l)
+
+pub kept-within : (l : Layer) → layerKeepsRules drawing (layerOf l) ≡ true → LayerWithin l
+unfolding layerKeepsRules layerRows
+kept-within l kept =
+    let area = strokeRows (l .figure) (l .style) in
+    let end : ℤ = area .first +ℤ pos (area .count) in
+    let p = and-true-parts (isAccepted (answerOf (styledCheck (l .figure) (l .style)))) (leZ (area .first) (l .«next_row») && leZ (l .«next_row») end) kept in
+    let q = and-true-parts (leZ (area .first) (l .«next_row»)) (leZ (l .«next_row») end) (p .1) in
+    let passed = answer-passed (styledCheck (l .figure) (l .style)) (is-accepted-true (answerOf (styledCheck (l .figure) (l .style))) (p .0)) in
+    let figure = checked-figure (l .figure) (l .style) passed in
+    let stroke = checked-stroke (l .figure) (l .style) passed in
+    let rows = stroke-rows-within (l .figure) (l .style) figure stroke in
+    let first = rows .first in
+    let from = q .0 in
+    let to = q .1 in
+    let count = rows .count in
+    let next : Near widePoint (l .«next_row») = omega (arith, int, add-law (area .first) (pos (area .count))) in
+    record {
+      figure = figure;
+      stroke = stroke;
+      next = next;
+      rows = record { first = first .fits; next = next .fits; end = omega (arith, int) };
+    }
+
+pub kept-at : (layers : List Layer) (i : ℕ) → layersKeepRules drawing (map layerOf layers) ≡ true → i < length layers
+    → layerKeepsRules drawing (layerOf (getD layers i blankLayer)) ≡ true
+unfolding layersKeepRules
+kept-at [] i kept within = absurd (omega arith)
+kept-at (l ∷ layers) zero kept within =
+    let own : Bool = layerKeepsRules drawing (layerOf l) in
+    let order : Bool = noneOvertakes drawing (layerOf l) (map layerOf layers) in
+    and-true-parts own order (and-true-parts (own && order) (layersKeepRules drawing (map layerOf layers)) kept .0) .0
+kept-at (l ∷ layers) (suc i) kept within =
+    let here : Bool = layerKeepsRules drawing (layerOf l) && noneOvertakes drawing (layerOf l) (map layerOf layers) in
+    kept-at layers i (and-true-parts here (layersKeepRules drawing (map layerOf layers)) kept .1) (omega arith)

@@ -1,0 +1,194 @@
+// The layers of a sheet and the rules that they keep, one by one and two by two (refusal 7). The
+// paper adds them; the Rust has no such type.
+use drawing::StrokeRows;
+use figure::Figure;
+use refusal::Checked;
+use style::Style;
+ghost use mathlib.Core.Path.{_≡_};
+ghost use mathlib.Core.Bool.{true, false, cond};
+ghost use mathlib.Core.List.{map};
+ghost use Prim.Native.Nat.{_≤_};
+ghost use lib.ListN.{take, drop};
+ghost use Rattle.book.specs.Sheet.{layerKeepsRules, layersKeepRules};
+ghost use Rattle.drawing.specs.Drawing.{drawing};
+ghost use Rattle.layers.specs.Layers.{layerOf, layerRows, rowsOwe, someRowsOwe, rowsOvertake, noRowsOvertake};
+ghost use Rattle.layers.specs.declared.RowsFound.the-variants as rows-found;
+
+pub struct Layer {
+    pub figure: Figure,
+    pub style: Style,
+    pub next_row: i32,
+}
+
+// The rows of a layer: the first of its stroke area, its next row, and the one after its last.
+pub struct LayerRows {
+    pub first: i32,
+    pub next: i32,
+    pub end: i32,
+}
+
+// What the test of one layer's rules finds.
+pub enum RowsFound {
+    Broken,
+    Kept(LayerRows),
+}
+
+// What the test of all layers' rules finds. The rows are those of the layers where they are kept.
+pub struct RulesTested {
+    pub kept: bool,
+    pub rows: [LayerRows; 16],
+}
+
+impl RulesTested {
+    // What is found of layers that break a rule.
+    pub fn broken() -> RulesTested
+        ensures { λ r. ⌜ r .kept ≡ false ⌝ }
+    {
+        let none = LayerRows {
+            first: 0,
+            next: 0,
+            end: 0,
+        };
+        RulesTested {
+            kept: false,
+            rows: [none; 16],
+        }
+    }
+}
+
+impl Layer {
+    // The largest number of layers of a sheet (refusals 7 and 9).
+    pub const MAX_COUNT: u32 = 16;
+
+    // The layer's rows, if its figure and style are within limits and its next row among its rows or
+    // right after them.
+    pub fn rows(self) -> RowsFound
+        ensures { λ r. ⌜ r ≡ cond (layerKeepsRules drawing (layerOf self)) (rows-found.Kept (layerRows self)) rows-found.Broken ⌝ }
+    {
+        let figure = self.figure;
+        let style = self.style;
+        let next = self.next_row;
+        match drawing::check(figure, style) {
+            Checked::Refused(_) => RowsFound::Broken,
+            Checked::Passed => {
+                let area = drawing::stroke_rows(figure, style);
+                let first = area.first;
+                let end = signed::add(first, signed::from_u32(area.count));
+                if next < first {
+                    return RowsFound::Broken;
+                }
+                if end < next {
+                    return RowsFound::Broken;
+                }
+                RowsFound::Kept(LayerRows {
+                    first: first,
+                    next: next,
+                    end: end,
+                })
+            }
+        }
+    }
+}
+
+impl LayerRows {
+    // Whether y is among the rows and not painted yet.
+    pub fn owes(self, y: i32) -> bool
+        ensures { λ r. ⌜ r ≡ rowsOwe self y ⌝ }
+    {
+        if y < self.first {
+            return false;
+        }
+        if self.end <= y {
+            return false;
+        }
+        self.next <= y
+    }
+
+    // Whether a later layer has painted a row that this one owes: the rows that it has painted and
+    // those that are left here meet.
+    pub fn is_overtaken(self, later: LayerRows) -> bool
+        ensures { λ r. ⌜ r ≡ rowsOvertake self later ⌝ }
+    {
+        if later.next <= later.first {
+            return false;
+        }
+        if self.end <= later.first {
+            return false;
+        }
+        if later.next <= self.next {
+            return false;
+        }
+        self.next < self.end
+    }
+}
+
+// Whether one of the first layers owes y.
+pub fn some_owes(rows: [LayerRows; 16], layers: usize, y: i32) -> bool
+    requires { ⌜ layers ≤ 16 ⌝ }
+    ensures { λ r. ⌜ r ≡ someRowsOwe (take layers rows) y ⌝ }
+{
+    let mut i: usize = 0;
+    while i < layers {
+        let earlier = rows[i];
+        if earlier.owes(y) {
+            return true;
+        }
+        i += 1;
+    }
+    false
+}
+
+// Whether no layer from this place up to the count overtakes an earlier one.
+fn none_overtakes(earlier: LayerRows, rows: [LayerRows; 16], from: usize, count: usize) -> bool
+    requires { ⌜ from ≤ count ⌝ }
+    requires { ⌜ count ≤ 16 ⌝ }
+    ensures { λ r. ⌜ r ≡ noRowsOvertake earlier (drop from (take count rows)) ⌝ }
+{
+    let mut i = from;
+    while i < count {
+        let later = rows[i];
+        if earlier.is_overtaken(later) {
+            return false;
+        }
+        i += 1;
+    }
+    true
+}
+
+// Tests the rules of the first layers, one by one and two by two, from the last to the first: so
+// the rows of all that come later are at hand.
+pub fn test_rules(layers: [Layer; 16], count: usize) -> RulesTested
+    requires { ⌜ count ≤ 16 ⌝ }
+    ensures { λ r. ⌜ r .kept ≡ layersKeepRules drawing (map layerOf (take count layers)) ⌝ }
+    ensures { λ r. ⌜ (r .kept ≡ true → take count (r .rows) ≡ map layerRows (take count layers)) ⌝ }
+{
+    let none = LayerRows {
+        first: 0,
+        next: 0,
+        end: 0,
+    };
+    let mut rows = [none; 16];
+    let mut i = count;
+    while 0 < i {
+        let from = i;
+        i -= 1;
+        let layer = layers[i];
+        let RowsFound::Kept(found) = layer.rows() else {
+            return RulesTested {
+                kept: false,
+                rows: rows,
+            };
+        };
+        if !none_overtakes(found, rows, from, count) {
+            return RulesTested {
+                kept: false,
+                rows: rows,
+            };
+        }
+        rows[i] = found;
+    }
+    RulesTested {
+        kept: true,
+        rows: rows,
+    }
+}

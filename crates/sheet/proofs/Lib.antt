@@ -1,0 +1,3 @@
+-- The record after a call as the sheet of `book`'s definitions (`Records`).
+-- Assumes nothing.
+pub mod Records

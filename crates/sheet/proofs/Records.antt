@@ -1,0 +1,112 @@
+-- The record after a call is the sheet of `book`'s definitions after it: a layer put behind the first `count` places is one more
+-- layer, and a layer put in place i of them is that layer of the sheet.
+-- Assumes nothing.
+use mathlib.Core.Path.{_≡_, refl, sym, ap, ap₂, _∙_}
+use mathlib.Core.List.{List, [], _∷_, _++_, map, map-append}
+use Prim.Native.Nat.{ℕ, _+_, _<_, _≤_}
+use native.Mathlib.Omega.{arith}
+use native.Mathlib.Numerals.{add-one}
+use lib.ListN.{length, take, set, getD, getElem?, length-set}
+use lib.Seq.{take-suc-set, take-set-lt}
+use Rattle.book.specs.Book.{Answer, accepted, refused, Call, add, paint}
+use Rattle.book.specs.Sheet.{Layers, State, answer, carriedOut, after, paintRow}
+use Rattle.book.proofs.Lists.{set-map}
+use Rattle.book.proofs.LowestNumber.{refused-changes-nothing, accepted-is-carried-out}
+use Rattle.drawing.specs.Drawing.{StyledFigure, styledFigure, drawing}
+use Rattle.layers.specs.declared.Layer.{Layer}
+use Rattle.layers.specs.Layers.{layerOf, blankLayer, layersOf}
+use Rattle.sheet.specs.declared.Sheet.{Sheet}
+use Rattle.sheet.specs.Sheet.{stateOf, sheetAnswer, addedLayer, paintedLayer, carriedOutSheet, sheetAfter, canvasAfter}
+use Rattle.sheet_checks.proofs.Places.{layers-are, layer-at, kept-few}
+use Rattle.sheet_checks.proofs.Answers.{added-room, PaintAccepted, painted-accepted}
+
+module _ (s : Sheet) (sixteen : length (s .layers) ≡ 16) (canvas : List ℕ) where
+  -- ---- refused
+  pub refused-record : (call : Call StyledFigure) (n : ℕ) → sheetAnswer s canvas call ≡ refused n → sheetAfter s canvas call ≡ s
+  refused-record call n e = rw e
+
+  pub refused-canvas : (call : Call StyledFigure) (n : ℕ) → sheetAnswer s canvas call ≡ refused n → canvasAfter s canvas call ≡ canvas
+  refused-canvas call n e =
+      ap (λ (t : State StyledFigure). t .canvas) (refused-changes-nothing drawing (s .width) (s .height) (stateOf s canvas) call e)
+
+  -- ---- added
+  module _ (item : StyledFigure) (e : sheetAnswer s canvas (add item) ≡ accepted) where
+    pub added-record : sheetAfter s canvas (add item) ≡ carriedOutSheet s (add item)
+    added-record = rw e
+
+    added-layers : layersOf (s .count + 1) (set (s .layers) (s .count) (addedLayer item))
+        ≡ layersOf (s .count) (s .layers) ++ (layerOf (addedLayer item) ∷ [])
+    added-layers =
+        let room = added-room (s .width) (s .height) (s .count) (s .layers) sixteen item canvas e in
+        let put : List Layer = set (s .layers) (s .count) (addedLayer item) in
+        layers-are (s .count + 1) put (length-set (s .layers) (s .count) (addedLayer item) ∙ sixteen) (omega arith)
+        ∙ ap (λ (m : ℕ). map layerOf (take m put)) (add-one (s .count))
+        ∙ ap (map layerOf) (take-suc-set (s .layers) (s .count) (addedLayer item) (omega arith))
+        ∙ map-append layerOf (take (s .count) (s .layers)) (addedLayer item ∷ [])
+        ∙ ap (λ (l : Layers drawing). l ++ (layerOf (addedLayer item) ∷ [])) (sym (layers-are (s .count) (s .layers) sixteen (omega arith)))
+
+    added-state : stateOf (carriedOutSheet s (add item)) canvas ≡ carriedOut drawing (s .width) (s .height) (stateOf s canvas) (add item)
+    unfolding carriedOutSheet carriedOut
+    added-state = ap (λ (l : Layers drawing). record { layers = l; canvas = canvas }) added-layers
+
+  -- ---- painted
+  module _ (i : ℕ) (e : sheetAnswer s canvas (paint i) ≡ accepted) where
+    told : PaintAccepted (s .width) (s .height) (s .count) (s .layers) sixteen i canvas
+    told = painted-accepted (s .width) (s .height) (s .count) (s .layers) sixteen i canvas e
+
+    few : s .count ≤ 16
+    few = kept-few (s .width) (s .height) (s .count) (s .layers) sixteen (told .rules)
+
+    abbrev layer : Layer
+    layer = getD (s .layers) i blankLayer
+
+    pub painted-record : sheetAfter s canvas (paint i) ≡ carriedOutSheet s (paint i)
+    painted-record = rw e
+
+    painted-layers : layersOf (s .count) (set (s .layers) i (paintedLayer layer)) ≡ set (layersOf (s .count) (s .layers)) i (layerOf (paintedLayer layer))
+    painted-layers =
+        layers-are (s .count) (set (s .layers) i (paintedLayer layer)) (length-set (s .layers) i (paintedLayer layer) ∙ sixteen) few
+        ∙ ap (map layerOf) (take-set-lt (s .count) (s .layers) i (paintedLayer layer) (told .within))
+        ∙ sym (set-map layerOf (take (s .count) (s .layers)) i (paintedLayer layer))
+        ∙ ap (λ (l : Layers drawing). set l i (layerOf (paintedLayer layer))) (sym (layers-are (s .count) (s .layers) sixteen few))
+
+    painted-carried-out : carriedOut drawing (s .width) (s .height) (stateOf s canvas) (paint i)
+        ≡ record {
+          layers = set (layersOf (s .count) (s .layers)) i (layerOf (paintedLayer layer));
+          canvas = paintRow drawing (s .width) (s .height) (styledFigure (layer .figure) (layer .style)) (layer .«next_row») canvas;
+        }
+    unfolding carriedOut
+    painted-carried-out = rw (layer-at (s .count) (s .layers) sixteen few i (told .within))
+
+    pub painted-canvas : canvasAfter s canvas (paint i)
+        ≡ paintRow drawing (s .width) (s .height) (styledFigure (layer .figure) (layer .style)) (layer .«next_row») canvas
+    painted-canvas =
+        ap (λ (t : State StyledFigure). t .canvas)
+        (accepted-is-carried-out drawing (s .width) (s .height) (stateOf s canvas) (paint i) e ∙ painted-carried-out)
+
+    painted-state : stateOf (carriedOutSheet s (paint i)) (canvasAfter s canvas (paint i))
+        ≡ carriedOut drawing (s .width) (s .height) (stateOf s canvas) (paint i)
+    unfolding carriedOutSheet
+    painted-state =
+        ap₂ (λ (l : Layers drawing) (bytes : List ℕ). record { layers = l; canvas = bytes }) painted-layers painted-canvas
+        ∙ sym painted-carried-out
+
+  -- ---- The record and the canvas after a call are the sheet and the canvas of `book`'s definitions after it.
+  pub state-after : (call : Call StyledFigure)
+      → stateOf (sheetAfter s canvas call) (canvasAfter s canvas call) ≡ after drawing (s .width) (s .height) (stateOf s canvas) call
+  state-after call = by-answer call (sheetAnswer s canvas call) refl
+    where
+      by-answer : (call : Call StyledFigure) (a : Answer) → sheetAnswer s canvas call ≡ a
+          → stateOf (sheetAfter s canvas call) (canvasAfter s canvas call) ≡ after drawing (s .width) (s .height) (stateOf s canvas) call
+      by-answer call (refused n) e =
+          ap₂ stateOf (refused-record call n e) (refused-canvas call n e)
+          ∙ sym (refused-changes-nothing drawing (s .width) (s .height) (stateOf s canvas) call e)
+      by-answer (add item) accepted e =
+          let out = accepted-is-carried-out drawing (s .width) (s .height) (stateOf s canvas) (add item) e in
+          ap₂ stateOf (added-record item e) (ap (λ (t : State StyledFigure). t .canvas) (out ∙ sym (added-state item e)))
+          ∙ added-state item e
+          ∙ sym out
+      by-answer (paint i) accepted e =
+          ap (λ (t : Sheet). stateOf t (canvasAfter s canvas (paint i))) (painted-record i e)
+          ∙ painted-state i e
+          ∙ sym (accepted-is-carried-out drawing (s .width) (s .height) (stateOf s canvas) (paint i) e)

@@ -1,0 +1,48 @@
+-- `sheet::Sheet::open` meets its contract: the size's check is the answer, and 16 blank layers are the places.
+-- Assumes nothing.
+use borrow.Author.Needs.{needs}
+use Rattle.canvas_size.proofs.CanvasSize.check.Reads as check-reads
+use Rattle.sheet.proofs.blank_layer.Reads as blank-layer-reads
+use mathlib.Core.Path.{_≡_, refl, sym, ap, _∙_}
+use lib.ListN.{replicate}
+use Rattle.canvas_size.specs.CanvasSize.{canvasSizeCheck}
+use Rattle.drawing.specs.Drawing.{answerOf}
+use Rattle.layers.specs.declared.Layer.{Layer}
+use Rattle.sheet.specs.declared.Sheet.{Sheet}
+use Rattle.sheet.specs.Sheet.{openedSheet}
+use Rattle.sheet.proofs.Sheet.open.Statement.{statement}
+use Rattle.sheet.proofs.Sheet.open.Tie as tie
+use Rattle.sheet.proofs.Sheet.open.Reads as reads
+use Rattle.sheet.proofs.Sheet.open.Lts as lts
+
+made : (c : tie.After-blank-layer)
+    → _≡_ {A = Sheet} (record { width = c .before .args .width; height = c .before .args .height; count = 0; layers = replicate 16 (c .blank-layer .result) })
+    (openedSheet (c .before .args .width) (c .before .args .height))
+made c = ap (λ (l : Layer). record { width = c .before .args .width; height = c .before .args .height; count = 0; layers = replicate 16 l }) (c .blank-layer .ensures)
+
+blank-layer-requires : tie.Need-blank-layer-requires
+blank-layer-requires c κs = search needs
+
+check-requires : tie.Need-check-requires
+check-requires c κs = search needs
+
+enum-known-refusal : tie.Need-enum-known-refusal
+enum-known-refusal c = search needs
+
+enum-told : tie.Need-enum-told
+enum-told c = search needs
+
+-- accepted
+returns : tie.Need-returns
+returns c =
+    let entry = c .before .before .before .before in
+    (sym (ap answerOf (sym (c .before .before .check .ensures) ∙ c .enum-told .given .1)), made (c .before .before .before))
+
+-- refused
+returns-2 : tie.Need-returns-2
+returns-2 c = (sym (ap answerOf (sym (c .before .before .before .check .ensures) ∙ c .before .refusal .given .1)), made (c .before .before .before .before))
+
+pub open-spec : {M : Type 1} → statement M
+open-spec =
+    tie.close
+    (tie.spec blank-layer-requires check-requires enum-known-refusal enum-told returns returns-2)

@@ -1,0 +1,151 @@
+-- `sheet::Sheet::paint` meets its contract: the check made is the answer; passed, the layer is within bounds, its row is written
+-- and its next row moves down by one. A refusal is the check's own, and nothing was written.
+-- Assumes nothing.
+use borrow.Author.Needs.{needs}
+use Rattle.drawing.proofs.paint_row.Reads as paint-row-reads
+use Rattle.sheet_checks.proofs.check_paint.Reads as check-paint-reads
+use Rattle.signed.proofs.add.Reads as add-reads
+use mathlib.Core.Path.{_≡_, refl, sym, ap, _∙_}
+use mathlib.Core.List.{List}
+use Prim.Native.Nat.{ℕ, _<_, _≤_}
+use native.Mathlib.Omega.{arith}
+use lib.IntN.{ℤ, pos, _+ℤ_}
+use lib.ListN.{length, getD}
+use mir.Facts.{toZ-ofZ}
+use Rattle.signed.proofs.Laws.{int}
+use Rattle.plane.specs.Bounds.{wideSide}
+use Rattle.book.specs.Book.{accepted}
+use Rattle.book.specs.Book.{paint as Call·paint}
+use Rattle.book.specs.Sheet.{paintRow}
+use Rattle.drawing.specs.Drawing.{answerOf, styledFigure, drawing}
+use Rattle.layers.specs.declared.Layer.{Layer}
+use Rattle.layers.specs.Layers.{blankLayer}
+use Rattle.layers.proofs.LayerRules.{LayerWithin}
+use Rattle.sheet.specs.declared.Sheet.{Sheet}
+use Rattle.sheet.specs.Sheet.{sheetAnswer, withLayer, carriedOutSheet}
+use Rattle.sheet_checks.proofs.Places.{sixteen-places, kept-few, kept-layer, kept-width}
+use Rattle.sheet_checks.proofs.Answers.{PaintAccepted, painted-accepted}
+use Rattle.sheet.proofs.Records.{refused-record, refused-canvas, painted-record, painted-canvas}
+use Rattle.sheet.proofs.Sheet.paint.Statement.{statement}
+use Rattle.sheet.proofs.Sheet.paint.Tie as tie
+use Rattle.sheet.proofs.Sheet.paint.Reads as reads
+use Rattle.sheet.proofs.Sheet.paint.Lts as lts
+
+sixteen : (c : tie.Start) → length (c .args .self .layers) ≡ 16
+sixteen c = sixteen-places (c .args .self .layers) (c .good .0 .1 .1 .1 .1 .1 .0 .1 .0 .1)
+
+-- the check made is the answer
+checked : (c : tie.After-check-paint)
+    → answerOf (c .check-paint .result) ≡ sheetAnswer (c .before .before .before .args .self) (c .before .before .before .args .canvas .now) (Call·paint (c .before .before .before .args .layer))
+checked c = c .check-paint .ensures (c .before .before .before .args .canvas .now) refl
+
+-- ---- accepted
+abbrev entry : tie.After-enum-told → tie.Start
+entry c = c .before .before .before .before .before
+
+abbrev sheet : tie.After-enum-told → Sheet
+sheet c = entry c .args .self
+
+abbrev layer : tie.After-enum-told → Layer
+layer c = getD (sheet c .layers) (entry c .args .layer) blankLayer
+
+passed : (c : tie.After-enum-told) → sheetAnswer (sheet c) (entry c .args .canvas .now) (Call·paint (entry c .args .layer)) ≡ accepted
+passed c = sym (checked (c .before .before)) ∙ ap answerOf (c .enum-told .given .1)
+
+told : (c : tie.After-enum-told) → PaintAccepted (sheet c .width) (sheet c .height) (sheet c .count) (sheet c .layers) (sixteen (entry c)) (entry c .args .layer) (entry c .args .canvas .now)
+told c = painted-accepted (sheet c .width) (sheet c .height) (sheet c .count) (sheet c .layers) (sixteen (entry c)) (entry c .args .layer) (entry c .args .canvas .now) (passed c)
+
+within : (c : tie.After-enum-told) → LayerWithin (layer c)
+within c =
+    kept-layer (sheet c .width) (sheet c .height) (sheet c .count) (sheet c .layers) (sixteen (entry c)) (told c .rules) (entry c .args .layer) (told c .within)
+
+has-place : (c : tie.After-enum-told) → entry c .args .layer < 16
+has-place c =
+    let few = kept-few (sheet c .width) (sheet c .height) (sheet c .count) (sheet c .layers) (sixteen (entry c)) (told c .rules) in
+    omega (arith, told c .within)
+
+narrow : (c : tie.After-enum-told) → sheet c .width ≤ wideSide
+narrow c = omega (arith, kept-width (sheet c .width) (sheet c .height) (sheet c .count) (sheet c .layers) (sixteen (entry c)) (told c .rules))
+
+check-paint-requires : tie.Need-check-paint-requires
+check-paint-requires c κs = search needs
+
+enum-known-check : tie.Need-enum-known-check
+enum-known-check c = search needs
+
+enum-told : tie.Need-enum-told
+enum-told c = search needs
+
+mul-top : tie.Need-mul-top
+mul-top c = search needs
+
+array-copy-out-top : tie.Need-array-copy-out-top
+array-copy-out-top c = has-place c
+
+paint-row-requires : tie.Need-paint-row-requires
+paint-row-requires c κs =
+    let at = c .before .before .before .before in
+    let next = within at .next in
+    (told at .size, (narrow at, (within at .figure, (within at .stroke, rw (toZ-ofZ (next .fits)) next))))
+
+add-requires : tie.Need-add-requires
+add-requires c κs =
+    let next = within (c .before .before .before .before .before .before .before) .next in
+    rw (toZ-ofZ (next .fits)) (omega (arith, int))
+
+mul-t16 : tie.Need-mul-t16
+mul-t16 c = search needs
+
+element-set-from-sheet : tie.Need-element-set-from-sheet
+element-set-from-sheet c = has-place (c .before .before .before .before .before .before .before .before)
+
+same-length : tie.Need-same-length
+same-length c = search needs
+
+returns : tie.Need-returns
+unfolding carriedOutSheet
+returns c =
+    let at = c .before .before .before .before .before .before .before .before in
+    let a = entry at .args in
+    let next = toZ-ofZ (within at .next .fits) in
+    let moved = toZ-ofZ (c .add .ensures .fits) ∙ c .add .ensures .is ∙ ap (λ (z : ℤ). z +ℤ pos 1) next in (
+      sym (passed at),
+      (
+        ap (λ (z : ℤ). withLayer (a .self) (a .self .count) (a .layer) (record { figure = layer at .figure; style = layer at .style; «next_row» = z })) moved
+            ∙ sym (painted-record (a .self) (sixteen (entry at)) (a .canvas .now) (a .layer) (passed at)),
+        c .before .before .before .paint-row .ensures
+            ∙ ap (λ (z : ℤ). paintRow drawing (a .self .width) (a .self .height) (styledFigure (layer at .figure) (layer at .style)) z (a .canvas .now)) next
+            ∙ sym (painted-canvas (a .self) (sixteen (entry at)) (a .canvas .now) (a .layer) (passed at)),
+      ),
+    )
+
+-- refused
+returns-2 : tie.Need-returns-2
+returns-2 c =
+    let start = c .before .before .before .before .before .before in
+    let a = start .args in
+    let call = Call·paint (a .layer) in
+    let refused = sym (checked (c .before .before .before)) ∙ ap answerOf (c .before .check .given .1) in (
+      sym refused,
+      (
+        sym (refused-record (a .self) (sixteen start) (a .canvas .now) call _ refused),
+        sym (refused-canvas (a .self) (sixteen start) (a .canvas .now) call _ refused),
+      ),
+    )
+
+pub paint-spec : {M : Type 1} → statement M
+paint-spec =
+    tie.close
+    (tie.spec
+    check-paint-requires
+    enum-known-check
+    enum-told
+    mul-top
+    array-copy-out-top
+    paint-row-requires
+    add-requires
+    mul-t16
+    element-set-from-sheet
+    same-length
+    returns
+    returns-2)

@@ -1,0 +1,69 @@
+-- Document 01, 'Sheet', of a sheet record: what the calls answer, and the record and the canvas after them. The answer is that of
+-- `book`'s definitions over the drawing of figures with their styles (specs/Sheet.antt of `book`).
+-- Assumes nothing.
+use mathlib.Core.List.{List}
+use Prim.Native.Nat.{ℕ, _+_}
+use lib.IntN.{pos, _+ℤ_}
+use lib.ListN.{set, getD, replicate}
+use Rattle.refusal.specs.Refusal.{number}
+use Rattle.canvas_size.specs.CanvasSize.{canvasSizeCheck}
+use Rattle.book.specs.Book.{Answer, accepted, refused, ifAccepted, Call, add, paint}
+use Rattle.book.specs.Sheet.{State, answer, after}
+use Rattle.drawing.specs.Drawing.{StyledFigure, answerOf, drawing}
+use Rattle.drawing.specs.Rows.{strokeRows}
+use Rattle.layers.specs.declared.Layer.{Layer}
+use Rattle.layers.specs.Layers.{blankLayer, stateOf as Layers·stateOf}
+use Rattle.sheet.specs.declared.Sheet.{Sheet}
+use Rattle.sheet.specs.declared.SheetAnswer.{SheetAnswer}
+use Rattle.sheet.specs.declared.SheetAnswer.the-variants as sheet-answer
+
+-- what an answer says: a refusal its number in the table, or accepted ('The records')
+abbrev pub said : SheetAnswer → Answer
+said (sheet-answer.Refused refusal) = refused (number refusal)
+said sheet-answer.Accepted = accepted
+
+-- a sheet record with the canvas that its paint calls get: the layers are as many as the record says ('The records')
+abbrev pub stateOf : Sheet → List ℕ → State StyledFigure
+stateOf s canvas = Layers·stateOf (s .count) (s .layers) canvas
+
+-- ---- Opening ('Sheet'): 6, else accepted; and a sheet of that size without layers.
+abbrev pub openAnswer : ℕ → ℕ → Answer
+openAnswer W H = answerOf (canvasSizeCheck W H)
+
+abbrev pub openedSheet : ℕ → ℕ → Sheet
+openedSheet W H = record { width = W; height = H; count = 0; layers = replicate 16 blankLayer }
+
+-- ---- Adding and painting.
+
+-- the answer to a call on any sheet record ('The records', the table): 1, 2, 3, 5, 7, 9 to an add call, whatever the canvas;
+-- 7, 8, 10, 11, 12 to a paint call
+abbrev pub sheetAnswer : Sheet → List ℕ → Call StyledFigure → Answer
+sheetAnswer s canvas call = answer drawing (s .width) (s .height) (stateOf s canvas) call
+
+-- the record with a layer put in a place
+abbrev pub withLayer : Sheet → ℕ → ℕ → Layer → Sheet
+withLayer s count place l =
+    record { width = s .width; height = s .height; count = count; layers = set (s .layers) place l }
+
+-- a layer just added: its next row is the first of its stroke area ('Sheet')
+abbrev pub addedLayer : StyledFigure → Layer
+addedLayer item =
+    record { figure = item .figure; style = item .style; «next_row» = strokeRows (item .figure) (item .style) .first }
+
+-- a layer just painted: its next row moves down by one ('Sheet')
+abbrev pub paintedLayer : Layer → Layer
+paintedLayer l = record { figure = l .figure; style = l .style; «next_row» = l .«next_row» +ℤ pos 1 }
+
+-- the record after an accepted call ('Sheet'): a layer more, in the first place that was unused; or the layer painted. All
+-- other places stay as they were
+unfoldable pub carriedOutSheet : Sheet → Call StyledFigure → Sheet
+carriedOutSheet s (add item) = withLayer s (s .count + 1) (s .count) (addedLayer item)
+carriedOutSheet s (paint i) = withLayer s (s .count) i (paintedLayer (getD (s .layers) i blankLayer))
+
+-- the record after a call: after a refused one as given ('The records', below the table)
+abbrev pub sheetAfter : Sheet → List ℕ → Call StyledFigure → Sheet
+sheetAfter s canvas call = ifAccepted (sheetAnswer s canvas call) (carriedOutSheet s call) s
+
+-- the canvas after a call: after a refused one as lent, and after an add call too
+abbrev pub canvasAfter : Sheet → List ℕ → Call StyledFigure → List ℕ
+canvasAfter s canvas call = after drawing (s .width) (s .height) (stateOf s canvas) call .canvas

@@ -1,0 +1,169 @@
+// A sheet: up to 16 figures with their styles, the earliest undermost, painted on one canvas row by
+// row. The paper adds it; the Rust has no such type. A sheet is handed in and back by value, and
+// every call tests all its rules, so any record can be given. A refused call hands the sheet back as
+// it was given and changes no byte.
+use canvas_size::CanvasSize;
+use figure::Figure;
+use geometry::rectangle::Rectangle;
+use layers::Layer;
+use layers::LayerRows;
+use layers::RulesTested;
+use plane::Point;
+use plane::Size;
+use refusal::Checked;
+use refusal::Refusal;
+use style::Paint;
+use style::StrokeAlignment;
+use style::Style;
+ghost use mathlib.Core.Path.{_≡_};
+ghost use mathlib.Core.Bool.{true};
+ghost use mathlib.Core.List.{List, [], map};
+ghost use Prim.Native.Nat.{ℕ};
+ghost use lib.ListN.{length, take};
+ghost use Rattle.book.specs.Book.{_orElse_, add as Call·add, paint as Call·paint};
+ghost use Rattle.book.specs.Sheet.{keepsRules};
+ghost use Rattle.drawing.specs.Drawing.{StyledFigure, styledFigure, answerOf, drawing};
+ghost use Rattle.layers.specs.Layers.{blankLayer, layersOf, layerRows};
+ghost use Rattle.sheet.specs.Sheet.{said, openAnswer, openedSheet, sheetAnswer, sheetAfter, canvasAfter};
+
+pub struct Sheet {
+    pub width: u32,
+    pub height: u32,
+    // How many of the places hold a layer, from the first on.
+    pub count: u32,
+    pub layers: [Layer; 16],
+}
+
+pub enum SheetAnswer {
+    Refused(Refusal),
+    Accepted,
+}
+
+pub struct SheetOutcome {
+    pub sheet: Sheet,
+    pub answer: SheetAnswer,
+}
+
+// A place that no layer was put in.
+fn blank_layer() -> Layer
+    ensures { λ r. ⌜ r ≡ blankLayer ⌝ }
+{
+    Layer {
+        figure: Figure::Ellipse(Rectangle {
+            top_left: Point { x: 0, y: 0 },
+            size: Size {
+                width: 0,
+                height: 0,
+            },
+        }),
+        style: Style {
+            stroke: Paint::Absent,
+            fill: Paint::Absent,
+            stroke_width: 0,
+            alignment: StrokeAlignment::Inside,
+        },
+        next_row: 0,
+    }
+}
+
+impl Sheet {
+    // The largest number of layers (refusals 7 and 9).
+    pub const MAX_LAYERS: u32 = Layer::MAX_COUNT;
+
+    // A sheet without layers for a canvas of this size (refusal 6).
+    pub fn open(width: u32, height: u32) -> SheetOutcome
+        ensures { λ r. ⌜ said (r .answer) ≡ openAnswer width height ⌝ }
+        ensures { λ r. ⌜ r .sheet ≡ openedSheet width height ⌝ }
+    {
+        let blank = blank_layer();
+        let sheet = Sheet {
+            width: width,
+            height: height,
+            count: 0,
+            layers: [blank; 16],
+        };
+        let size = CanvasSize {
+            width: width,
+            height: height,
+        };
+        let Checked::Refused(refusal) = size.check() else {
+            return SheetOutcome {
+                sheet: sheet,
+                answer: SheetAnswer::Accepted,
+            };
+        };
+        SheetOutcome {
+            sheet: sheet,
+            answer: SheetAnswer::Refused(refusal),
+        }
+    }
+
+    // Puts a figure with its style on top (refusals 1, 2, 3, 5, 7 and 9).
+    pub fn add(self, figure: Figure, style: Style) -> SheetOutcome
+        ensures { λ r. ⌜ said (r .answer) ≡ sheetAnswer self [] (Call·add (styledFigure figure style)) ⌝ }
+        ensures { λ r. ⌜ r .sheet ≡ sheetAfter self [] (Call·add (styledFigure figure style)) ⌝ }
+    {
+        let size = CanvasSize {
+            width: self.width,
+            height: self.height,
+        };
+        let places = self.layers;
+        let room = sheet_checks::check_room(size, self.count, places);
+        let check = drawing::check(figure, style).or_else(room);
+        let Checked::Refused(refusal) = check else {
+            let area = drawing::stroke_rows(figure, style);
+            let place = self.count as usize;
+            let mut sheet = self;
+            sheet.layers[place] = Layer {
+                figure: figure,
+                style: style,
+                next_row: area.first,
+            };
+            sheet.count = self.count + 1;
+            return SheetOutcome {
+                sheet: sheet,
+                answer: SheetAnswer::Accepted,
+            };
+        };
+        SheetOutcome {
+            sheet: self,
+            answer: SheetAnswer::Refused(refusal),
+        }
+    }
+
+    // Paints the next row of a layer, counted from 0 (refusals 7, 8, 10, 11 and 12).
+    pub fn paint(self, layer: u32, canvas: &mut [u8]) -> SheetOutcome
+        ensures { λ r. ⌜ said (r .answer) ≡ sheetAnswer self (now (canvas .entry)) (Call·paint layer) ⌝ }
+        ensures { λ r. ⌜ r .sheet ≡ sheetAfter self (now (canvas .entry)) (Call·paint layer) ⌝ }
+        ensures { λ r. ⌜ now (canvas .exit) ≡ canvasAfter self (now (canvas .entry)) (Call·paint layer) ⌝ }
+    {
+        let size = CanvasSize {
+            width: self.width,
+            height: self.height,
+        };
+        let places = self.layers;
+        let check = sheet_checks::check_paint(size, self.count, places, layer, canvas.len());
+        let Checked::Refused(refusal) = check else {
+            let place = layer as usize;
+            let top = places[place];
+            let figure = top.figure;
+            let style = top.style;
+            let row = top.next_row;
+            drawing::paint_row(canvas, size, figure, style, row);
+            let mut sheet = self;
+            sheet.layers[place] = Layer {
+                figure: figure,
+                style: style,
+                next_row: signed::add(row, 1),
+            };
+            return SheetOutcome {
+                sheet: sheet,
+                answer: SheetAnswer::Accepted,
+            };
+        };
+        SheetOutcome {
+            sheet: self,
+            answer: SheetAnswer::Refused(refusal),
+        }
+    }
+}

@@ -1,0 +1,201 @@
+-- The answers of a sheet record, test by test as the code makes them, and what an accepted call tells of its arguments.
+-- Assumes nothing.
+use mathlib.Core.Path.{_≡_, refl, sym, ap, ap₂, _∙_}
+use mathlib.Core.Bool.{Bool, true, false, not}
+use mathlib.Core.List.{List, [], _∷_, map}
+use mathlib.Core.Option.{Option, none, some}
+use Prim.Native.Nat.{ℕ, zero, suc, _*_, _<_, _≤_}
+use native.Mathlib.Omega.{arith}
+use lib.Dec.{leb, eqb}
+use lib.IntN.{ℤ}
+use lib.ListN.{length, take, getD, getElem?, length-map, length-take}
+use lib.Seq.{take-take}
+use lib.Signed.{leZ}
+use borrow.Author.Tests.{leb-true, leb-false, eqb-true, le-leb, lt-leb, not-true, not-false}
+use Rattle.refusal.specs.declared.Refusal.{Refusal}
+use Rattle.refusal.specs.declared.Refusal.the-variants.{SheetRule, CanvasLength, SheetFull, NoLayer, NoRowLeft, RowOwed}
+use Rattle.refusal.specs.declared.Checked.{Checked}
+use Rattle.refusal.specs.declared.Checked.the-variants.{Passed, Refused}
+use Rattle.plane.specs.Limits.{maxLayers}
+use Rattle.refusal.specs.Refusal.{number, orElse as firstOf, refuseIf as Geometry·refuseIf}
+use Rattle.canvas_size.specs.CanvasSize.{canvasLengthCheck}
+use Rattle.canvas_size.proofs.Sides.{canvas-length-passed}
+use Rattle.book.specs.Book.{Answer, accepted, refused, brokenSheet, otherCanvasLength, layersFull, noSuchLayer, allRowsPainted, rowOwed}
+use Rattle.book.specs.Book.{refuseIf, _orElse_, add, paint, endRow}
+use Rattle.book.specs.Sheet.{someLayerOwes, keepsRules, layerAnswer, answer}
+use Rattle.book.proofs.Tests.{refused-apart, or-else-accepted-parts, refuse-if-accepted}
+use Rattle.book.proofs.Lists.{take-map}
+use Rattle.book.proofs.LowestNumber.{paint-refused-broken-sheet, paint-answer-on-sheet}
+use Rattle.drawing.specs.Drawing.{StyledFigure, answerOf, drawing}
+use Rattle.layers.specs.declared.Layer.{Layer}
+use Rattle.layers.specs.declared.LayerRows.{LayerRows}
+use Rattle.layers.specs.Layers.{layerOf, blankLayer, layersOf, stateOf, layerRows, someRowsOwe}
+use Rattle.layers.proofs.RowTests.{noRows}
+use Rattle.layers.proofs.LayerRules.{owe-by-rows}
+use Rattle.sheet_checks.proofs.Places.{layers-are, layers-many, layer-at, layer-past, layers-before, kept-few}
+
+-- ---- The numbers that `book` writes are those of the table.
+pub sheet-numbers : (brokenSheet ≡ refused (number SheetRule)) × (otherCanvasLength ≡ refused (number CanvasLength))
+    × (layersFull ≡ refused (number SheetFull)) × (noSuchLayer ≡ refused (number NoLayer))
+    × (allRowsPainted ≡ refused (number NoRowLeft)) × (rowOwed ≡ refused (number RowOwed))
+sheet-numbers = (refl, refl, refl, refl, refl, refl)
+
+-- the first refusal of two checks is the first of their answers
+pub answer-or-else : (a b : Checked) → answerOf (firstOf a b) ≡ (answerOf a orElse answerOf b)
+answer-or-else (Refused refusal) b = refl
+answer-or-else Passed b = refl
+
+or-else-accepted : (a : Answer) → (a orElse accepted) ≡ a
+or-else-accepted accepted = refl
+or-else-accepted (refused n) = refl
+
+module _ (W H count : ℕ) (places : List Layer) (sixteen : length places ≡ 16) where
+  abbrev kept : Bool
+  kept = keepsRules drawing W H (layersOf count places)
+
+  -- ---- an add call
+  module _ (item : StyledFigure) (canvas : List ℕ) where
+    abbrev added : Answer
+    added = answer drawing W H (stateOf count places canvas) (add item)
+
+    pub add-broken : kept ≡ false → added ≡ (drawing .refuse item orElse brokenSheet)
+    unfolding answer
+    add-broken broken = rw broken
+
+    module _ (rules : kept ≡ true) where
+      many : length (layersOf count places) ≡ count
+      many = layers-many count places sixteen (kept-few W H count places sixteen rules)
+
+      pub add-full : 16 ≤ count → added ≡ (drawing .refuse item orElse layersFull)
+      unfolding answer
+      add-full full = rw (rules, le-leb maxLayers (length (layersOf count places)) (omega (arith, many)))
+
+      pub add-free : count < 16 → added ≡ (drawing .refuse item orElse accepted)
+      unfolding answer
+      add-free free = rw (rules, lt-leb maxLayers (length (layersOf count places)) (omega (arith, many)))
+
+    -- accepted, there is room for a layer
+    pub added-rules : added ≡ accepted → kept ≡ true
+    unfolding answer
+    added-rules e =
+        let full : Answer = refuseIf (leb maxLayers (length (layersOf count places))) layersFull in
+        let p = or-else-accepted-parts (drawing .refuse item) (refuseIf (not kept) brokenSheet orElse full) e in
+        let q = or-else-accepted-parts (refuseIf (not kept) brokenSheet) full (p .1) in
+        not-false kept (refuse-if-accepted (not kept) brokenSheet refused-apart (q .0))
+
+    pub added-room : added ≡ accepted → count < 16
+    unfolding answer
+    added-room e =
+        let test : Bool = leb maxLayers (length (layersOf count places)) in
+        let p = or-else-accepted-parts (drawing .refuse item) (refuseIf (not kept) brokenSheet orElse refuseIf test layersFull) e in
+        let q = or-else-accepted-parts (refuseIf (not kept) brokenSheet) (refuseIf test layersFull) (p .1) in
+        let rules = not-false kept (refuse-if-accepted (not kept) brokenSheet refused-apart (q .0)) in
+        let free = leb-false maxLayers (length (layersOf count places)) (refuse-if-accepted test layersFull refused-apart (q .1)) in
+        omega (arith, many rules)
+
+  -- ---- a paint call
+  module _ (i : ℕ) (canvas : List ℕ) where
+    abbrev painted : Answer
+    painted = answer drawing W H (stateOf count places canvas) (paint i)
+
+    pub paint-broken : kept ≡ false → painted ≡ brokenSheet
+    paint-broken broken = paint-refused-broken-sheet drawing W H (stateOf count places canvas) i broken
+
+    module _ (rules : kept ≡ true) where
+      few : count ≤ 16
+      few = kept-few W H count places sixteen rules
+
+      pub paint-length : (refusal : Refusal) → canvasLengthCheck W H (length canvas) ≡ Refused refusal
+          → painted ≡ refused (number refusal)
+      unfolding answer canvasLengthCheck
+      paint-length refusal check = by-test (eqb (length canvas) (W * H)) refl check
+        where
+          by-test : (t : Bool) → eqb (length canvas) (W * H) ≡ t → Geometry·refuseIf (not t) CanvasLength ≡ Refused refusal
+              → painted ≡ refused (number refusal)
+          by-test true e check = let z : _≡_ {A = ℕ} 0 1 = cc in absurd (omega arith)
+          by-test false e check = let same : CanvasLength ≡ refusal = cc in rw (rules, e) (ap (λ (r : Refusal). refused (number r)) same)
+
+      module _ (size : canvasLengthCheck W H (length canvas) ≡ Passed) where
+        on-sheet : painted ≡ layerAnswer drawing (layersOf count places) i (getElem? (layersOf count places) i)
+        on-sheet =
+            paint-answer-on-sheet drawing W H (stateOf count places canvas) i rules
+            (canvas-length-passed W H (length canvas) size)
+
+        pub paint-no-layer : count ≤ i → painted ≡ noSuchLayer
+        paint-no-layer past = on-sheet ∙ rw (layer-past count places sixteen few i past)
+
+        module _ (within : i < count) where
+          abbrev layer : Layer
+          layer = getD places i blankLayer
+
+          by-layer : painted
+              ≡ (refuseIf (leZ (layerRows layer .end) (layerRows layer .next)) allRowsPainted
+              orElse refuseIf (someRowsOwe (map layerRows (take i places)) (layerRows layer .next)) rowOwed)
+          unfolding layerRows
+          by-layer =
+              on-sheet
+              ∙ rw (layer-at count places sixteen few i within, layers-before count places sixteen few i (omega arith), owe-by-rows (take i places) (layer .«next_row»))
+
+          pub paint-finished : leZ (layerRows layer .end) (layerRows layer .next) ≡ true → painted ≡ allRowsPainted
+          paint-finished finished = by-layer ∙ rw finished
+
+          module _ (left : leZ (layerRows layer .end) (layerRows layer .next) ≡ false) where
+            pub paint-owed : someRowsOwe (map layerRows (take i places)) (layerRows layer .next) ≡ true → painted ≡ rowOwed
+            paint-owed owed = by-layer ∙ rw (left, owed)
+
+            pub paint-free : someRowsOwe (map layerRows (take i places)) (layerRows layer .next) ≡ false → painted ≡ accepted
+            paint-free free = by-layer ∙ rw (left, free)
+
+    -- accepted, the sheet keeps its rules, the canvas has its length, and there is such a layer
+    pub record PaintAccepted : Type 0 where
+      pub rules : kept ≡ true
+      pub size : length canvas ≡ W * H
+      pub within : i < count
+
+    pub painted-accepted : painted ≡ accepted → PaintAccepted
+    unfolding answer
+    painted-accepted e =
+        let fits : Bool = eqb (length canvas) (W * H) in
+        let found : Option _ = getElem? (layersOf count places) i in
+        let by : Answer = layerAnswer drawing (layersOf count places) i (getElem? (layersOf count places) i) in
+        let p = or-else-accepted-parts (refuseIf (not kept) brokenSheet) (refuseIf (not fits) otherCanvasLength orElse by) e in
+        let q = or-else-accepted-parts (refuseIf (not fits) otherCanvasLength) by (p .1) in
+        let rules = not-false kept (refuse-if-accepted (not kept) brokenSheet refused-apart (p .0)) in
+        record {
+          rules = rules;
+          size = eqb-true (length canvas) (W * H) (not-false fits (refuse-if-accepted (not fits) otherCanvasLength refused-apart (q .0)));
+          within = by-place rules (leb count i) refl (q .1);
+        }
+      where
+        by-place : (rules : kept ≡ true) (t : Bool) → leb count i ≡ t
+            → layerAnswer drawing (layersOf count places) i (getElem? (layersOf count places) i) ≡ accepted → i < count
+        by-place rules true past e =
+            let lacking = layer-past count places sixteen (few rules) i (leb-true count i past) in
+            absurd (refused-apart (sym (ap (layerAnswer drawing (layersOf count places) i) lacking) ∙ e))
+        by-place rules false past e = leb-false count i past
+
+-- ---- rows that were found for the first n places
+module _ (n i : ℕ) (within : i < n) (rows : List LayerRows) (layers : List Layer) (found : take n rows ≡ map layerRows (take n layers)) where
+  pub rows-at : n ≤ length layers → getD rows i noRows ≡ layerRows (getD layers i blankLayer)
+  rows-at enough = by-place n i rows layers within found room enough
+    where
+      room : n ≤ length rows
+      room =
+          let long = sym (length-take n rows) ∙ ap length found ∙ length-map (take n layers) layerRows ∙ length-take n layers in
+          omega arith
+
+      by-place : (n i : ℕ) (rows : List LayerRows) (layers : List Layer) → i < n → take n rows ≡ map layerRows (take n layers)
+          → n ≤ length rows → n ≤ length layers → getD rows i noRows ≡ layerRows (getD layers i blankLayer)
+      by-place zero i rows layers h e a b = absurd (omega arith)
+      by-place (suc n) i [] layers h e a b = absurd (omega arith)
+      by-place (suc n) i (r ∷ rows) [] h e a b = absurd (omega arith)
+      by-place (suc n) zero (r ∷ rows) (l ∷ layers) h e a b = cc
+      by-place (suc n) (suc i) (r ∷ rows) (l ∷ layers) h e a b =
+          by-place n i rows layers (omega arith) (cc) (omega arith) (omega arith)
+
+  pub rows-before : take i rows ≡ map layerRows (take i layers)
+  rows-before =
+      sym (take-take i n rows (omega arith))
+      ∙ ap (take i) found
+      ∙ take-map layerRows i (take n layers)
+      ∙ ap (map layerRows) (take-take i n layers (omega arith))

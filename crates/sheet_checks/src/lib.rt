@@ -1,0 +1,82 @@
+// The refusals 7 to 12 of a sheet with its size, its count and its places for layers, whatever they
+// hold. They are a crate of their own, since its proofs take as long as the rest of the sheet's.
+use canvas_size::CanvasSize;
+use layers::Layer;
+use layers::LayerRows;
+use layers::RulesTested;
+use refusal::Checked;
+use refusal::Refusal;
+ghost use mathlib.Core.Path.{_≡_};
+ghost use mathlib.Core.Bool.{true};
+ghost use mathlib.Core.List.{List, map};
+ghost use Prim.Native.Nat.{ℕ};
+ghost use lib.ListN.{length, take};
+ghost use Rattle.book.specs.Book.{_orElse_, add as Call·add, paint as Call·paint};
+ghost use Rattle.book.specs.Sheet.{keepsRules, answer};
+ghost use Rattle.drawing.specs.Drawing.{StyledFigure, answerOf, drawing};
+ghost use Rattle.layers.specs.Layers.{layersOf, stateOf, layerRows};
+
+// Tests all rules of a sheet: its size, the number of its layers, and the layers.
+pub fn test_rules(size: CanvasSize, count: u32, places: [Layer; 16]) -> RulesTested
+    ensures { λ r. ⌜ r .kept ≡ keepsRules drawing (size .width) (size .height) (layersOf count places) ⌝ }
+    ensures { λ r. ⌜ (r .kept ≡ true → take count (r .rows) ≡ map layerRows (take count places)) ⌝ }
+{
+    match size.check() {
+        Checked::Refused(_) => RulesTested::broken(),
+        Checked::Passed => {
+            if Layer::MAX_COUNT < count {
+                return RulesTested::broken();
+            }
+            layers::test_rules(places, count as usize)
+        }
+    }
+}
+
+// Refusals 7 and 9 of adding.
+pub fn check_room(size: CanvasSize, count: u32, places: [Layer; 16]) -> Checked
+    ensures { λ r. ⌜ ((item : StyledFigure) (canvas : List ℕ) → answer drawing (size .width) (size .height) (stateOf count places canvas) (Call·add item) ≡ (drawing .refuse item orElse answerOf r)) ⌝ }
+{
+    let tested = test_rules(size, count, places);
+    if !tested.kept {
+        return Checked::Refused(Refusal::SheetRule);
+    }
+    if Layer::MAX_COUNT <= count {
+        return Checked::Refused(Refusal::SheetFull);
+    }
+    Checked::Passed
+}
+
+// Refusals 7, 8, 10, 11 and 12 of painting on a canvas that is so many bytes long.
+pub fn check_paint(
+    size: CanvasSize,
+    count: u32,
+    places: [Layer; 16],
+    layer: u32,
+    bytes: usize,
+) -> Checked
+    ensures { λ r. ⌜ ((canvas : List ℕ) → length canvas ≡ bytes → answerOf r ≡ answer drawing (size .width) (size .height) (stateOf count places canvas) (Call·paint layer)) ⌝ }
+{
+    let tested = test_rules(size, count, places);
+    let rows = tested.rows;
+    if !tested.kept {
+        return Checked::Refused(Refusal::SheetRule);
+    }
+    match size.check_length(bytes) {
+        Checked::Refused(refusal) => Checked::Refused(refusal),
+        Checked::Passed => {
+            if count <= layer {
+                return Checked::Refused(Refusal::NoLayer);
+            }
+            let place = layer as usize;
+            let own = rows[place];
+            let next = own.next;
+            if own.end <= next {
+                return Checked::Refused(Refusal::NoRowLeft);
+            }
+            if layers::some_owes(rows, place, next) {
+                return Checked::Refused(Refusal::RowOwed);
+            }
+            Checked::Passed
+        }
+    }
+}
