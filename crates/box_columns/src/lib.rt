@@ -5,7 +5,7 @@
 // but where corners overlap; there the walk goes on. Columns are counted from the left edge, and for
 // the last one from the right edge.
 use ellipse_search::Hint;
-use plane::Size;
+use geometry::Size;
 use rounded_rectangle::RoundedRectangleContains;
 use rounded_rectangle::ellipse_quadrant::EllipseQuadrant;
 use scanline::Place;

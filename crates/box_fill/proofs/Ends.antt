@@ -8,9 +8,9 @@ use lib.IntN.{ℤ, pos, _+ℤ_, _-ℤ_}
 use Rattle.signed.specs.Signed.{floor0, Near}
 use Rattle.signed.proofs.Laws.{int, add-law, sub-law}
 use Rattle.range.specs.declared.Range.{Range}
-use Rattle.plane.specs.Bounds.{widePoint}
+use Rattle.geometry.specs.Bounds.{widePoint}
 use Rattle.range.specs.Range.{contains as Range·contains}
-use Rattle.geometry.specs.Rectangle.{rows}
+use Rattle.rectangle.specs.Rectangle.{rows}
 use Rattle.scanline.specs.declared.Place.{Place}
 use Rattle.scanline.specs.declared.Place.the-variants.{At, Nowhere}
 use Rattle.scanline.specs.Columns.{Column, firstColumn, lastColumn, columnElse, columnAfterElse}

@@ -5,7 +5,7 @@ use mathlib.Core.Bool.{cond}
 use lib.IntN.{ℤ}
 use Rattle.range.specs.declared.Range.{Range}
 use Rattle.range.specs.Range.{contains as Range·contains}
-use Rattle.geometry.specs.Rectangle.{rows}
+use Rattle.rectangle.specs.Rectangle.{rows}
 use Rattle.scanline.specs.Columns.{firstColumn, lastColumn, columnElse, columnAfterElse}
 use Rattle.scanline.specs.Points.{runLength}
 use Rattle.rounded_rectangle.specs.declared.RoundedRectangle.{RoundedRectangle}

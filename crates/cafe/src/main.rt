@@ -4,11 +4,11 @@
 // the two canvases are equal, byte for byte.
 use corner_radii::CornerRadii;
 use figure::Figure;
-use geometry::rectangle::Rectangle;
+use geometry::Point;
+use geometry::Size;
 use libc::STDOUT_FILENO;
 use netpbm::WriteAnswer;
-use plane::Point;
-use plane::Size;
+use rectangle::Rectangle;
 use rounded_rectangle::RoundedRectangle;
 use sheet::Sheet;
 use style::Paint;
@@ -26,7 +26,7 @@ const ROUNDS: u32 = 64;
 
 // The sheet with a figure more, in a border of 2 pixels.
 fn with_figure(sheet: Sheet, figure: Figure, fill: Paint) -> Sheet {
-    let style = Style::with_alignment(Paint::Colour(40), fill, 2, StrokeAlignment::Inside);
+    let style = Style::new(Paint::Colour(40), fill, 2).with_alignment(StrokeAlignment::Inside);
     let outcome = sheet.add(figure, style);
     let added = outcome.sheet;
     added

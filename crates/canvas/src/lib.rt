@@ -7,7 +7,7 @@ use style::Style;
 ghost use mathlib.Core.Path.{_≡_};
 ghost use Prim.Native.Nat.{_+_, _*_, _≤_};
 ghost use lib.ListN.{length};
-ghost use Rattle.plane.specs.Bounds.{wideSide};
+ghost use Rattle.geometry.specs.Bounds.{wideSide};
 ghost use Rattle.canvas.specs.Canvas.{overpaintRuns, overpaintAt};
 
 // Overpaints a row by a styled row.

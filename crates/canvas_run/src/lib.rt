@@ -5,7 +5,7 @@ use style::Paint;
 ghost use mathlib.Core.Path.{_≡_};
 ghost use Prim.Native.Nat.{_≤_};
 ghost use lib.ListN.{length, replicate};
-ghost use Rattle.plane.specs.Bounds.{wideSide};
+ghost use Rattle.geometry.specs.Bounds.{wideSide};
 ghost use Rattle.canvas_run.specs.Run.{runOver};
 ghost use Rattle.canvas_run.specs.Columns.{clipped, columnsOver};
 

@@ -9,7 +9,7 @@ use borrow.Author.Tests.{ltb-false, eqb-true}
 use lib.Dec.{ltb, eqb}
 use Rattle.refusal.specs.declared.Refusal.the-variants.{CanvasSide, CanvasLength}
 use Rattle.refusal.specs.declared.Checked.the-variants.{Passed}
-use Rattle.plane.specs.Limits.{maxCanvasSide}
+use Rattle.geometry.specs.Limits.{maxCanvasSide}
 use Rattle.refusal.specs.Refusal.{refuseIf}
 use Rattle.refusal.proofs.Checks.{passed-first, passed-next, passed-condition, passed-above}
 use Rattle.canvas_size.specs.CanvasSize.{sideCheck, canvasSizeCheck, canvasLengthCheck, CanvasSides}

@@ -5,7 +5,7 @@ use Prim.Native.Nat.{ℕ, _*_, _≤_}
 use lib.Dec.{ltb, eqb}
 use Rattle.refusal.specs.declared.Refusal.the-variants.{CanvasSide, CanvasLength}
 use Rattle.refusal.specs.declared.Checked.{Checked}
-use Rattle.plane.specs.Limits.{maxCanvasSide}
+use Rattle.geometry.specs.Limits.{maxCanvasSide}
 use Rattle.refusal.specs.Refusal.{refuseIf, orElse, above}
 
 -- 6 of one side: it is below 1, or above the limit

@@ -2,7 +2,7 @@
 -- Assumes nothing.
 use mathlib.Core.Path.{_≡_, refl}
 use mathlib.Core.List.{map}
-use Rattle.geometry.specs.Rectangle.{center, withCenter, offsetSide, offset}
+use Rattle.rectangle.specs.Rectangle.{center, withCenter, offsetSide, offset}
 use Rattle.scanline.specs.Columns.{firstColumn, lastColumn}
 use Rattle.scanline.specs.Points.{runPoints, pointsFrom, entries}
 use Rattle.ellipse.specs.Ellipse.{center2x, fromCenter2x, threshold, inside, insideAbout}

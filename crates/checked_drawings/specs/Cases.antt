@@ -6,17 +6,19 @@ use mathlib.Core.List.{List, [], _∷_, map}
 use Prim.Native.Nat.{ℕ, zero, suc, _+_}
 use lib.IntN.{ℤ, pos, negsuc, _+ℤ_}
 use lib.ListN.{length}
-use Rattle.plane.specs.declared.Point.{Point}
-use Rattle.geometry.specs.declared.rectangle.Rectangle.{Rectangle}
-use Rattle.geometry.specs.Calls.{rectangleValues}
+use Rattle.geometry.specs.declared.Point.{Point}
+use Rattle.rectangle.specs.declared.Rectangle.{Rectangle}
+use Rattle.rectangle.specs.Calls.{rectangleValues}
 use Rattle.scanline.specs.Points.{entries}
 use Rattle.ellipse.specs.Ellipse.{threshold}
 use Rattle.ellipse_points.specs.EllipsePoints.{isRun, row as Ellipse·row, rowCount}
 use Rattle.corner_radii.specs.CornerRadii.{equalRadii}
 use Rattle.rounded_rectangle.specs.declared.RoundedRectangle.{RoundedRectangle}
 use Rattle.style.specs.declared.Paint.the-variants.{Absent}
+use Rattle.style.specs.declared.Style.{Style}
+use Rattle.style.specs.declared.StrokeAlignment.{StrokeAlignment}
 use Rattle.style.specs.declared.StrokeAlignment.the-variants.{Inside, Center, Outside}
-use Rattle.style.specs.Style.{styled, outsideWidth, insideWidth}
+use Rattle.style.specs.Style.{styledByDefault, aligned, outsideWidth, insideWidth}
 use Rattle.figure.specs.declared.Figure.the-variants.{Ellipse, CrateBox, W3cBox}
 use Rattle.figure.specs.Figure.{contains, row, points, offset as Figure·offset}
 use Rattle.figure.specs.Calls.{flag, rowValues, figureValues, confinedValues}
@@ -68,6 +70,10 @@ numbers ns = map pos ns
 abbrev rowsOf : Rectangle → List ℤ
 rowsOf e = numbers (rowCount e ∷ countRows e (e .«top_left» .y) (e .size .height) ∷ [])
 
+-- a style without paints, by its stroke width and alignment
+abbrev pub stroked : ℕ → StrokeAlignment → Style
+stroked width alignment = aligned (styledByDefault Absent Absent width) alignment
+
 abbrev pub cases : List Case
 cases =
     -- a
@@ -84,16 +90,16 @@ cases =
     -- g
     ∷ case (confinedValues (W3cBox (box 10 100 9 60))) (numbers (5 ∷ 33 ∷ 5 ∷ 33 ∷ 5 ∷ 33 ∷ 5 ∷ 33 ∷ []))
     -- h: left stroke, fill, right stroke
-    ∷ case (styledRowValues (styledRow (CrateBox (box 10 40 1 20)) (styled Absent Absent 0 Center) (pos 0)))
+    ∷ case (styledRowValues (styledRow (CrateBox (box 10 40 1 20)) (stroked 0 Center) (pos 0)))
     (numbers (0 ∷ 1 ∷ 1 ∷ 9 ∷ 9 ∷ 10 ∷ []))
     -- i
-    ∷ case (styledRowValues (styledRow (CrateBox (box 4 10 0 0)) (styled Absent Absent 2 Inside) (pos 5)))
+    ∷ case (styledRowValues (styledRow (CrateBox (box 4 10 0 0)) (stroked 2 Inside) (pos 5)))
     (numbers (0 ∷ 0 ∷ 0 ∷ 4 ∷ 4 ∷ 4 ∷ []))
-    ∷ case (styledRowValues (styledRow (CrateBox (box 4 10 0 0)) (styled Absent Absent 2 Inside) (pos 1)))
+    ∷ case (styledRowValues (styledRow (CrateBox (box 4 10 0 0)) (stroked 2 Inside) (pos 1)))
     (numbers (0 ∷ 4 ∷ 4 ∷ 4 ∷ 4 ∷ 4 ∷ []))
     -- j
-    ∷ case (rectangleValues (styledBoundingBox (Ellipse (rectangle 0 0)) (styled Absent Absent 2 Outside))) (negsuc 0 ∷ negsuc 0 ∷ pos 4 ∷ pos 4 ∷ [])
-    ∷ case (rectangleValues (styledBoundingBox (CrateBox (box 5 5 1 1)) (styled Absent Absent 2 Outside))) (negsuc 1 ∷ negsuc 1 ∷ pos 9 ∷ pos 9 ∷ [])
+    ∷ case (rectangleValues (styledBoundingBox (Ellipse (rectangle 0 0)) (stroked 2 Outside))) (negsuc 0 ∷ negsuc 0 ∷ pos 4 ∷ pos 4 ∷ [])
+    ∷ case (rectangleValues (styledBoundingBox (CrateBox (box 5 5 1 1)) (stroked 2 Outside))) (negsuc 1 ∷ negsuc 1 ∷ pos 9 ∷ pos 9 ∷ [])
     -- k
     ∷ case (numbers (outsideWidth Center 1 ∷ insideWidth Center 1 ∷ [])) (numbers (0 ∷ 1 ∷ []))
     -- the five points of a circle 3 by 3 at (−2, −2), in order
@@ -106,11 +112,11 @@ cases =
     ∷ case (flag (contains (CrateBox (box 10 100 9 60)) (point (pos 6) (pos 0))) ∷ flag (contains (CrateBox (box 10 100 9 60)) (point (pos 3) (pos 0))) ∷ [])
     (numbers (1 ∷ 0 ∷ []))
     -- rows 0, 1 and 4 of a circle 4 by 4 with a stroke of 1 inside
-    ∷ case (styledRowValues (styledRow (Ellipse (rectangle 4 4)) (styled Absent Absent 1 Inside) (pos 0)))
+    ∷ case (styledRowValues (styledRow (Ellipse (rectangle 4 4)) (stroked 1 Inside) (pos 0)))
     (numbers (1 ∷ 3 ∷ 3 ∷ 3 ∷ 3 ∷ 3 ∷ []))
-    ∷ case (styledRowValues (styledRow (Ellipse (rectangle 4 4)) (styled Absent Absent 1 Inside) (pos 1)))
+    ∷ case (styledRowValues (styledRow (Ellipse (rectangle 4 4)) (stroked 1 Inside) (pos 1)))
     (numbers (0 ∷ 1 ∷ 1 ∷ 3 ∷ 3 ∷ 4 ∷ []))
-    ∷ case (styledRowValues (styledRow (Ellipse (rectangle 4 4)) (styled Absent Absent 1 Inside) (pos 4))) []
+    ∷ case (styledRowValues (styledRow (Ellipse (rectangle 4 4)) (stroked 1 Inside) (pos 4))) []
     -- the last row of a box 6 by 6 with unequal bottom corners
     ∷ case (rowValues (row (CrateBox bottomCorners) (pos 5))) (numbers (2 ∷ 5 ∷ []))
     -- a W3C box is confined, offset and confined again

@@ -2,12 +2,12 @@
 // the left the oval is filled, so the person is clocked in; on the right it is hollow.
 use corner_radii::CornerRadii;
 use figure::Figure;
-use geometry::rectangle::Rectangle;
+use geometry::Point;
+use geometry::Size;
 use libc::STDOUT_FILENO;
 use netpbm::WriteAnswer;
 use paint::PaintAnswer;
-use plane::Point;
-use plane::Size;
+use rectangle::Rectangle;
 use rounded_rectangle::RoundedRectangle;
 use style::Paint;
 use style::StrokeAlignment;
@@ -46,7 +46,7 @@ fn tile_oval(x: i32) -> Figure {
 
 // Paints a figure with a border of 2 pixels. Nothing here is beyond a limit, so nothing is refused.
 fn paint_bordered(canvas: &mut [u8], figure: Figure, fill: Paint) {
-    let style = Style::with_alignment(Paint::Colour(40), fill, 2, StrokeAlignment::Inside);
+    let style = Style::new(Paint::Colour(40), fill, 2).with_alignment(StrokeAlignment::Inside);
     let _ = paint::paint_figure(figure, style, WIDTH, HEIGHT, canvas);
 }
 

@@ -1,11 +1,11 @@
 // What is done at one corner of a box and with its edges, for the two rules that confine radii and
 // for the offset, after embedded-graphics 0.8.2 `rounded_rectangle/corner_radii.rs` and
 // `rounded_rectangle/mod.rs` (`OffsetOutline`). `corner_radii` does it at all four corners.
-use plane::Size;
+use geometry::Size;
 ghost use mathlib.Core.Path.{_≡_};
 ghost use Prim.Native.Nat.{_<_, _≤_};
 ghost use Rattle.signed.specs.Signed.{Near};
-ghost use Rattle.plane.specs.Bounds.{wideSide, SizeUpTo};
+ghost use Rattle.geometry.specs.Bounds.{wideSide, SizeUpTo};
 ghost use Rattle.corner.specs.Bounds.{wideRadius, BoundedEdge, BoundedEdges};
 ghost use Rattle.corner.specs.Corner.{offsetRadius, offsetCorner, scaledCorner, overlap as Corner·overlap, furtherOver, mostOver, tighter as Corner·tighter, tightest as Corner·tightest};
 

@@ -9,8 +9,8 @@ use native.Mathlib.Omega.{arith}
 use borrow.Author.Tests.{ltb-true}
 use lib.IntN.{ℤ}
 use Rattle.signed.specs.Signed.{Near}
-use Rattle.plane.specs.declared.Size.{Size}
-use Rattle.plane.specs.Bounds.{SizeUpTo}
+use Rattle.geometry.specs.declared.Size.{Size}
+use Rattle.geometry.specs.Bounds.{SizeUpTo}
 use Rattle.corner_radii.specs.declared.CornerRadii.{CornerRadii}
 use Rattle.corner.specs.declared.Edge.{Edge}
 use Rattle.corner.specs.Corner.{S, L, offsetRadius, offsetCorner, over, scaledCorner, mostOver, tightest}

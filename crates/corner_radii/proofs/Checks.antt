@@ -1,11 +1,11 @@
 -- What a passed check says: every radius number is within its limit.
 -- Assumes nothing.
 use mathlib.Core.Path.{_≡_}
-use Rattle.plane.specs.declared.Size.{Size}
+use Rattle.geometry.specs.declared.Size.{Size}
 use Rattle.refusal.specs.declared.Refusal.the-variants.{Radius}
 use Rattle.refusal.specs.declared.Checked.the-variants.{Passed}
-use Rattle.plane.specs.Limits.{maxRadius}
-use Rattle.plane.specs.Bounds.{SizeUpTo}
+use Rattle.geometry.specs.Limits.{maxRadius}
+use Rattle.geometry.specs.Bounds.{SizeUpTo}
 use Rattle.refusal.specs.Refusal.{refuseIf, orElse, above}
 use Rattle.refusal.proofs.Checks.{passed-first, passed-next, passed-above}
 use Rattle.corner_radii.specs.declared.CornerRadii.{CornerRadii}

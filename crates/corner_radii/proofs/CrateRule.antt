@@ -2,7 +2,7 @@
 -- Assumes nothing.
 use mathlib.Core.Path.{_≡_}
 use borrow.Author.Tests.{le-ltb}
-use Rattle.plane.specs.declared.Size.{Size}
+use Rattle.geometry.specs.declared.Size.{Size}
 use Rattle.corner.specs.Corner.{FitsEdges}
 use Rattle.corner.proofs.MostOver.{most-over-fits}
 use Rattle.corner_radii.specs.declared.CornerRadii.{CornerRadii}

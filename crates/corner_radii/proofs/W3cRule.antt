@@ -6,7 +6,7 @@ use Prim.Native.Nat.{ℕ, _+_, _*_, _/_, _≤_, _<_}
 use native.Mathlib.Nat.{mul-comm, add-mul, le-of-mul-le-mul-right, div-mul-le-self}
 use native.Mathlib.Omega.{arith}
 use borrow.Author.Tests.{ltb-true}
-use Rattle.plane.specs.declared.Size.{Size}
+use Rattle.geometry.specs.declared.Size.{Size}
 use Rattle.corner.specs.Corner.{S, L, over, scaledCorner, tightest, someOver, FitsEdges}
 use Rattle.corner.proofs.Tightest.{tightest-smallest, none-over-fits, fits-none-over, some-over-by-tightest}
 use Rattle.corner_radii.specs.declared.CornerRadii.{CornerRadii}

@@ -1,8 +1,8 @@
 -- What the inner functions ask of radii, and how radii compare. The bounds are those of `corner`.
 -- Assumes nothing.
 use Prim.Native.Nat.{ℕ, _≤_}
-use Rattle.plane.specs.declared.Size.{Size}
-use Rattle.plane.specs.Bounds.{SizeUpTo}
+use Rattle.geometry.specs.declared.Size.{Size}
+use Rattle.geometry.specs.Bounds.{SizeUpTo}
 use Rattle.corner_radii.specs.declared.CornerRadii.{CornerRadii}
 
 -- every radius number is at most n

@@ -4,10 +4,10 @@
 use mathlib.Core.Bool.{cond}
 use Prim.Native.Nat.{_+_}
 use lib.IntN.{ℤ}
-use Rattle.plane.specs.declared.Size.{Size}
+use Rattle.geometry.specs.declared.Size.{Size}
 use Rattle.refusal.specs.declared.Refusal.the-variants.{Radius}
 use Rattle.refusal.specs.declared.Checked.{Checked}
-use Rattle.plane.specs.Limits.{maxRadius}
+use Rattle.geometry.specs.Limits.{maxRadius}
 use Rattle.refusal.specs.Refusal.{refuseIf, orElse, above}
 use Rattle.corner.specs.declared.Edge.{Edge}
 use Rattle.corner.specs.declared.Edges.{Edges}

@@ -8,11 +8,11 @@ use Prim.Native.Nat.{ℕ, _≤_}
 use native.Mathlib.Omega.{arith}
 use lib.IntN.{ℤ, pos, _+ℤ_}
 use Rattle.signed.specs.Signed.{Near}
-use Rattle.geometry.specs.declared.rectangle.Rectangle.{Rectangle}
-use Rattle.plane.specs.declared.Size.{Size}
+use Rattle.rectangle.specs.declared.Rectangle.{Rectangle}
+use Rattle.geometry.specs.declared.Size.{Size}
 use Rattle.range.specs.declared.Range.{Range}
 use Rattle.range.specs.Range.{contains as Range·contains}
-use Rattle.geometry.specs.Rectangle.{rows, offset as Rectangle·offset}
+use Rattle.rectangle.specs.Rectangle.{rows, offset as Rectangle·offset}
 use Rattle.scanline.specs.declared.Row.the-variants as row-of
 use Rattle.scanline.specs.declared.StyledRow.{StyledRow}
 use Rattle.scanline.specs.declared.StyledRow.the-variants.{NoRow}

@@ -9,8 +9,8 @@ use lib.IntN.{ℤ, pos, negsuc}
 use lib.ListN.{length}
 use Rattle.refusal.specs.declared.Checked.{Checked}
 use Rattle.refusal.specs.declared.Checked.the-variants as checked
-use Rattle.plane.specs.Limits.{maxCanvasSide}
-use Rattle.plane.specs.Limits.{maxLayers as Limits·maxLayers}
+use Rattle.geometry.specs.Limits.{maxCanvasSide}
+use Rattle.geometry.specs.Limits.{maxLayers as Limits·maxLayers}
 use Rattle.refusal.specs.Refusal.{number, orElse}
 use Rattle.scanline.specs.declared.StyledRow.{StyledRow}
 use Rattle.figure.specs.declared.Figure.{Figure}

@@ -1,7 +1,7 @@
 -- Document 01, 'Sheet': a layer's rows, first, last and left, are those of its stroke area.
 -- Assumes nothing.
-use Rattle.geometry.specs.declared.rectangle.Rectangle.{Rectangle}
-use Rattle.geometry.specs.Rectangle.{rows}
+use Rattle.rectangle.specs.declared.Rectangle.{Rectangle}
+use Rattle.rectangle.specs.Rectangle.{rows}
 use Rattle.ellipse_points.specs.EllipsePoints.{rowCount}
 use Rattle.figure.specs.declared.Figure.{Figure}
 use Rattle.figure.specs.declared.Shape.{Shape}

@@ -3,7 +3,7 @@
 // this; `specs/Drawing.antt` puts it into the book of demand 3.
 use canvas_size::CanvasSize;
 use figure::Figure;
-use geometry::rectangle::Rectangle;
+use rectangle::Rectangle;
 use refusal::Checked;
 use scanline::StyledRow;
 use style::Style;
@@ -14,8 +14,8 @@ ghost use mathlib.Core.Path.{_≡_};
 ghost use Prim.Native.Nat.{_*_, _≤_};
 ghost use lib.ListN.{length};
 ghost use Rattle.signed.specs.Signed.{Near};
-ghost use Rattle.plane.specs.Bounds.{widePoint, wideSide};
-ghost use Rattle.geometry.specs.Rectangle.{offset as Rectangle·offset};
+ghost use Rattle.geometry.specs.Bounds.{widePoint, wideSide};
+ghost use Rattle.rectangle.specs.Rectangle.{offset as Rectangle·offset};
 ghost use Rattle.corner.specs.Bounds.{wideStrokeSide};
 ghost use Rattle.figure.specs.Bounds.{wideOffset, wideAreaPosition, OwnRectangle, OwnFigure};
 ghost use Rattle.book.specs.Sheet.{paintRow as Sheet·paintRow};
@@ -42,7 +42,7 @@ fn box_rows(rectangle: Rectangle, k: i32) -> StrokeRows
     requires { ⌜ Near wideOffset k ⌝ }
     ensures { λ r. ⌜ r ≡ boxRows (Rectangle·offset rectangle k) ⌝ }
 {
-    let area = geometry::bounded::offset(rectangle, k);
+    let area = rectangle::bounded::offset(rectangle, k);
     let top_left = area.top_left;
     let size = area.size;
     StrokeRows {
@@ -57,7 +57,7 @@ fn ellipse_rows(rectangle: Rectangle, k: i32) -> StrokeRows
     requires { ⌜ Near wideOffset k ⌝ }
     ensures { λ r. ⌜ r ≡ ellipseRows (Rectangle·offset rectangle k) ⌝ }
 {
-    let area = geometry::bounded::offset(rectangle, k);
+    let area = rectangle::bounded::offset(rectangle, k);
     let top_left = area.top_left;
     StrokeRows {
         first: top_left.y,

@@ -5,9 +5,9 @@ use Prim.Native.Nat.{ℕ, _-_, _*_, _/_}
 use lib.Dec.{leb, eqb}
 use lib.IntN.{ℤ, pos, _+ℤ_, _-ℤ_, _*ℤ_}
 use lib.Signed.{ltZ}
-use Rattle.plane.specs.declared.Point.{Point}
-use Rattle.plane.specs.declared.Size.{Size}
-use Rattle.geometry.specs.declared.rectangle.Rectangle.{Rectangle}
+use Rattle.geometry.specs.declared.Point.{Point}
+use Rattle.geometry.specs.declared.Size.{Size}
+use Rattle.rectangle.specs.declared.Rectangle.{Rectangle}
 
 -- C on one axis: 2 × top-left + max(side − 1, 0) (`center_2x`). `_-_` on ℕ stops at 0
 unfoldable pub center2x : ℤ → ℕ → ℤ

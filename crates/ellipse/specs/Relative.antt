@@ -3,7 +3,7 @@
 use mathlib.Core.Bool.{Bool, cond}
 use Prim.Native.Nat.{ℕ, _+_, _-_, _*_, _≤_}
 use lib.Dec.{ltb, eqb}
-use Rattle.plane.specs.Bounds.{wideSide, widePoint}
+use Rattle.geometry.specs.Bounds.{wideSide, widePoint}
 use Rattle.ellipse.specs.declared.EllipseContains.{EllipseContains}
 use Rattle.ellipse.specs.Ellipse.{threshold}
 

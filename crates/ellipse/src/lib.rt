@@ -1,15 +1,15 @@
 // The test of a point, after embedded-graphics 0.8.2 `ellipse/mod.rs` (`EllipseContains`) and `circle/mod.rs` (`diameter_to_threshold`). The test
 // depends on the distances from the middle alone, so it works on unsigned numbers; in u64, so that
 // every size is answered where the Rust overflows u32.
-use geometry::rectangle::Rectangle;
-use plane::Point;
-use plane::Size;
+use geometry::Point;
+use geometry::Size;
+use rectangle::Rectangle;
 ghost use mathlib.Core.Path.{_≡_};
 ghost use Prim.Native.Nat.{_*_, _-_, _<_, _≤_};
 ghost use lib.IntN.{natAbs};
 ghost use Rattle.signed.specs.Signed.{Near};
-ghost use Rattle.plane.specs.Bounds.{wideSide, widePoint, SizeUpTo, PointNear};
-ghost use Rattle.geometry.specs.Bounds.{Bounded};
+ghost use Rattle.geometry.specs.Bounds.{wideSide, widePoint, SizeUpTo, PointNear};
+ghost use Rattle.rectangle.specs.Bounds.{Bounded};
 ghost use Rattle.ellipse.specs.Ellipse.{threshold, center2x, fromCenter2x, contains as Ellipse·contains};
 ghost use Rattle.ellipse.specs.Relative.{gap as Relative·gap, wideDistance, wideSideSquare, wideDistanceSquare, wideProduct, containsOf, SmallWeights, belowThreshold};
 

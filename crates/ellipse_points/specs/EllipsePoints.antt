@@ -5,8 +5,8 @@ use Prim.Native.Nat.{ℕ}
 use lib.IntN.{ℤ, _-ℤ_}
 use Rattle.range.specs.declared.Range.{Range}
 use Rattle.range.specs.Range.{contains as Range·contains}
-use Rattle.geometry.specs.declared.rectangle.Rectangle.{Rectangle}
-use Rattle.geometry.specs.Rectangle.{rows, columns}
+use Rattle.rectangle.specs.declared.Rectangle.{Rectangle}
+use Rattle.rectangle.specs.Rectangle.{rows, columns}
 use Rattle.scanline.specs.declared.Row.{Row}
 use Rattle.scanline.specs.declared.Row.the-variants.{Run, NoRow}
 use Rattle.scanline.specs.Columns.{Column, found, none, firstColumn}

@@ -6,7 +6,7 @@ use scanline::Place;
 ghost use mathlib.Core.Path.{_≡_};
 ghost use mathlib.Core.Bool.{true, false};
 ghost use Prim.Native.Nat.{_+_, _-_, _/_, _<_, _≤_};
-ghost use Rattle.plane.specs.Bounds.{wideSide};
+ghost use Rattle.geometry.specs.Bounds.{wideSide};
 ghost use Rattle.scanline.specs.Places.{findFrom};
 ghost use Rattle.ellipse.specs.Relative.{wideDistance, SmallWeights};
 ghost use Rattle.ellipse_search.specs.Search.{columnInside};

@@ -1,9 +1,9 @@
 -- Document 01, 'Styled rows' (`ellipse/styled.rs`, `common/styled_scanline.rs`): a styled row as three runs, and the ellipse's.
 -- Assumes nothing.
 use lib.IntN.{ℤ, _-ℤ_}
-use Rattle.plane.specs.declared.Size.{Size}
+use Rattle.geometry.specs.declared.Size.{Size}
 use Rattle.range.specs.declared.Range.{Range}
-use Rattle.geometry.specs.declared.rectangle.Rectangle.{Rectangle}
+use Rattle.rectangle.specs.declared.Rectangle.{Rectangle}
 use Rattle.scanline.specs.declared.Row.{Row}
 use Rattle.scanline.specs.declared.Row.the-variants as row-of
 use Rattle.scanline.specs.declared.StyledScanline.{StyledScanline}

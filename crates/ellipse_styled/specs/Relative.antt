@@ -6,7 +6,7 @@ use lib.IntN.{ℤ, pos, _+ℤ_, _-ℤ_}
 use Rattle.scanline.specs.declared.StyledScanline.{StyledScanline}
 use Rattle.scanline.specs.declared.Place.{Place}
 use Rattle.scanline.specs.declared.Place.the-variants.{At, Nowhere}
-use Rattle.geometry.specs.Bounds.{Bounded}
+use Rattle.rectangle.specs.Bounds.{Bounded}
 use Rattle.ellipse.specs.Relative.{containsOf, SmallWeights}
 use Rattle.ellipse_points.specs.Relative.{firstRowInside}
 use Rattle.ellipse_styled.specs.declared.StyledEllipse.{StyledEllipse}

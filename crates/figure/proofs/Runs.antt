@@ -10,7 +10,7 @@ use mir.Syntax.{w32}
 use Rattle.signed.specs.Signed.{Near}
 use Rattle.signed.proofs.Laws.{int, add-law, sub-law, fits-by-parts}
 use Rattle.range.specs.declared.Range.{Range}
-use Rattle.plane.specs.Bounds.{widePoint}
+use Rattle.geometry.specs.Bounds.{widePoint}
 use Rattle.scanline.specs.Points.{runLength, EndsWithin}
 use Rattle.corner.specs.Bounds.{wideStrokeSide}
 use Rattle.figure.specs.Bounds.{wideAreaPosition}

@@ -7,21 +7,21 @@ use Prim.Native.Nat.{ℕ, _+_, _≤_}
 use native.Mathlib.Omega.{arith}
 use lib.IntN.{ℤ, pos}
 use Rattle.signed.specs.Signed.{Near}
-use Rattle.plane.specs.declared.Point.{Point}
-use Rattle.plane.specs.declared.Size.{Size}
-use Rattle.geometry.specs.declared.rectangle.Rectangle.{Rectangle}
+use Rattle.geometry.specs.declared.Point.{Point}
+use Rattle.geometry.specs.declared.Size.{Size}
+use Rattle.rectangle.specs.declared.Rectangle.{Rectangle}
 use Rattle.refusal.specs.declared.Checked.{Checked}
 use Rattle.refusal.specs.declared.Checked.the-variants.{Passed, Refused}
-use Rattle.plane.specs.Limits.{maxRadius}
-use Rattle.plane.specs.Bounds.{PointNear, SizeUpTo}
-use Rattle.geometry.specs.Bounds.{Bounded}
+use Rattle.geometry.specs.Limits.{maxRadius}
+use Rattle.geometry.specs.Bounds.{PointNear, SizeUpTo}
+use Rattle.rectangle.specs.Bounds.{Bounded}
 use Rattle.refusal.specs.Refusal.{orElse, refused, answered, unless}
-use Rattle.geometry.specs.Calls.{rectangleValues, rectangleCheck}
-use Rattle.plane.specs.Checks.{sizeCheck, positionCheck}
-use Rattle.geometry.specs.Rectangle.{withCenter, offset as Rectangle·offset}
-use Rattle.geometry.proofs.Offset.{offset-size-up-to, offset-position-near}
+use Rattle.rectangle.specs.Calls.{rectangleValues, rectangleCheck}
+use Rattle.geometry.specs.Checks.{sizeCheck, positionCheck}
+use Rattle.rectangle.specs.Rectangle.{withCenter, offset as Rectangle·offset}
+use Rattle.rectangle.proofs.Offset.{offset-size-up-to, offset-position-near}
 use Rattle.refusal.proofs.Checks.{passed-first, passed-next}
-use Rattle.plane.proofs.Checks.{size-passed, position-passed}
+use Rattle.geometry.proofs.Checks.{size-passed, position-passed}
 use Rattle.corner.specs.Bounds.{wideRadius}
 use Rattle.corner_radii.specs.CornerRadii.{radiiCheck}
 use Rattle.corner_radii.proofs.Bounds.{confine-up-to, w3c-up-to, offset-up-to, radii-up-to-wider}

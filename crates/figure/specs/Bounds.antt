@@ -1,8 +1,8 @@
 -- What the inner functions ask of figures and shapes: wider than the limits, at the numbers that a later raise of them brings.
 -- Assumes nothing.
 use Prim.Native.Nat.{ℕ, _+_}
-use Rattle.geometry.specs.declared.rectangle.Rectangle.{Rectangle}
-use Rattle.plane.specs.Bounds.{PointNear, SizeUpTo}
+use Rattle.rectangle.specs.declared.Rectangle.{Rectangle}
+use Rattle.geometry.specs.Bounds.{PointNear, SizeUpTo}
 use Rattle.corner.specs.Bounds.{wideRadius, wideStrokeSide}
 use Rattle.corner_radii.specs.Bounds.{RadiiUpTo}
 use Rattle.rounded_rectangle.specs.declared.RoundedRectangle.{RoundedRectangle}

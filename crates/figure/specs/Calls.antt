@@ -3,13 +3,13 @@
 use mathlib.Core.Bool.{Bool, true, false}
 use mathlib.Core.List.{List, [], _∷_, _++_}
 use lib.IntN.{ℤ, pos}
-use Rattle.plane.specs.declared.Point.{Point}
-use Rattle.plane.specs.declared.Size.{Size}
+use Rattle.geometry.specs.declared.Point.{Point}
+use Rattle.geometry.specs.declared.Size.{Size}
 use Rattle.refusal.specs.declared.Checked.{Checked}
 use Rattle.refusal.specs.Refusal.{number, orElse, Outcome, refused, answered, unless}
-use Rattle.geometry.specs.Calls.{rangeValues, rectangleValues, rectangleCheck}
-use Rattle.plane.specs.Checks.{sizeCheck, positionCheck, askedCheck, pointCheck, offsetCheck}
-use Rattle.geometry.specs.Rectangle.{withCenter}
+use Rattle.rectangle.specs.Calls.{rangeValues, rectangleValues, rectangleCheck}
+use Rattle.geometry.specs.Checks.{sizeCheck, positionCheck, askedCheck, pointCheck, offsetCheck}
+use Rattle.rectangle.specs.Rectangle.{withCenter}
 use Rattle.scanline.specs.declared.Row.{Row}
 use Rattle.scanline.specs.declared.Row.the-variants as row-of
 use Rattle.corner_radii.specs.declared.CornerRadii.{CornerRadii}

@@ -4,9 +4,9 @@
 use mathlib.Core.Bool.{Bool}
 use mathlib.Core.List.{List}
 use lib.IntN.{ℤ}
-use Rattle.plane.specs.declared.Point.{Point}
-use Rattle.geometry.specs.declared.rectangle.Rectangle.{Rectangle}
-use Rattle.geometry.specs.Rectangle.{rows, offset as Rectangle·offset}
+use Rattle.geometry.specs.declared.Point.{Point}
+use Rattle.rectangle.specs.declared.Rectangle.{Rectangle}
+use Rattle.rectangle.specs.Rectangle.{rows, offset as Rectangle·offset}
 use Rattle.scanline.specs.declared.Row.{Row}
 use Rattle.scanline.specs.Points.{pointsFrom}
 use Rattle.ellipse.specs.Ellipse.{contains as Ellipse·contains}

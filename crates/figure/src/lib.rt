@@ -2,8 +2,8 @@
 // match on the figure. After embedded-graphics 0.8.2 `ellipse/mod.rs`, `rounded_rectangle/mod.rs`
 // (`OffsetOutline`, `confine_radii`); the W3C box is not in the source. The functions of this file
 // are for callers that have made the checks; those that a host calls are in calls.rt.
-use geometry::rectangle::Rectangle;
-use plane::Point;
+use geometry::Point;
+use rectangle::Rectangle;
 use refusal::Checked;
 use rounded_rectangle::RoundedRectangle;
 use scanline::Row;
@@ -12,7 +12,7 @@ pub mod calls;
 
 ghost use mathlib.Core.Path.{_≡_};
 ghost use Rattle.signed.specs.Signed.{Near};
-ghost use Rattle.plane.specs.Bounds.{widePoint, PointNear};
+ghost use Rattle.geometry.specs.Bounds.{widePoint, PointNear};
 ghost use Rattle.scanline.specs.Points.{RowWithin};
 ghost use Rattle.figure.specs.Bounds.{wideOffset, OwnBox, AreaBox, OwnFigure, BoundedFigure, BoundedShape};
 ghost use Rattle.figure.specs.Figure.{confined as Figure·confined, confinedW3c, offsetBox, offset as Figure·offset, shape as Figure·shape, rectangle as Shape·rectangle, containsShape, rowOfShape};
@@ -65,7 +65,7 @@ fn offset_box(b: RoundedRectangle, k: i32) -> RoundedRectangle
     let rectangle = b.rectangle;
     let corners = b.corners;
     RoundedRectangle {
-        rectangle: geometry::bounded::offset(rectangle, k),
+        rectangle: rectangle::bounded::offset(rectangle, k),
         corners: corners.offset(k),
     }
 }
@@ -76,8 +76,8 @@ fn check_box(b: RoundedRectangle) -> Checked
 {
     let rectangle = b.rectangle;
     let corners = b.corners;
-    let size = plane::check_size(rectangle.size);
-    let position = plane::check_position(rectangle.top_left);
+    let size = geometry::check_size(rectangle.size);
+    let position = geometry::check_position(rectangle.top_left);
     size.or_else(corners.check()).or_else(position)
 }
 
@@ -100,7 +100,7 @@ impl Figure {
         ensures { λ r. ⌜ (r ≡ Figure·offset self k) × BoundedFigure r ⌝ }
     {
         match self {
-            Figure::Ellipse(rectangle) => Figure::Ellipse(geometry::bounded::offset(rectangle, k)),
+            Figure::Ellipse(rectangle) => Figure::Ellipse(rectangle::bounded::offset(rectangle, k)),
             Figure::CrateBox(b) => Figure::CrateBox(offset_box(b, k)),
             Figure::W3cBox(b) => Figure::W3cBox(confined_w3c(offset_box(confined_w3c(b), k))),
         }

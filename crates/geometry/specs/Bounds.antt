@@ -1,9 +1,23 @@
--- What the inner functions ask of a rectangle, by the bounds of `plane`.
+-- What the inner functions ask of their arguments. The bounds are wider than the limits of `Limits`, so that raising those moves
+-- no inner contract: sides up to twice a radius of 4096 grown by 256, points up to ±32768.
 -- Assumes nothing.
-use Rattle.plane.specs.Bounds.{wideSide, widePoint, PointNear, SizeUpTo}
-use Rattle.geometry.specs.declared.rectangle.Rectangle.{Rectangle}
+use Prim.Native.Nat.{ℕ, _+_, _*_, _≤_}
+use Rattle.signed.specs.Signed.{Near}
+use Rattle.geometry.specs.declared.Point.{Point}
+use Rattle.geometry.specs.declared.Size.{Size}
 
--- a rectangle that the inner functions take: a figure's, and a stroke area's too
-pub record Bounded (r : Rectangle) : Type 0 where
-  pub at : PointNear widePoint (r .«top_left»)
-  pub size : SizeUpTo wideSide (r .size)
+abbrev pub wideSide : ℕ
+wideSide = 2 * (4096 + 256)
+
+abbrev pub widePoint : ℕ
+widePoint = 32768
+
+-- both coordinates are at most n away from 0
+pub record PointNear (n : ℕ) (p : Point) : Type 0 where
+  pub x : Near n (p .x)
+  pub y : Near n (p .y)
+
+-- both sides are at most n
+pub record SizeUpTo (n : ℕ) (s : Size) : Type 0 where
+  pub width : s .width ≤ n
+  pub height : s .height ≤ n

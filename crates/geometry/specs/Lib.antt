@@ -1,3 +1,3 @@
+pub mod Limits
 pub mod Bounds
-pub mod Rectangle
-pub mod Calls
+pub mod Checks

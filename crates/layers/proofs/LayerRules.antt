@@ -16,7 +16,7 @@ use Rattle.signed.proofs.Laws.{int, add-law}
 use Rattle.refusal.specs.declared.Refusal.{Refusal}
 use Rattle.refusal.specs.declared.Checked.{Checked}
 use Rattle.refusal.specs.declared.Checked.the-variants.{Passed, Refused}
-use Rattle.plane.specs.Bounds.{widePoint}
+use Rattle.geometry.specs.Bounds.{widePoint}
 use Rattle.refusal.proofs.Checks.{passed-first, passed-next}
 use Rattle.corner.specs.Bounds.{wideStrokeSide}
 use Rattle.figure.specs.declared.Figure.{Figure}

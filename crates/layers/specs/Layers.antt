@@ -7,7 +7,7 @@ use Prim.Native.Nat.{ℕ}
 use lib.IntN.{ℤ, pos, _+ℤ_}
 use lib.ListN.{take}
 use lib.Signed.{leZ, ltZ}
-use Rattle.geometry.specs.declared.rectangle.Rectangle.{Rectangle}
+use Rattle.rectangle.specs.declared.Rectangle.{Rectangle}
 use Rattle.figure.specs.declared.Figure.{Figure}
 use Rattle.figure.specs.declared.Figure.the-variants as figure-of
 use Rattle.style.specs.declared.Style.{Style}

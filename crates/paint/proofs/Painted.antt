@@ -1,5 +1,4 @@
--- Painting all of a figure's rows one after another overpaints every canvas row by the styled row there, and it is what a sheet with
--- that one layer comes to.
+-- Painting all of a figure's rows one after another overpaints every canvas row by the styled row there; and the loop that does it.
 -- Assumes nothing.
 use mathlib.Core.Path.{_≡_, refl, sym, ap, _∙_}
 use mathlib.Core.List.{List}

@@ -5,7 +5,7 @@ use mathlib.Core.List.{List}
 use Prim.Native.Nat.{ℕ, _*_, _≤_}
 use lib.ListN.{length}
 use Rattle.refusal.specs.declared.Checked.the-variants.{Passed}
-use Rattle.plane.specs.Limits.{maxStrokeWidth}
+use Rattle.geometry.specs.Limits.{maxStrokeWidth}
 use Rattle.refusal.specs.Refusal.{orElse}
 use Rattle.refusal.proofs.Checks.{passed-first, passed-next}
 use Rattle.figure.specs.declared.Figure.{Figure}

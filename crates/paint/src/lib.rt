@@ -10,7 +10,7 @@ use styled_shape::no_hints;
 ghost use mathlib.Core.Path.{_≡_};
 ghost use Prim.Native.Nat.{_*_, _≤_};
 ghost use lib.ListN.{length};
-ghost use Rattle.plane.specs.Bounds.{wideSide};
+ghost use Rattle.geometry.specs.Bounds.{wideSide};
 ghost use Rattle.figure.specs.Bounds.{wideOffset, OwnFigure};
 ghost use Rattle.book.specs.Whole.{paintWhole};
 ghost use Rattle.drawing.specs.Drawing.{styledFigure, drawing};

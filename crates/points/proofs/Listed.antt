@@ -8,7 +8,7 @@ use native.Mathlib.Omega.{arith}
 use lib.IntN.{ℤ, pos, _+ℤ_}
 use lib.ListN.{length}
 use Rattle.range.specs.declared.Range.{Range}
-use Rattle.geometry.specs.declared.rectangle.Rectangle.{Rectangle}
+use Rattle.rectangle.specs.declared.Rectangle.{Rectangle}
 use Rattle.refusal.specs.declared.Refusal.{Refusal}
 use Rattle.refusal.specs.declared.Refusal.the-variants.{BufferLength}
 use Rattle.refusal.specs.declared.Checked.{Checked}

@@ -13,7 +13,7 @@ ghost use Prim.Native.Nat.{_*_, _≤_};
 ghost use lib.ListN.{length};
 ghost use lib.Seq.{sets};
 ghost use Rattle.signed.specs.Signed.{Near};
-ghost use Rattle.plane.specs.Bounds.{wideSide, widePoint};
+ghost use Rattle.geometry.specs.Bounds.{wideSide, widePoint};
 ghost use Rattle.scanline.specs.Points.{runLength, entries};
 ghost use Rattle.figure.specs.Bounds.{BoundedShape};
 ghost use Rattle.figure.specs.Figure.{pointsOfShape};

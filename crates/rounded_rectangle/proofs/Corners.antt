@@ -8,7 +8,7 @@ use lib.Dec.{ltb}
 use lib.IntN.{ℤ, pos, natAbs, _+ℤ_, _-ℤ_}
 use lib.Signed.{ltZ, leZ}
 use Rattle.signed.proofs.Laws.{int, tests-agree, add-law, sub-law}
-use Rattle.plane.specs.declared.Size.{Size}
+use Rattle.geometry.specs.declared.Size.{Size}
 use Rattle.ellipse.specs.Ellipse.{center2x, fromCenter2x, insideAbout}
 use Rattle.ellipse.specs.Relative.{gap, containsOf, belowThreshold}
 use Rattle.ellipse_search.specs.Search.{columnInside}

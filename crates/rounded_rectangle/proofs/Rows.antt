@@ -9,9 +9,9 @@ use borrow.Author.Tests.{ltb-true, lt-ltb, le-ltb}
 use lib.Dec.{ltb}
 use lib.IntN.{ℤ, pos, _+ℤ_, _-ℤ_}
 use Rattle.signed.proofs.Laws.{int, add-law, sub-law}
-use Rattle.plane.specs.declared.Size.{Size}
+use Rattle.geometry.specs.declared.Size.{Size}
 use Rattle.range.specs.Range.{contains as Range·contains}
-use Rattle.geometry.specs.Rectangle.{rows}
+use Rattle.rectangle.specs.Rectangle.{rows}
 use Rattle.range.proofs.Fields.{range-by-fields}
 use Rattle.scanline.specs.declared.Place.{Place}
 use Rattle.scanline.specs.declared.Place.the-variants.{At, Nowhere}

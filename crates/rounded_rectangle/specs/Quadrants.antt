@@ -4,8 +4,8 @@
 use mathlib.Core.Bool.{Bool}
 use Prim.Native.Nat.{ℕ, _*_}
 use lib.IntN.{ℤ, pos, _+ℤ_, _-ℤ_}
-use Rattle.plane.specs.declared.Size.{Size}
-use Rattle.geometry.specs.declared.rectangle.Rectangle.{Rectangle}
+use Rattle.geometry.specs.declared.Size.{Size}
+use Rattle.rectangle.specs.declared.Rectangle.{Rectangle}
 use Rattle.ellipse.specs.Ellipse.{insideAbout}
 use Rattle.rounded_rectangle.specs.declared.RoundedRectangle.{RoundedRectangle}
 

@@ -6,9 +6,9 @@ use mathlib.Core.Bool.{Bool, true, cond, _&&_}
 use Prim.Native.Nat.{ℕ, _-_, _*_}
 use lib.Dec.{ltb}
 use lib.IntN.{ℤ, pos, _+ℤ_, _-ℤ_}
-use Rattle.plane.specs.declared.Size.{Size}
+use Rattle.geometry.specs.declared.Size.{Size}
 use Rattle.range.specs.declared.Range.{Range}
-use Rattle.plane.specs.Bounds.{widePoint, PointNear, SizeUpTo}
+use Rattle.geometry.specs.Bounds.{widePoint, PointNear, SizeUpTo}
 use Rattle.scanline.specs.Places.{findFrom, placeElse0}
 use Rattle.ellipse.specs.Relative.{gap, containsOf, SmallWeights}
 use Rattle.ellipse_search.specs.Search.{columnInside}

@@ -6,7 +6,7 @@ use lib.IntN.{ℤ}
 use lib.Signed.{ltZ, leZ}
 use Rattle.range.specs.declared.Range.{Range}
 use Rattle.range.specs.Range.{contains as Range·contains}
-use Rattle.geometry.specs.Rectangle.{rows, columns}
+use Rattle.rectangle.specs.Rectangle.{rows, columns}
 use Rattle.scanline.specs.declared.Row.{Row}
 use Rattle.scanline.specs.declared.Row.the-variants.{Run, NoRow}
 use Rattle.scanline.specs.Columns.{firstColumn, lastColumn, columnElse, columnAfterElse}

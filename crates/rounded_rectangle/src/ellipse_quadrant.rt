@@ -2,12 +2,12 @@
 // from the corner inward, after embedded-graphics 0.8.2 `rounded_rectangle/ellipse_quadrant.rs`.
 use ellipse::EllipseContains;
 use ellipse_search::Hint;
-use plane::Size;
+use geometry::Size;
 use scanline::Place;
 ghost use mathlib.Core.Path.{_≡_};
 ghost use mathlib.Core.Bool.{true};
 ghost use Prim.Native.Nat.{_<_, _≤_};
-ghost use Rattle.plane.specs.Bounds.{wideSide, SizeUpTo};
+ghost use Rattle.geometry.specs.Bounds.{wideSide, SizeUpTo};
 ghost use Rattle.corner.specs.Bounds.{wideRadius};
 ghost use Rattle.rounded_rectangle.specs.Relative.{Ready, insideCorner, inQuadrant, inset as Relative·inset};
 

@@ -9,7 +9,7 @@ use native.Mathlib.Omega.{arith}
 use lib.IntN.{ℤ, pos, _+ℤ_}
 use lib.ListN.{length, set, length-set, length-append}
 use lib.Seq.{sets, length-sets}
-use Rattle.plane.specs.declared.Point.{Point}
+use Rattle.geometry.specs.declared.Point.{Point}
 use Rattle.range.specs.declared.Range.{Range}
 use Rattle.range.specs.Range.{isEmpty}
 use Rattle.scanline.specs.declared.Row.{Row}

@@ -7,7 +7,7 @@ use Prim.Native.Nat.{ℕ, zero, suc}
 use lib.IntN.{ℤ, pos, _+ℤ_, _-ℤ_}
 use lib.Signed.{leZ}
 use Rattle.signed.specs.Signed.{floor0}
-use Rattle.plane.specs.declared.Point.{Point}
+use Rattle.geometry.specs.declared.Point.{Point}
 use Rattle.range.specs.declared.Range.{Range}
 use Rattle.range.specs.Range.{isEmpty}
 use Rattle.scanline.specs.declared.Row.{Row}

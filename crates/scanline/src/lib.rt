@@ -8,7 +8,7 @@ ghost use lib.IntN.{pos, _+ℤ_, _-ℤ_};
 ghost use lib.ListN.{length};
 ghost use lib.Seq.{sets};
 ghost use Rattle.signed.specs.Signed.{Near, Is};
-ghost use Rattle.plane.specs.Bounds.{wideSide, widePoint};
+ghost use Rattle.geometry.specs.Bounds.{wideSide, widePoint};
 ghost use Rattle.scanline.specs.Places.{Placed};
 ghost use Rattle.scanline.specs.Points.{runPoints, entries};
 

@@ -4,12 +4,12 @@
 // it was given and changes no byte.
 use canvas_size::CanvasSize;
 use figure::Figure;
-use geometry::rectangle::Rectangle;
+use geometry::Point;
+use geometry::Size;
 use layers::Layer;
 use layers::LayerRows;
 use layers::RulesTested;
-use plane::Point;
-use plane::Size;
+use rectangle::Rectangle;
 use refusal::Checked;
 use refusal::Refusal;
 use style::Paint;

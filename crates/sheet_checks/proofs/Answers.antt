@@ -16,7 +16,7 @@ use Rattle.refusal.specs.declared.Refusal.{Refusal}
 use Rattle.refusal.specs.declared.Refusal.the-variants.{SheetRule, CanvasLength, SheetFull, NoLayer, NoRowLeft, RowOwed}
 use Rattle.refusal.specs.declared.Checked.{Checked}
 use Rattle.refusal.specs.declared.Checked.the-variants.{Passed, Refused}
-use Rattle.plane.specs.Limits.{maxLayers}
+use Rattle.geometry.specs.Limits.{maxLayers}
 use Rattle.refusal.specs.Refusal.{number, orElse as firstOf, refuseIf as Geometry·refuseIf}
 use Rattle.canvas_size.specs.CanvasSize.{canvasLengthCheck}
 use Rattle.canvas_size.proofs.Sides.{canvas-length-passed}

@@ -13,7 +13,7 @@ use borrow.Author.Tests.{leb-true, leb-false, le-leb, le-ltb}
 use Rattle.refusal.specs.declared.Refusal.{Refusal}
 use Rattle.refusal.specs.declared.Checked.{Checked}
 use Rattle.refusal.specs.declared.Checked.the-variants.{Passed, Refused}
-use Rattle.plane.specs.Limits.{maxCanvasSide, maxLayers}
+use Rattle.geometry.specs.Limits.{maxCanvasSide, maxLayers}
 use Rattle.canvas_size.specs.CanvasSize.{sideCheck, canvasSizeCheck}
 use Rattle.canvas_size.proofs.Sides.{canvas-size-passed}
 use Rattle.book.specs.Sheet.{Layers, WithinSide, layerKeepsRules, layersKeepRules, fitsSide, keepsRules}

@@ -8,7 +8,7 @@ use Rattle.style.specs.declared.StrokeAlignment.{StrokeAlignment}
 use Rattle.style.specs.declared.StrokeAlignment.the-variants.{Inside, Center, Outside}
 use Rattle.style.specs.declared.Style.{Style}
 use Rattle.style.specs.declared.Widths.{Widths}
-use Rattle.style.specs.Style.{styled, outsideStrokeWidth, insideStrokeWidth}
+use Rattle.style.specs.Style.{styledByDefault, aligned, outsideStrokeWidth, insideStrokeWidth}
 
 -- a style, and the outside and the inside width that it must have
 record Case : Type 0 where
@@ -17,7 +17,7 @@ record Case : Type 0 where
 
 abbrev case : StrokeAlignment → ℕ → ℕ → ℕ → Case
 case alignment s outside inside =
-    record { given = styled Absent Absent s alignment; gives = record { outside = outside; inside = inside } }
+    record { given = aligned (styledByDefault Absent Absent s) alignment; gives = record { outside = outside; inside = inside } }
 
 -- case k is Center at 1
 abbrev cases : List Case

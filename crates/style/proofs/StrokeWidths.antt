@@ -6,7 +6,7 @@ use Prim.Native.Nat.{ℕ, _+_, _≤_}
 use native.Mathlib.Omega.{arith}
 use Rattle.refusal.specs.declared.Refusal.the-variants.{Offset}
 use Rattle.refusal.specs.declared.Checked.the-variants.{Passed}
-use Rattle.plane.specs.Limits.{maxStrokeWidth}
+use Rattle.geometry.specs.Limits.{maxStrokeWidth}
 use Rattle.refusal.proofs.Checks.{passed-above}
 use Rattle.style.specs.declared.StrokeAlignment.{StrokeAlignment}
 use Rattle.style.specs.declared.StrokeAlignment.the-variants.{Inside, Center, Outside}

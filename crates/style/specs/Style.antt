@@ -5,7 +5,7 @@ use Prim.Native.Nat.{ℕ, _+_, _/_}
 use lib.IntN.{ℤ, pos}
 use Rattle.refusal.specs.declared.Refusal.the-variants.{Offset}
 use Rattle.refusal.specs.declared.Checked.{Checked}
-use Rattle.plane.specs.Limits.{maxStrokeWidth}
+use Rattle.geometry.specs.Limits.{maxStrokeWidth}
 use Rattle.refusal.specs.Refusal.{number, refuseIf, above, Outcome, refused, answered, unless}
 use Rattle.style.specs.declared.Paint.{Paint}
 use Rattle.style.specs.declared.StrokeAlignment.{StrokeAlignment}
@@ -19,12 +19,15 @@ use Rattle.style.specs.declared.WidthsAnswer.the-variants as widths-answ
 unfoldable pub defaultAlignment : StrokeAlignment
 defaultAlignment = Center
 
--- a style of its four parts, and one made without an alignment
-abbrev pub styled : Paint → Paint → ℕ → StrokeAlignment → Style
-styled stroke fill width alignment = record { stroke = stroke; fill = fill; «stroke_width» = width; alignment = alignment }
-
+-- a style that is made without an alignment
 abbrev pub styledByDefault : Paint → Paint → ℕ → Style
-styledByDefault stroke fill width = styled stroke fill width defaultAlignment
+styledByDefault stroke fill width =
+    record { stroke = stroke; fill = fill; «stroke_width» = width; alignment = defaultAlignment }
+
+-- a style with another alignment, and all else as it was
+abbrev pub aligned : Style → StrokeAlignment → Style
+aligned style alignment =
+    record { stroke = style .stroke; fill = style .fill; «stroke_width» = style .«stroke_width»; alignment = alignment }
 
 -- 5: a stroke width above the limit
 unfoldable pub styleCheck : Style → Checked

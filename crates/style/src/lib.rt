@@ -4,7 +4,7 @@ use refusal::Checked;
 use refusal::Refusal;
 use refusal::refuse_above;
 ghost use mathlib.Core.Path.{_≡_};
-ghost use Rattle.style.specs.Style.{defaultAlignment, styled, styledByDefault, styleCheck, outsideStrokeWidth, insideStrokeWidth, widthsOutcome, widthsCall};
+ghost use Rattle.style.specs.Style.{defaultAlignment, styledByDefault, aligned, styleCheck, outsideStrokeWidth, insideStrokeWidth, widthsOutcome, widthsCall};
 
 // What a run is painted with: nothing, or a colour byte.
 pub enum Paint {
@@ -54,27 +54,24 @@ impl Style {
     pub fn new(stroke: Paint, fill: Paint, stroke_width: u32) -> Style
         ensures { λ r. ⌜ r ≡ styledByDefault stroke fill «stroke_width» ⌝ }
     {
-        Style::with_alignment(
-            stroke,
-            fill,
-            stroke_width,
-            StrokeAlignment::default_alignment(),
-        )
-    }
-
-    // A style that names its alignment.
-    pub fn with_alignment(
-        stroke: Paint,
-        fill: Paint,
-        stroke_width: u32,
-        alignment: StrokeAlignment,
-    ) -> Style
-        ensures { λ r. ⌜ r ≡ styled stroke fill «stroke_width» alignment ⌝ }
-    {
         Style {
             stroke: stroke,
             fill: fill,
             stroke_width: stroke_width,
+            alignment: StrokeAlignment::default_alignment(),
+        }
+    }
+
+    // The style with an alignment that is named.
+    pub fn with_alignment(self, alignment: StrokeAlignment) -> Style
+        ensures { λ r. ⌜ r ≡ aligned self alignment ⌝ }
+    {
+        let stroke = self.stroke;
+        let fill = self.fill;
+        Style {
+            stroke: stroke,
+            fill: fill,
+            stroke_width: self.stroke_width,
             alignment: alignment,
         }
     }

@@ -1,6 +1,6 @@
 -- The rectangle of a figure that passed its check is bounded.
 -- Assumes nothing.
-use Rattle.geometry.specs.Bounds.{Bounded}
+use Rattle.rectangle.specs.Bounds.{Bounded}
 use Rattle.figure.specs.declared.Figure.{Figure}
 use Rattle.figure.specs.declared.Figure.the-variants.{Ellipse, CrateBox, W3cBox}
 use Rattle.figure.specs.Bounds.{OwnFigure}

@@ -3,8 +3,8 @@
 use mathlib.Core.List.{List, [], _++_}
 use lib.IntN.{ℤ}
 use Rattle.refusal.specs.Refusal.{number, orElse, Outcome, refused, answered, unless}
-use Rattle.geometry.specs.Calls.{rangeValues, rectangleValues}
-use Rattle.plane.specs.Checks.{askedCheck}
+use Rattle.rectangle.specs.Calls.{rangeValues, rectangleValues}
+use Rattle.geometry.specs.Checks.{askedCheck}
 use Rattle.scanline.specs.declared.StyledRow.{StyledRow}
 use Rattle.scanline.specs.declared.StyledRow.the-variants as row-of
 use Rattle.figure.specs.declared.Figure.{Figure}

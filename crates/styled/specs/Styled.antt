@@ -2,8 +2,8 @@
 -- ('Styled rows').
 -- Assumes nothing.
 use lib.IntN.{ℤ, pos, negℤ}
-use Rattle.geometry.specs.declared.rectangle.Rectangle.{Rectangle}
-use Rattle.geometry.specs.Rectangle.{offset as Rectangle·offset}
+use Rattle.rectangle.specs.declared.Rectangle.{Rectangle}
+use Rattle.rectangle.specs.Rectangle.{offset as Rectangle·offset}
 use Rattle.scanline.specs.declared.StyledRow.{StyledRow}
 use Rattle.figure.specs.declared.Figure.{Figure}
 use Rattle.figure.specs.declared.Figure.the-variants.{Ellipse, CrateBox, W3cBox}

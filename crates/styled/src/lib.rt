@@ -2,9 +2,9 @@
 // and `common/styled_scanline.rs`. A figure's stroke area and fill area are shapes of one kind.
 use figure::Figure;
 use figure::Shape;
-use geometry::rectangle::Rectangle;
-use geometry::rectangle::RectangleAnswer;
-use plane::check_row;
+use geometry::check_row;
+use rectangle::Rectangle;
+use rectangle::RectangleAnswer;
 use refusal::Checked;
 use refusal::Refusal;
 use scanline::StyledRow;
@@ -15,8 +15,8 @@ ghost use mathlib.Core.Path.{_≡_};
 ghost use Prim.Native.Nat.{_≤_};
 ghost use lib.IntN.{ℤ};
 ghost use Rattle.signed.specs.Signed.{Near};
-ghost use Rattle.plane.specs.Bounds.{widePoint};
-ghost use Rattle.geometry.specs.Calls.{rectangleOutcome};
+ghost use Rattle.geometry.specs.Bounds.{widePoint};
+ghost use Rattle.rectangle.specs.Calls.{rectangleOutcome};
 ghost use Rattle.figure.specs.Bounds.{wideOffset, OwnFigure, BoundedShape};
 ghost use Rattle.figure.specs.Figure.{shape};
 ghost use Rattle.styled_shape.specs.Ready.{rowOf, Ready};
@@ -98,7 +98,7 @@ pub fn styled_bounding_box(figure: Figure, style: Style) -> RectangleAnswer
     let Checked::Refused(refusal) = figure.check().or_else(style.check()) else {
         let outside = signed::from_u32(style.outside_stroke_width());
         let rectangle = own_rectangle(figure);
-        return RectangleAnswer::Answered(geometry::bounded::offset(rectangle, outside));
+        return RectangleAnswer::Answered(rectangle::bounded::offset(rectangle, outside));
     };
     RectangleAnswer::Refused(refusal)
 }

@@ -4,16 +4,23 @@ use lib.IntN.{ℤ}
 use mathlib.Core.Path.{_≡_}
 use Rattle.scanline.specs.declared.StyledRow.{StyledRow}
 use Rattle.scanline.specs.declared.StyledRow.the-variants.{NoRow}
+use Rattle.ellipse_search.specs.declared.Hint.the-variants.{Unknown}
 use Rattle.ellipse_styled.specs.EllipseStyled.{ellipseStyledRow}
 use Rattle.ellipse_styled.specs.Relative.{ReadyEllipse}
 use Rattle.rounded_rectangle.specs.declared.RoundedRectangle.{RoundedRectangle}
 use Rattle.rounded_rectangle.specs.Relative.{ReadyBox}
 use Rattle.box_fill.specs.Relative.{ReadyFill, boxOf}
 use Rattle.figure.specs.Bounds.{AreaRectangle}
+use Rattle.styled_shape.specs.declared.RowHints.{RowHints}
 use Rattle.styled_shape.specs.declared.StyledBox.{StyledBox}
 use Rattle.styled_shape.specs.declared.StyledShape.{StyledShape}
 use Rattle.styled_shape.specs.declared.StyledShape.the-variants as styled
 use Rattle.styled_shape.specs.StyledRow.{boxStyledRow}
+
+-- no hints: every search begins anywhere
+abbrev pub noHints : RowHints
+noHints =
+    record { stroke = record { left = Unknown; right = Unknown }; fill = record { left = Unknown; right = Unknown } }
 
 -- the areas that a box made ready stands for
 abbrev pub strokeBox : StyledBox → RoundedRectangle

@@ -6,8 +6,8 @@ use ellipse_search::Hint;
 use ellipse_styled::EllipseHints;
 use ellipse_styled::StyledEllipse;
 use figure::Shape;
-use geometry::rectangle::Rectangle;
 use range::Range;
+use rectangle::Rectangle;
 use rounded_rectangle::RoundedRectangle;
 use rounded_rectangle::RoundedRectangleContains;
 use rounded_rectangle::run_between;
@@ -17,12 +17,12 @@ use scanline::StyledScanline;
 ghost use mathlib.Core.Path.{_≡_};
 ghost use lib.IntN.{ℤ};
 ghost use Rattle.signed.specs.Signed.{Near};
-ghost use Rattle.plane.specs.Bounds.{widePoint};
+ghost use Rattle.geometry.specs.Bounds.{widePoint};
 ghost use Rattle.figure.specs.Bounds.{AreaBox, BoundedShape};
 ghost use Rattle.ellipse_styled.specs.EllipseStyled.{aroundFill, ellipseStyledRow};
 ghost use Rattle.ellipse_styled.specs.Relative.{ReadyEllipse};
 ghost use Rattle.styled_shape.specs.StyledRow.{boxStyledRow, styledRowOfShapes};
-ghost use Rattle.styled_shape.specs.Ready.{strokeBox, fillBox, ReadyStyledBox, rowOf, Ready};
+ghost use Rattle.styled_shape.specs.Ready.{noHints, strokeBox, fillBox, ReadyStyledBox, rowOf, Ready};
 
 // Where the searches of a row begin, for both areas. An ellipse uses the left ones.
 pub struct RowHints {
@@ -52,7 +52,9 @@ pub enum StyledShape {
 }
 
 // No hints: for a row that is asked for alone, and for the first of a scan.
-pub fn no_hints() -> RowHints {
+pub fn no_hints() -> RowHints
+    ensures { λ r. ⌜ r ≡ noHints ⌝ }
+{
     let unknown = Hints {
         left: Hint::Unknown,
         right: Hint::Unknown,

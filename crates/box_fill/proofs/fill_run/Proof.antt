@@ -3,7 +3,7 @@
 use mathlib.Core.Path.{_≡_, sym, ap, subst, _∙_}
 use lib.IntN.{ℤ}
 use mir.Facts.{toZ-ofZ}
-use Rattle.plane.specs.declared.Size.{Size}
+use Rattle.geometry.specs.declared.Size.{Size}
 use Rattle.range.proofs.Fields.{range-by-fields}
 use Rattle.scanline.specs.declared.Place.{Place}
 use Rattle.scanline.specs.declared.Place.the-variants.{At}

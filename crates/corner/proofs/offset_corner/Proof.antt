@@ -3,7 +3,7 @@
 use mathlib.Core.Path.{ap, _∙_}
 use lib.IntN.{ℤ}
 use mir.Facts.{toZ-ofZ}
-use Rattle.plane.proofs.Fields.{size-by-fields}
+use Rattle.geometry.proofs.Fields.{size-by-fields}
 use Rattle.corner.specs.Corner.{offsetRadius, offsetCorner}
 use borrow.Author.Needs.{needs}
 use Rattle.corner.proofs.offset_corner.Statement.{statement}

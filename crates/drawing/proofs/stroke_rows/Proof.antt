@@ -7,7 +7,7 @@ use mathlib.Core.Path.{_≡_, sym, ap, subst, _∙_}
 use lib.IntN.{ℤ, pos}
 use mir.Facts.{toZ-ofZ}
 use Rattle.signed.specs.Signed.{Near}
-use Rattle.geometry.specs.Rectangle.{offset as Rectangle·offset}
+use Rattle.rectangle.specs.Rectangle.{offset as Rectangle·offset}
 use Rattle.figure.specs.declared.Figure.{Figure}
 use Rattle.figure.specs.Bounds.{wideOffset, OwnFigure}
 use Rattle.figure.proofs.Within.{offset-area}

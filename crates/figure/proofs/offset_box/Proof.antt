@@ -2,7 +2,7 @@
 -- Assumes nothing.
 use mathlib.Core.Path.{ap, _∙_}
 use mir.Facts.{toZ-ofZ}
-use Rattle.geometry.specs.Rectangle.{offset as Rectangle·offset}
+use Rattle.rectangle.specs.Rectangle.{offset as Rectangle·offset}
 use Rattle.corner_radii.specs.CornerRadii.{offset as CornerRadii·offset}
 use Rattle.corner.specs.Bounds.{wideRadius}
 use Rattle.corner_radii.proofs.Bounds.{radii-up-to-wider}

@@ -8,7 +8,7 @@ use mir.Syntax.{w32}
 use mir.Val.{toZ, ofZ}
 use mir.Facts.{toZ-ofZ}
 use Rattle.range.specs.declared.Range.{Range}
-use Rattle.geometry.specs.declared.rectangle.Rectangle.{Rectangle}
+use Rattle.rectangle.specs.declared.Rectangle.{Rectangle}
 use Rattle.scanline.specs.declared.Row.the-variants.{Run}
 use Rattle.scanline.specs.Points.{EndsWithin, RowWithin, pointsFrom}
 use Rattle.scanline.proofs.Listing.{points-after-all, points-after-empty, points-after-no-row}

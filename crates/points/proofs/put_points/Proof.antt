@@ -10,9 +10,9 @@ use lib.Seq.{sets}
 use mir.Syntax.{w32}
 use mir.Val.{toZ, ofZ}
 use mir.Facts.{toZ-ofZ}
-use Rattle.plane.specs.declared.Point.{Point}
+use Rattle.geometry.specs.declared.Point.{Point}
 use Rattle.range.specs.declared.Range.{Range}
-use Rattle.geometry.specs.declared.rectangle.Rectangle.{Rectangle}
+use Rattle.rectangle.specs.declared.Rectangle.{Rectangle}
 use Rattle.scanline.specs.declared.Row.the-variants.{Run}
 use Rattle.scanline.specs.Points.{EndsWithin, RowWithin, pointsFrom, runPoints, entries}
 use Rattle.scanline.proofs.Listing.{RowsLeft, rows-left-start, rows-left-done, rows-left-room, rows-left-next, points-after-all, points-after-empty, points-after-no-row}

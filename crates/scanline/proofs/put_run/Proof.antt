@@ -10,7 +10,7 @@ use lib.Seq.{sets}
 use mir.Syntax.{w32}
 use mir.Val.{toZ, ofZ}
 use mir.Facts.{toZ-ofZ}
-use Rattle.plane.specs.declared.Point.{Point}
+use Rattle.geometry.specs.declared.Point.{Point}
 use Rattle.scanline.specs.Points.{runPoints, entries}
 use Rattle.scanline.proofs.Listing.{StillTo, still-column, run-points-none, run-points-all}
 use native.Mathlib.Omega.{arith}

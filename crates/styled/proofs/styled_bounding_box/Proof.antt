@@ -3,11 +3,11 @@
 use mathlib.Core.Path.{_≡_, sym, ap, ap₂, subst, _∙_}
 use lib.IntN.{pos}
 use mir.Facts.{toZ-ofZ}
-use Rattle.geometry.specs.declared.rectangle.Rectangle.{Rectangle}
+use Rattle.rectangle.specs.declared.Rectangle.{Rectangle}
 use Rattle.refusal.specs.Refusal.{orElse, answered}
-use Rattle.geometry.specs.Calls.{rectangleValues}
-use Rattle.geometry.specs.Bounds.{Bounded}
-use Rattle.geometry.specs.Rectangle.{offset as Rectangle·offset}
+use Rattle.rectangle.specs.Calls.{rectangleValues}
+use Rattle.rectangle.specs.Bounds.{Bounded}
+use Rattle.rectangle.specs.Rectangle.{offset as Rectangle·offset}
 use Rattle.refusal.proofs.Checks.{passed-first, passed-next}
 use Rattle.figure.specs.Calls.{figureCheck}
 use Rattle.figure.proofs.Within.{figure-passed}

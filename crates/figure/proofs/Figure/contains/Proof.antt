@@ -4,9 +4,9 @@ use mathlib.Core.Path.{_≡_, sym, ap, ap₂, _∙_}
 use mathlib.Core.Bool.{Bool}
 use mathlib.Core.List.{[], _∷_}
 use Rattle.refusal.specs.Refusal.{orElse, answered}
-use Rattle.plane.specs.Checks.{pointCheck}
+use Rattle.geometry.specs.Checks.{pointCheck}
 use Rattle.refusal.proofs.Checks.{passed-first, passed-next}
-use Rattle.plane.proofs.Checks.{point-passed}
+use Rattle.geometry.proofs.Checks.{point-passed}
 use Rattle.figure.specs.declared.Shape.{Shape}
 use Rattle.figure.specs.Calls.{figureCheck, flag}
 use Rattle.figure.specs.Figure.{containsShape}

@@ -1,8 +1,8 @@
 -- `figure::Figure::ellipse_with_center` meets its contract: the rectangle's call answers, and its figure is the ellipse in it.
 -- Assumes nothing.
 use mathlib.Core.Path.{sym, ap, _∙_}
-use Rattle.geometry.specs.Calls.{rectangleOutcome}
-use Rattle.geometry.specs.Rectangle.{withCenter}
+use Rattle.rectangle.specs.Calls.{rectangleOutcome}
+use Rattle.rectangle.specs.Rectangle.{withCenter}
 use Rattle.figure.proofs.Within.{centerAnswer, ellipse-outcome-refused, ellipse-outcome-answered}
 use borrow.Author.Needs.{needs}
 use Rattle.figure.proofs.Figure.ellipse_with_center.Statement.{statement}

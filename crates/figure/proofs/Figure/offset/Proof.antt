@@ -3,9 +3,9 @@
 use mathlib.Core.Path.{_≡_, sym, ap, ap₂, _∙_}
 use mir.Facts.{toZ-ofZ}
 use Rattle.refusal.specs.Refusal.{orElse, answered}
-use Rattle.plane.specs.Checks.{offsetCheck}
+use Rattle.geometry.specs.Checks.{offsetCheck}
 use Rattle.refusal.proofs.Checks.{passed-first, passed-next}
-use Rattle.plane.proofs.Checks.{offset-passed}
+use Rattle.geometry.proofs.Checks.{offset-passed}
 use Rattle.figure.specs.declared.Figure.{Figure}
 use Rattle.figure.specs.Calls.{figureCheck, figureValues}
 use Rattle.figure.specs.Figure.{offset as Figure·offset}

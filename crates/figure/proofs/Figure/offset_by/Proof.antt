@@ -3,7 +3,7 @@
 -- Assumes nothing.
 use mathlib.Core.Path.{ap, sym, subst, _∙_}
 use mir.Facts.{toZ-ofZ}
-use Rattle.geometry.specs.Rectangle.{offset as Rectangle·offset}
+use Rattle.rectangle.specs.Rectangle.{offset as Rectangle·offset}
 use Rattle.rounded_rectangle.specs.declared.RoundedRectangle.{RoundedRectangle}
 use Rattle.figure.specs.declared.Figure.the-variants.{Ellipse, CrateBox, W3cBox}
 use Rattle.figure.specs.Bounds.{OwnBox, OwnFigure, AreaRectangle, AreaBox}

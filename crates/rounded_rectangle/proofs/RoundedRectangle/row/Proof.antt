@@ -3,7 +3,7 @@
 use mathlib.Core.Path.{sym, ap, subst, _∙_}
 use Prim.Native.Nat.{_≤_, _<_}
 use mir.Facts.{toZ-ofZ}
-use Rattle.plane.specs.declared.Size.{Size}
+use Rattle.geometry.specs.declared.Size.{Size}
 use Rattle.scanline.specs.declared.Place.the-variants.{At}
 use Rattle.scanline.specs.Places.{Placed}
 use Rattle.scanline.specs.declared.Row.the-variants.{Run}

@@ -13,7 +13,7 @@ use lib.IntN.{ℤ, pos, _+ℤ_}
 use lib.ListN.{length, getD}
 use mir.Facts.{toZ-ofZ}
 use Rattle.signed.proofs.Laws.{int}
-use Rattle.plane.specs.Bounds.{wideSide}
+use Rattle.geometry.specs.Bounds.{wideSide}
 use Rattle.book.specs.Book.{accepted}
 use Rattle.book.specs.Book.{paint as Call·paint}
 use Rattle.book.specs.Sheet.{paintRow}

@@ -1,7 +1,5 @@
--- `style::Style::new` meets its contract: it hands the default alignment on.
+-- `style::Style::new` meets its contract: the alignment is the default.
 -- Assumes nothing.
-use mathlib.Core.Path.{ap, _∙_}
-use Rattle.style.specs.Style.{styled}
 use borrow.Author.Needs.{needs}
 use Rattle.style.proofs.Style.new.Statement.{statement}
 use Rattle.style.proofs.Style.new.Tie as tie
@@ -9,14 +7,10 @@ use Rattle.style.proofs.Style.new.Tie as tie
 default-alignment-requires : tie.Need-default-alignment-requires
 default-alignment-requires c κs = search needs
 
-with-alignment-requires : tie.Need-with-alignment-requires
-with-alignment-requires c κs = search needs
-
 returns : tie.Need-returns
 returns c =
-    let entry = c .before .before .args in
-    c .with-alignment .ensures
-    ∙ ap (styled (entry .stroke) (entry .fill) (entry .stroke-width)) (c .before .default-alignment .ensures)
+    let entry = c .before .args in
+    λ i. record { stroke = entry .stroke; fill = entry .fill; «stroke_width» = entry .stroke-width; alignment = c .default-alignment .ensures i }
 
 pub new-spec : {M : Type 1} → statement M
-new-spec = tie.close (tie.spec default-alignment-requires with-alignment-requires returns)
+new-spec = tie.close (tie.spec default-alignment-requires returns)

@@ -1,0 +1,94 @@
+// The operations on rectangles for callers that have tested the limits: each takes what `Bounds`
+// allows, which is more than the limits do, so that a stroke area passes too. After
+// embedded-graphics 0.8.2 `rectangle/mod.rs` (`OffsetOutline`).
+use crate::Rectangle;
+use geometry::Point;
+use geometry::Size;
+use range::Range;
+ghost use mathlib.Core.Path.{_≡_};
+ghost use Prim.Native.Nat.{_*_, _≤_};
+ghost use Rattle.signed.specs.Signed.{Near};
+ghost use Rattle.geometry.specs.Bounds.{wideSide, widePoint, PointNear, SizeUpTo};
+ghost use Rattle.rectangle.specs.Bounds.{Bounded};
+ghost use Rattle.rectangle.specs.Rectangle.{centerTerm, center as Rectangle·center, withCenter, rows as Rectangle·rows, columns as Rectangle·columns, offsetSide, offset as Rectangle·offset};
+
+// How far the centre lies from a side's first pixel.
+fn center_term(side: u32) -> u32
+    ensures { λ r. ⌜ r ≡ centerTerm side ⌝ }
+{
+    if side == 0 { 0 } else { (side - 1) / 2 }
+}
+
+pub fn center(rectangle: Rectangle) -> Point
+    requires { ⌜ Bounded rectangle ⌝ }
+    ensures { λ r. ⌜ r ≡ Rectangle·center rectangle ⌝ }
+{
+    let top_left = rectangle.top_left;
+    let size = rectangle.size;
+    Point {
+        x: signed::add(top_left.x, signed::from_u32(center_term(size.width))),
+        y: signed::add(top_left.y, signed::from_u32(center_term(size.height))),
+    }
+}
+
+pub fn with_center(center: Point, size: Size) -> Rectangle
+    requires { ⌜ PointNear (2 * widePoint) center ⌝ }
+    requires { ⌜ SizeUpTo (4 * wideSide) size ⌝ }
+    ensures { λ r. ⌜ r ≡ withCenter center size ⌝ }
+{
+    let top_left = Point {
+        x: signed::sub(center.x, signed::from_u32(center_term(size.width))),
+        y: signed::sub(center.y, signed::from_u32(center_term(size.height))),
+    };
+    Rectangle {
+        top_left: top_left,
+        size: size,
+    }
+}
+
+pub fn rows(rectangle: Rectangle) -> Range
+    requires { ⌜ Bounded rectangle ⌝ }
+    ensures { λ r. ⌜ r ≡ Rectangle·rows rectangle ⌝ }
+{
+    let top_left = rectangle.top_left;
+    let size = rectangle.size;
+    Range {
+        start: top_left.y,
+        end: signed::add(top_left.y, signed::from_u32(size.height)),
+    }
+}
+
+pub fn columns(rectangle: Rectangle) -> Range
+    requires { ⌜ Bounded rectangle ⌝ }
+    ensures { λ r. ⌜ r ≡ Rectangle·columns rectangle ⌝ }
+{
+    let top_left = rectangle.top_left;
+    let size = rectangle.size;
+    Range {
+        start: top_left.x,
+        end: signed::add(top_left.x, signed::from_u32(size.width)),
+    }
+}
+
+// A side with 2k added, never below 0. The Rust caps at the type's ends; here both ends are far.
+fn offset_side(side: u32, k: i32) -> u32
+    requires { ⌜ side ≤ wideSide ⌝ }
+    requires { ⌜ Near wideSide k ⌝ }
+    ensures { λ r. ⌜ r ≡ offsetSide side k ⌝ }
+{
+    let grown = signed::add(signed::from_u32(side), signed::add(k, k));
+    signed::floor0(grown)
+}
+
+pub fn offset(rectangle: Rectangle, k: i32) -> Rectangle
+    requires { ⌜ Bounded rectangle ⌝ }
+    requires { ⌜ Near wideSide k ⌝ }
+    ensures { λ r. ⌜ r ≡ Rectangle·offset rectangle k ⌝ }
+{
+    let size = rectangle.size;
+    let grown = Size {
+        width: offset_side(size.width, k),
+        height: offset_side(size.height, k),
+    };
+    with_center(center(rectangle), grown)
+}

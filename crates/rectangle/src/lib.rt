@@ -1,0 +1,108 @@
+// The rectangle on signed coordinates and the calls that a host makes on it, after embedded-graphics
+// 0.8.2 `rectangle/mod.rs`; the Rust's bodies of `center`, `with_center`, `rows` and `columns` are in
+// another crate. No call has a `requires`: out of limits it refuses by the lowest number.
+use geometry::Point;
+use geometry::Size;
+use geometry::check_center;
+use geometry::check_offset;
+use geometry::check_position;
+use geometry::check_size;
+use range::Range;
+use refusal::Checked;
+use refusal::Refusal;
+
+pub mod bounded;
+
+ghost use mathlib.Core.Path.{_≡_};
+ghost use Rattle.refusal.specs.Refusal.{unless};
+ghost use Rattle.geometry.specs.Checks.{positionCheck};
+ghost use Rattle.rectangle.specs.Calls.{rectangleCheck, rectangleValues, pointOutcome, rangeOutcome, rectangleOutcome, centerCall, rowsCall, columnsCall, withCenterCall, offsetCall};
+
+pub struct Rectangle {
+    pub top_left: Point,
+    pub size: Size,
+}
+
+pub enum PointAnswer {
+    Refused(Refusal),
+    Answered(Point),
+}
+
+pub enum RangeAnswer {
+    Refused(Refusal),
+    Answered(Range),
+}
+
+pub enum RectangleAnswer {
+    Refused(Refusal),
+    Answered(Rectangle),
+}
+
+// The rectangle, or refusal 3 of its position.
+fn within_limits(rectangle: Rectangle) -> RectangleAnswer
+    ensures { λ r. ⌜ rectangleOutcome r ≡ unless (positionCheck (rectangle .«top_left»)) (rectangleValues rectangle) ⌝ }
+{
+    let Checked::Refused(refusal) = check_position(rectangle.top_left) else {
+        return RectangleAnswer::Answered(rectangle);
+    };
+    RectangleAnswer::Refused(refusal)
+}
+
+impl Rectangle {
+    // Refusals 1 and 3.
+    pub fn check(self) -> Checked
+        ensures { λ r. ⌜ r ≡ rectangleCheck self ⌝ }
+    {
+        check_size(self.size).or_else(check_position(self.top_left))
+    }
+
+    // Refused by 1 and 3.
+    pub fn center(self) -> PointAnswer
+        ensures { λ r. ⌜ pointOutcome r ≡ centerCall self ⌝ }
+    {
+        let Checked::Refused(refusal) = self.check() else {
+            return PointAnswer::Answered(bounded::center(self));
+        };
+        PointAnswer::Refused(refusal)
+    }
+
+    // Refused by 1, and by 3 for the rectangle that it makes.
+    pub fn with_center(center: Point, size: Size) -> RectangleAnswer
+        ensures { λ r. ⌜ rectangleOutcome r ≡ withCenterCall center size ⌝ }
+    {
+        let Checked::Refused(refusal) = check_size(size).or_else(check_center(center)) else {
+            return within_limits(bounded::with_center(center, size));
+        };
+        RectangleAnswer::Refused(refusal)
+    }
+
+    // Refused by 1 and 3.
+    pub fn rows(self) -> RangeAnswer
+        ensures { λ r. ⌜ rangeOutcome r ≡ rowsCall self ⌝ }
+    {
+        let Checked::Refused(refusal) = self.check() else {
+            return RangeAnswer::Answered(bounded::rows(self));
+        };
+        RangeAnswer::Refused(refusal)
+    }
+
+    // Refused by 1 and 3.
+    pub fn columns(self) -> RangeAnswer
+        ensures { λ r. ⌜ rangeOutcome r ≡ columnsCall self ⌝ }
+    {
+        let Checked::Refused(refusal) = self.check() else {
+            return RangeAnswer::Answered(bounded::columns(self));
+        };
+        RangeAnswer::Refused(refusal)
+    }
+
+    // Refused by 1, 3 and 5.
+    pub fn offset(self, k: i32) -> RectangleAnswer
+        ensures { λ r. ⌜ rectangleOutcome r ≡ offsetCall self k ⌝ }
+    {
+        let Checked::Refused(refusal) = self.check().or_else(check_offset(k)) else {
+            return RectangleAnswer::Answered(bounded::offset(self, k));
+        };
+        RectangleAnswer::Refused(refusal)
+    }
+}
