@@ -4,9 +4,16 @@
 set -eu
 cd "$(dirname "$0")/.."
 
+scratch=$(mktemp -d)
+trap 'rm -rf "$scratch"' EXIT
+
 if ! command -v pamfile >/dev/null || ! command -v pnmtoplainpnm >/dev/null; then
     echo "netpbm: installing netpbm's tools"
-    { apt-get update && apt-get install -y netpbm; } >/dev/null 2>&1
+    { apt-get update && apt-get install -y netpbm; } >"$scratch/install" 2>&1 || {
+        tail -n 5 "$scratch/install" >&2
+        echo "netpbm: netpbm's tools are missing and could not be installed" >&2
+        exit 1
+    }
 fi
 
 checks=0
@@ -33,11 +40,27 @@ expect 'hollow oval' 220 "$(pixel "$clock" 106 32)"
 expect 'its border' 40 "$(pixel "$clock" 95 32)"
 expect 'outside a corner' 255 "$(pixel "$clock" 6 8)"
 # Each tile is its own mirror image.
-for left in 6 74; do
-    pamcut -left $left -top 8 -width 64 -height 48 "$clock" >"${TMPDIR:-/tmp}/tile.$$"
-    pamflip -leftright "${TMPDIR:-/tmp}/tile.$$" | cmp -s - "${TMPDIR:-/tmp}/tile.$$"
-    checks=$((checks + 1))
-    rm "${TMPDIR:-/tmp}/tile.$$"
+mirrored() { # the file, left, top
+    pamcut -left "$2" -top "$3" -width 64 -height 48 "$1" >"$scratch/tile"
+    pamflip -leftright "$scratch/tile" | cmp -s - "$scratch/tile" && echo equal || echo different
+}
+expect 'left tile and its mirror image' equal "$(mirrored "$clock" 6 8)"
+expect 'right tile and its mirror image' equal "$(mirrored "$clock" 74 8)"
+
+# The page of six tiles: filled, hollow, filled above hollow, hollow, filled.
+cafe=crates/cafe/stdout
+expect 'header of cafe' 'PGM raw, 232 by 120  maxval 255' "$(pamfile <"$cafe" | sed 's/^[^P]*//')"
+ovals=
+for y in 32 88; do
+    for x in 40 116 192; do
+        ovals="$ovals$(pixel "$cafe" $x $y) "
+    done
+done
+expect 'the six ovals' '40 220 40 220 220 40 ' "$ovals"
+for y in 8 64; do
+    for x in 8 84 160; do
+        expect "tile at $x, $y and its mirror image" equal "$(mirrored "$cafe" $x $y)"
+    done
 done
 
 echo "netpbm: $checks checks passed"
