@@ -4,7 +4,6 @@
 // leaves out are skipped first, and the test begins where the ellipse does. That column is contained
 // but where corners overlap; there the walk goes on. Columns are counted from the left edge, and for
 // the last one from the right edge.
-use ellipse_search::Hint;
 use geometry::Size;
 use rounded_rectangle::RoundedRectangleContains;
 use rounded_rectangle::ellipse_quadrant::EllipseQuadrant;
@@ -32,7 +31,7 @@ fn covered(radius: Size, e: u32) -> u32
 
 // How many of the n columns from a corner on its ellipse leaves out before the first inside one on
 // its row e, all n if none is inside.
-fn left_out(corner: EllipseQuadrant, e: u32, n: u32, hint: Hint) -> u32
+fn left_out(corner: EllipseQuadrant, e: u32, n: u32, hint: u32) -> u32
     requires { ⌜ Ready corner ⌝ }
     requires { ⌜ n ≤ Columns·covered (corner .radius) e ⌝ }
     ensures { λ r. ⌜ r ≡ leftOut (corner .radius) e n ⌝ }
@@ -52,7 +51,7 @@ fn left_out(corner: EllipseQuadrant, e: u32, n: u32, hint: Hint) -> u32
 // So many columns from the left edge on are surely not contained on row dy: the top-left corner
 // leaves them out, or the bottom-left one where the top-left has no column on that row. The
 // top-right corner comes before the bottom-left one.
-pub fn left_skip(b: RoundedRectangleContains, dy: u32, hint: Hint) -> u32
+pub fn left_skip(b: RoundedRectangleContains, dy: u32, hint: u32) -> u32
     requires { ⌜ ReadyBox b ⌝ }
     requires { ⌜ dy < b .size .height ⌝ }
     ensures { λ r. ⌜ NoneBefore (containedFromLeft (radii b) (b .size) dy) r ⌝ }
@@ -78,7 +77,7 @@ pub fn left_skip(b: RoundedRectangleContains, dy: u32, hint: Hint) -> u32
 
 // The same from the right edge on. Both left corners come before the bottom-right one, the top-left
 // one before the top-right one.
-pub fn right_skip(b: RoundedRectangleContains, dy: u32, hint: Hint) -> u32
+pub fn right_skip(b: RoundedRectangleContains, dy: u32, hint: u32) -> u32
     requires { ⌜ ReadyBox b ⌝ }
     requires { ⌜ dy < b .size .height ⌝ }
     ensures { λ r. ⌜ NoneBefore (containedFromRight (radii b) (b .size) dy) r ⌝ }

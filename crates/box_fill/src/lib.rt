@@ -5,7 +5,6 @@ use box_columns::first_contained;
 use box_columns::last_contained;
 use box_columns::left_skip;
 use box_columns::right_skip;
-use ellipse_search::Hint;
 use range::Range;
 use rectangle::Rectangle;
 use rounded_rectangle::RoundedRectangleContains;
@@ -21,8 +20,8 @@ ghost use Rattle.box_fill.specs.Relative.{ReadyFill, NearRun, boxOf, pla
 
 // Where the searches of a row begin, on the left and on the right: nothing depends on it but time.
 pub struct Hints {
-    pub left: Hint,
-    pub right: Hint,
+    pub left: u32,
+    pub right: u32,
 }
 
 // The fill of a row, and the hints for the row after it.
@@ -78,8 +77,8 @@ fn row_fill(left: i32, b: RoundedRectangleContains, dy: u32, run: Range, hints: 
             end: scanline::before_end(left, size.width, last),
         },
         hints: Hints {
-            left: Hint::Near(from_left),
-            right: Hint::Near(from_right),
+            left: from_left,
+            right: from_right,
         },
     }
 }

@@ -109,28 +109,26 @@ pub fn next_inside(
     walk_right(test, width, y, start, nearest)
 }
 
-// Where a search begins: anywhere, or near a column.
-pub enum Hint {
-    Unknown,
-    Near(u32),
-}
+// The hint of a search that may begin anywhere.
+pub const ANYWHERE: u32 = 0xffff_ffff;
 
-// The first inside column of the `count` from `from` on, found as the hint says.
+// The first inside column of the `count` from `from` on: by a walk from the hint, or by halving where
+// the hint is none of the columns.
 pub fn find_inside(
     test: EllipseContains,
     width: u32,
     y: u64,
     from: u32,
     count: u32,
-    hint: Hint,
+    hint: u32,
 ) -> Place
     requires { ⌜ SmallWeights test ⌝ }
     requires { ⌜ (0 < width) × (width ≤ wideSide) × (y ≤ wideDistance) ⌝ }
     requires { ⌜ (from ≤ (width - 1) / 2) × (count ≤ wideSide) ⌝ }
     ensures { λ r. ⌜ r ≡ findFrom (columnInside test width y) count from ⌝ }
 {
-    match hint {
-        Hint::Unknown => first_inside(test, width, y, from, count),
-        Hint::Near(k) => next_inside(test, width, y, from, count, k),
+    if hint < width {
+        return next_inside(test, width, y, from, count, hint);
     }
+    first_inside(test, width, y, from, count)
 }

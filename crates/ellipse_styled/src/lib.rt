@@ -3,7 +3,6 @@
 // sides about the centre of the stroke area.
 use ellipse::EllipseContains;
 use ellipse_points::has_rows;
-use ellipse_search::Hint;
 use ellipse_search::find_inside;
 use geometry::Size;
 use range::Range;
@@ -25,8 +24,8 @@ ghost use Rattle.ellipse_styled.specs.Relative.{runsFrom, ReadyEllipse};
 
 // Where the searches of a row begin, for the stroke and for the fill: nothing depends on it but time.
 pub struct EllipseHints {
-    pub stroke: Hint,
-    pub fill: Hint,
+    pub stroke: u32,
+    pub fill: u32,
 }
 
 // An ellipse made ready for many rows: its stroke area, its fill sides, the tests of both, and
@@ -48,7 +47,7 @@ pub struct EllipseRow {
 // The runs of a row, and the hint for the next row's fill.
 struct HintedRuns {
     runs: StyledScanline,
-    hint: Hint,
+    hint: u32,
 }
 
 // The runs of a row of `width` columns whose stroke starts at place s and whose fill starts at c.
@@ -106,7 +105,7 @@ fn runs_at(
     distance: u64,
     s: u32,
     fill: EllipseContains,
-    hint: Hint,
+    hint: u32,
 ) -> HintedRuns
     requires { ⌜ Near widePoint left ⌝ }
     requires { ⌜ (width ≤ wideSide) × (2 * s < width) × (distance ≤ wideDistance) ⌝ }
@@ -121,7 +120,7 @@ fn runs_at(
     };
     HintedRuns {
         runs: filled_runs(left, width, s, c),
-        hint: Hint::Near(c),
+        hint: c,
     }
 }
 
@@ -180,7 +179,7 @@ impl StyledEllipse {
         EllipseRow {
             row: StyledRow::Runs(runs),
             hints: EllipseHints {
-                stroke: Hint::Near(s),
+                stroke: s,
                 fill: next_fill,
             },
         }

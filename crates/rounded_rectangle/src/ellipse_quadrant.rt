@@ -1,7 +1,6 @@
 // A corner of a box: the test of the whole ellipse of twice its radii, by columns and rows counted
 // from the corner inward, after embedded-graphics 0.8.2 `rounded_rectangle/ellipse_quadrant.rs`.
 use ellipse::EllipseContains;
-use ellipse_search::Hint;
 use geometry::Size;
 use scanline::Place;
 ghost use mathlib.Core.Path.{_≡_};
@@ -54,7 +53,7 @@ impl EllipseQuadrant {
 
     // How many of n columns from the corner on come before the first inside one on its row e, 0 if
     // none is inside. The radius may be larger than n: the ellipse's middle then lies beyond them.
-    pub fn inset(self, e: u32, n: u32, hint: Hint) -> u32
+    pub fn inset(self, e: u32, n: u32, hint: u32) -> u32
         requires { ⌜ Ready self ⌝ }
         requires { ⌜ (e < self .radius .height) × (n ≤ wideSide) ⌝ }
         ensures { λ r. ⌜ (r ≡ Relative·inset (self .radius) e n) × (r ≤ n) ⌝ }

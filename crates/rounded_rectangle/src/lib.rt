@@ -5,7 +5,7 @@
 use corner_radii::CornerRadii;
 use ellipse_quadrant::EllipseQuadrant;
 use ellipse_quadrant::in_quadrant;
-use ellipse_search::Hint;
+use ellipse_search::ANYWHERE;
 use geometry::Point;
 use geometry::Size;
 use range::Range;
@@ -54,7 +54,7 @@ fn side_inset(
     h: u32,
     n: u32,
     dy: u32,
-    hint: Hint,
+    hint: u32,
 ) -> u32
     requires { ⌜ Ready upper ⌝ }
     requires { ⌜ Ready lower ⌝ }
@@ -116,7 +116,7 @@ impl RoundedRectangleContains {
     }
 
     // The insets of the box's row dy. The hints are the insets of a row nearby.
-    pub fn insets(self, dy: u32, left_hint: Hint, right_hint: Hint) -> Insets
+    pub fn insets(self, dy: u32, left_hint: u32, right_hint: u32) -> Insets
         requires { ⌜ ReadyBox self ⌝ }
         requires { ⌜ dy < self .size .height ⌝ }
         ensures { λ r. ⌜ (r ≡ rowInsets (radii self) (self .size .width) (self .size .height) dy) × (r .left ≤ self .size .width) × (r .right ≤ self .size .width) ⌝ }
@@ -193,11 +193,7 @@ impl RoundedRectangle {
             return Row::NoRow;
         };
         let corners = self.corners;
-        let insets = RoundedRectangleContains::new(size, corners).insets(
-            dy,
-            Hint::Unknown,
-            Hint::Unknown,
-        );
+        let insets = RoundedRectangleContains::new(size, corners).insets(dy, ANYWHERE, ANYWHERE);
         Row::Run(run_between(top_left.x, size.width, insets))
     }
 }

@@ -1,10 +1,10 @@
 -- What a figure made ready stands for: its rows, and what the code asks of it.
 -- Assumes nothing.
+use Prim.Native.Nat.{ℕ}
 use lib.IntN.{ℤ}
 use mathlib.Core.Path.{_≡_}
 use Rattle.scanline.specs.declared.StyledRow.{StyledRow}
 use Rattle.scanline.specs.declared.StyledRow.the-variants.{NoRow}
-use Rattle.ellipse_search.specs.declared.Hint.the-variants.{Unknown}
 use Rattle.ellipse_styled.specs.EllipseStyled.{ellipseStyledRow}
 use Rattle.ellipse_styled.specs.Relative.{ReadyEllipse}
 use Rattle.rounded_rectangle.specs.declared.RoundedRectangle.{RoundedRectangle}
@@ -17,10 +17,14 @@ use Rattle.styled_shape.specs.declared.StyledShape.{StyledShape}
 use Rattle.styled_shape.specs.declared.StyledShape.the-variants as styled
 use Rattle.styled_shape.specs.StyledRow.{boxStyledRow}
 
+-- the hint of a search that may begin anywhere: no column has this number
+abbrev pub anywhere : ℕ
+anywhere = 4294967295
+
 -- no hints: every search begins anywhere
 abbrev pub noHints : RowHints
 noHints =
-    record { stroke = record { left = Unknown; right = Unknown }; fill = record { left = Unknown; right = Unknown } }
+    record { stroke = record { left = anywhere; right = anywhere }; fill = record { left = anywhere; right = anywhere } }
 
 -- the areas that a box made ready stands for
 abbrev pub strokeBox : StyledBox → RoundedRectangle

@@ -2,7 +2,7 @@
 // 0.8.2 `StyledScanlines` of both `styled.rs`. A scan hands the hints that a row leaves to the next
 // row; they choose where searches start, and no answer depends on them.
 use box_fill::Hints;
-use ellipse_search::Hint;
+use ellipse_search::ANYWHERE;
 use ellipse_styled::EllipseHints;
 use ellipse_styled::StyledEllipse;
 use figure::Shape;
@@ -56,8 +56,8 @@ pub fn no_hints() -> RowHints
     ensures { λ r. ⌜ r ≡ noHints ⌝ }
 {
     let unknown = Hints {
-        left: Hint::Unknown,
-        right: Hint::Unknown,
+        left: ANYWHERE,
+        right: ANYWHERE,
     };
     RowHints {
         stroke: unknown,
@@ -131,8 +131,8 @@ impl StyledBox {
             row: StyledRow::Runs(around_fill(run, found_run)),
             hints: RowHints {
                 stroke: Hints {
-                    left: Hint::Near(insets.left),
-                    right: Hint::Near(insets.right),
+                    left: insets.left,
+                    right: insets.right,
                 },
                 fill: next_fill,
             },
@@ -166,11 +166,11 @@ fn ellipse_row(ellipse: StyledEllipse, y: i32, hints: RowHints) -> HintedRow
         hints: RowHints {
             stroke: Hints {
                 left: next_stroke,
-                right: Hint::Unknown,
+                right: ANYWHERE,
             },
             fill: Hints {
                 left: next_fill,
-                right: Hint::Unknown,
+                right: ANYWHERE,
             },
         },
     }
