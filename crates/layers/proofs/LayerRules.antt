@@ -2,12 +2,11 @@
 -- passes has a figure, a style and rows within bounds. Of the places from one on: they keep the rules if their first does, with
 -- the rows of those after it at hand.
 -- Assumes nothing.
-use mathlib.Core.Path.{_≡_, refl, sym, ap, ap₂, subst, _∙_}
+use mathlib.Core.Path.{_≡_, refl, sym, ap, _∙_}
 use mathlib.Core.Bool.{Bool, true, false, cond, not, _&&_, _||_}
 use mathlib.Core.List.{List, [], _∷_, map}
 use Prim.Native.Nat.{ℕ, zero, suc, _+_, _<_, _≤_}
 use native.Mathlib.Omega.{arith}
-use native.Mathlib.Numerals.{add-one}
 use lib.IntN.{ℤ, pos, _+ℤ_}
 use lib.ListN.{length, take, drop, getD, set}
 use lib.Signed.{leZ, ltZ}
@@ -16,13 +15,14 @@ use Rattle.signed.proofs.Laws.{int, add-law}
 use Rattle.refusal.specs.declared.Refusal.{Refusal}
 use Rattle.refusal.specs.declared.Checked.{Checked}
 use Rattle.refusal.specs.declared.Checked.the-variants.{Passed, Refused}
+use Rattle.rectangle.specs.declared.Rectangle.{Rectangle}
 use Rattle.geometry.specs.Bounds.{widePoint}
+use Rattle.rectangle.specs.Rectangle.{offset as Rectangle·offset}
 use Rattle.refusal.proofs.Checks.{passed-first, passed-next}
-use Rattle.corner.specs.Bounds.{wideStrokeSide}
 use Rattle.figure.specs.declared.Figure.{Figure}
 use Rattle.figure.specs.declared.Figure.the-variants.{Ellipse, CrateBox, W3cBox}
 use Rattle.figure.specs.Calls.{figureCheck}
-use Rattle.figure.specs.Bounds.{wideOffset, wideAreaPosition, OwnFigure}
+use Rattle.figure.specs.Bounds.{wideOffset, OwnRectangle, OwnFigure, AreaRectangle}
 use Rattle.figure.proofs.Within.{figure-passed, offset-area}
 use Rattle.style.specs.declared.Style.{Style}
 use Rattle.style.specs.Style.{styleCheck, outsideStrokeWidth}
@@ -80,10 +80,14 @@ pub checked-stroke : (f : Figure) (style : Style) → styledCheck f style ≡ Pa
 unfolding styledCheck
 checked-stroke f style passed = omega (arith, style-passed style (passed-next (figureCheck f) (styleCheck style) passed))
 
-stroke-rows-within : (f : Figure) (style : Style) → OwnFigure f → style .«stroke_width» ≤ wideOffset → RowsWithin (strokeRows f style)
-stroke-rows-within (Ellipse r) style own stroke = rw (rows-of-ellipse style r) (ellipse-rows-within _ (offset-area r (pos (outsideStrokeWidth style)) own (omega (arith, int, outside-within-stroke style))))
-stroke-rows-within (CrateBox b) style own stroke = rw (rows-of-crate-box style b) (box-rows-within _ (offset-area (b .rectangle) (pos (outsideStrokeWidth style)) (own .rectangle) (omega (arith, int, outside-within-stroke style))))
-stroke-rows-within (W3cBox b) style own stroke = rw (rows-of-w3c-box style b) (box-rows-within _ (offset-area (b .rectangle) (pos (outsideStrokeWidth style)) (own .rectangle) (omega (arith, int, outside-within-stroke style))))
+module _ (style : Style) (stroke : style .«stroke_width» ≤ wideOffset) where
+  area-within : (r : Rectangle) → OwnRectangle r → AreaRectangle (Rectangle·offset r (pos (outsideStrokeWidth style)))
+  area-within r own = offset-area r (pos (outsideStrokeWidth style)) own (omega (arith, int, outside-within-stroke style))
+
+  stroke-rows-within : (f : Figure) → OwnFigure f → RowsWithin (strokeRows f style)
+  stroke-rows-within (Ellipse r) own = rw (rows-of-ellipse style r) (ellipse-rows-within _ (area-within r own))
+  stroke-rows-within (CrateBox b) own = rw (rows-of-crate-box style b) (box-rows-within _ (area-within (b .rectangle) (own .rectangle)))
+  stroke-rows-within (W3cBox b) own = rw (rows-of-w3c-box style b) (box-rows-within _ (area-within (b .rectangle) (own .rectangle)))
 
 -- ---- rows for layers
 pub owe-by-rows : (layers : List Layer) (y : ℤ) → someLayerOwes drawing (map layerOf layers) y ≡ someRowsOwe (map layerRows layers) y
@@ -184,7 +188,7 @@ kept-within l kept =
     let passed = answer-passed (styledCheck (l .figure) (l .style)) (is-accepted-true (answerOf (styledCheck (l .figure) (l .style))) (p .0)) in
     let figure = checked-figure (l .figure) (l .style) passed in
     let stroke = checked-stroke (l .figure) (l .style) passed in
-    let rows = stroke-rows-within (l .figure) (l .style) figure stroke in
+    let rows = stroke-rows-within (l .style) stroke (l .figure) figure in
     let first = rows .first in
     let from = q .0 in
     let to = q .1 in

@@ -7,10 +7,7 @@ use Prim.Native.Nat.{ℕ}
 use lib.IntN.{ℤ, pos, _+ℤ_}
 use lib.ListN.{take}
 use lib.Signed.{leZ, ltZ}
-use Rattle.rectangle.specs.declared.Rectangle.{Rectangle}
-use Rattle.figure.specs.declared.Figure.{Figure}
 use Rattle.figure.specs.declared.Figure.the-variants as figure-of
-use Rattle.style.specs.declared.Style.{Style}
 use Rattle.style.specs.declared.Paint.the-variants as paint-of
 use Rattle.style.specs.declared.StrokeAlignment.the-variants as alignment-of
 use Rattle.book.specs.Sheet.{Layer as SheetLayer, State, Layers}

@@ -1,6 +1,5 @@
 // The layers of a sheet and the rules that they keep, one by one and two by two (refusal 7). The
 // paper adds them; the Rust has no such type.
-use drawing::StrokeRows;
 use figure::Figure;
 use refusal::Checked;
 use style::Style;

@@ -3,20 +3,20 @@
 -- Assumes nothing.
 use mathlib.Core.Path.{_≡_, refl, sym, ap, ap₂, _∙_}
 use mathlib.Core.List.{List, [], _∷_, _++_, map, map-append}
-use Prim.Native.Nat.{ℕ, _+_, _<_, _≤_}
+use Prim.Native.Nat.{ℕ, _+_, _≤_}
 use native.Mathlib.Omega.{arith}
 use native.Mathlib.Numerals.{add-one}
-use lib.ListN.{length, take, set, getD, getElem?, length-set}
+use lib.ListN.{length, take, set, getD, length-set}
 use lib.Seq.{take-suc-set, take-set-lt}
-use Rattle.book.specs.Book.{Answer, accepted, refused, Call, add, paint}
-use Rattle.book.specs.Sheet.{Layers, State, answer, carriedOut, after, paintRow}
+use Rattle.book.specs.Book.{Answer, accepted, refused, ifAccepted, Call, add, paint}
+use Rattle.book.specs.Sheet.{Layers, State, answer, carriedOut, after, paintRow, opened}
 use Rattle.book.proofs.Lists.{set-map}
 use Rattle.book.proofs.LowestNumber.{refused-changes-nothing, accepted-is-carried-out}
 use Rattle.drawing.specs.Drawing.{StyledFigure, styledFigure, drawing}
 use Rattle.layers.specs.declared.Layer.{Layer}
 use Rattle.layers.specs.Layers.{layerOf, blankLayer, layersOf}
 use Rattle.sheet.specs.declared.Sheet.{Sheet}
-use Rattle.sheet.specs.Sheet.{stateOf, sheetAnswer, addedLayer, paintedLayer, carriedOutSheet, sheetAfter, canvasAfter}
+use Rattle.sheet.specs.Sheet.{stateOf, openedSheet, sheetAnswer, addedLayer, paintedLayer, carriedOutSheet, sheetAfter, canvasAfter}
 use Rattle.sheet_checks.proofs.Places.{layers-are, layer-at, kept-few}
 use Rattle.sheet_checks.proofs.Answers.{added-room, PaintAccepted, painted-accepted}
 
@@ -110,3 +110,37 @@ module _ (s : Sheet) (sixteen : length (s .layers) ≡ 16) (canvas : List ℕ) w
           ap (λ (t : Sheet). stateOf t (canvasAfter s canvas (paint i))) (painted-record i e)
           ∙ painted-state i e
           ∙ sym (accepted-is-carried-out drawing (s .width) (s .height) (stateOf s canvas) (paint i) e)
+
+  -- ---- A call leaves the size and the number of places.
+  pub record SameFrame (r : Sheet) : Type 0 where
+    pub width : r .width ≡ s .width
+    pub height : r .height ≡ s .height
+    pub places : length (r .layers) ≡ 16
+
+  pub same-frame-after : (call : Call StyledFigure) → SameFrame (sheetAfter s canvas call)
+  unfolding carriedOutSheet
+  same-frame-after call = by-answer call (sheetAnswer s canvas call)
+    where
+      by-answer : (call : Call StyledFigure) (a : Answer) → SameFrame (ifAccepted a (carriedOutSheet s call) s)
+      by-answer call (refused n) = record { width = refl; height = refl; places = sixteen }
+      by-answer (add item) accepted =
+          record { width = refl; height = refl; places = length-set (s .layers) (s .count) (addedLayer item) ∙ sixteen }
+      by-answer (paint i) accepted =
+          record { width = refl; height = refl; places = length-set (s .layers) i (paintedLayer (getD (s .layers) i blankLayer)) ∙ sixteen }
+
+  -- ---- An add call gets the same answer whatever the canvas, and leaves it.
+  pub add-any-canvas : (item : StyledFigure) → sheetAnswer s [] (add item) ≡ sheetAnswer s canvas (add item)
+  unfolding answer
+  add-any-canvas item = refl
+
+  pub add-keeps-canvas : (item : StyledFigure) → canvasAfter s canvas (add item) ≡ canvas
+  unfolding after carriedOut
+  add-keeps-canvas item = by-answer (sheetAnswer s canvas (add item))
+    where
+      by-answer : (a : Answer) → ifAccepted a (carriedOut drawing (s .width) (s .height) (stateOf s canvas) (add item)) (stateOf s canvas) .canvas ≡ canvas
+      by-answer accepted = refl
+      by-answer (refused n) = refl
+
+-- ---- A sheet just opened.
+pub opened-state : (W H : ℕ) (canvas : List ℕ) → stateOf (openedSheet W H) canvas ≡ opened drawing canvas
+opened-state W H canvas = refl

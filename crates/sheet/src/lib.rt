@@ -7,8 +7,6 @@ use figure::Figure;
 use geometry::Point;
 use geometry::Size;
 use layers::Layer;
-use layers::LayerRows;
-use layers::RulesTested;
 use rectangle::Rectangle;
 use refusal::Checked;
 use refusal::Refusal;
@@ -16,14 +14,10 @@ use style::Paint;
 use style::StrokeAlignment;
 use style::Style;
 ghost use mathlib.Core.Path.{_≡_};
-ghost use mathlib.Core.Bool.{true};
-ghost use mathlib.Core.List.{List, [], map};
-ghost use Prim.Native.Nat.{ℕ};
-ghost use lib.ListN.{length, take};
-ghost use Rattle.book.specs.Book.{_orElse_, add as Call·add, paint as Call·paint};
-ghost use Rattle.book.specs.Sheet.{keepsRules};
-ghost use Rattle.drawing.specs.Drawing.{StyledFigure, styledFigure, answerOf, drawing};
-ghost use Rattle.layers.specs.Layers.{blankLayer, layersOf, layerRows};
+ghost use mathlib.Core.List.{[]};
+ghost use Rattle.book.specs.Book.{add as Call·add, paint as Call·paint};
+ghost use Rattle.drawing.specs.Drawing.{styledFigure};
+ghost use Rattle.layers.specs.Layers.{blankLayer};
 ghost use Rattle.sheet.specs.Sheet.{said, openAnswer, openedSheet, sheetAnswer, sheetAfter, canvasAfter};
 
 pub struct Sheet {

@@ -1,17 +1,16 @@
 -- The answers of a sheet record, test by test as the code makes them, and what an accepted call tells of its arguments.
 -- Assumes nothing.
-use mathlib.Core.Path.{_≡_, refl, sym, ap, ap₂, _∙_}
+use mathlib.Core.Path.{_≡_, refl, sym, ap, _∙_}
 use mathlib.Core.Bool.{Bool, true, false, not}
 use mathlib.Core.List.{List, [], _∷_, map}
-use mathlib.Core.Option.{Option, none, some}
+use mathlib.Core.Option.{Option}
 use Prim.Native.Nat.{ℕ, zero, suc, _*_, _<_, _≤_}
 use native.Mathlib.Omega.{arith}
 use lib.Dec.{leb, eqb}
-use lib.IntN.{ℤ}
 use lib.ListN.{length, take, getD, getElem?, length-map, length-take}
 use lib.Seq.{take-take}
 use lib.Signed.{leZ}
-use borrow.Author.Tests.{leb-true, leb-false, eqb-true, le-leb, lt-leb, not-true, not-false}
+use borrow.Author.Tests.{leb-true, leb-false, eqb-true, le-leb, lt-leb, not-false}
 use Rattle.refusal.specs.declared.Refusal.{Refusal}
 use Rattle.refusal.specs.declared.Refusal.the-variants.{SheetRule, CanvasLength, SheetFull, NoLayer, NoRowLeft, RowOwed}
 use Rattle.refusal.specs.declared.Checked.{Checked}
@@ -21,18 +20,18 @@ use Rattle.refusal.specs.Refusal.{number, orElse as firstOf, refuseIf as Geomet
 use Rattle.canvas_size.specs.CanvasSize.{canvasLengthCheck}
 use Rattle.canvas_size.proofs.Sides.{canvas-length-passed}
 use Rattle.book.specs.Book.{Answer, accepted, refused, brokenSheet, otherCanvasLength, layersFull, noSuchLayer, allRowsPainted, rowOwed}
-use Rattle.book.specs.Book.{refuseIf, _orElse_, add, paint, endRow}
-use Rattle.book.specs.Sheet.{someLayerOwes, keepsRules, layerAnswer, answer}
+use Rattle.book.specs.Book.{refuseIf, _orElse_, add, paint}
+use Rattle.book.specs.Sheet.{keepsRules, layerAnswer, answer}
 use Rattle.book.proofs.Tests.{refused-apart, or-else-accepted-parts, refuse-if-accepted}
 use Rattle.book.proofs.Lists.{take-map}
 use Rattle.book.proofs.LowestNumber.{paint-refused-broken-sheet, paint-answer-on-sheet}
 use Rattle.drawing.specs.Drawing.{StyledFigure, answerOf, drawing}
 use Rattle.layers.specs.declared.Layer.{Layer}
 use Rattle.layers.specs.declared.LayerRows.{LayerRows}
-use Rattle.layers.specs.Layers.{layerOf, blankLayer, layersOf, stateOf, layerRows, someRowsOwe}
+use Rattle.layers.specs.Layers.{blankLayer, layersOf, stateOf, layerRows, someRowsOwe}
 use Rattle.layers.proofs.RowTests.{noRows}
 use Rattle.layers.proofs.LayerRules.{owe-by-rows}
-use Rattle.sheet_checks.proofs.Places.{layers-are, layers-many, layer-at, layer-past, layers-before, kept-few}
+use Rattle.sheet_checks.proofs.Places.{layers-many, layer-at, layer-past, layers-before, kept-few}
 
 -- ---- The numbers that `book` writes are those of the table.
 pub sheet-numbers : (brokenSheet ≡ refused (number SheetRule)) × (otherCanvasLength ≡ refused (number CanvasLength))

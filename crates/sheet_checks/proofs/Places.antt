@@ -6,15 +6,14 @@ use mathlib.Core.List.{List, [], _∷_, _++_, map}
 use mathlib.Core.Option.{none, some}
 use Prim.Native.Nat.{ℕ, zero, suc, _<_, _≤_}
 use native.Mathlib.Omega.{arith}
-use lib.Dec.{leb, ltb}
+use lib.Dec.{leb}
 use lib.ListN.{length, take, getD, getElem?, length-map, length-take, length-append}
 use lib.Seq.{take-append-le, take-take, getD-take}
 use borrow.Author.Tests.{leb-true, leb-false, le-leb, le-ltb}
 use Rattle.refusal.specs.declared.Refusal.{Refusal}
-use Rattle.refusal.specs.declared.Checked.{Checked}
 use Rattle.refusal.specs.declared.Checked.the-variants.{Passed, Refused}
 use Rattle.geometry.specs.Limits.{maxCanvasSide, maxLayers}
-use Rattle.canvas_size.specs.CanvasSize.{sideCheck, canvasSizeCheck}
+use Rattle.canvas_size.specs.CanvasSize.{canvasSizeCheck}
 use Rattle.canvas_size.proofs.Sides.{canvas-size-passed}
 use Rattle.book.specs.Sheet.{Layers, WithinSide, layerKeepsRules, layersKeepRules, fitsSide, keepsRules}
 use Rattle.book.proofs.Tests.{and-true-parts, false-unless}

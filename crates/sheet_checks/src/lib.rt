@@ -2,7 +2,6 @@
 // hold. They are a crate of their own, since its proofs take as long as the rest of the sheet's.
 use canvas_size::CanvasSize;
 use layers::Layer;
-use layers::LayerRows;
 use layers::RulesTested;
 use refusal::Checked;
 use refusal::Refusal;

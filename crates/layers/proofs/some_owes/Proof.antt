@@ -2,9 +2,7 @@
 -- Assumes nothing.
 use mathlib.Core.Path.{_≡_, refl, sym, ap, _∙_}
 use mathlib.Core.Bool.{Bool, true, false, _||_}
-use mathlib.Core.List.{List}
 use Prim.Native.Nat.{ℕ, _≤_, _-_, _+_}
-use lib.IntN.{ℤ}
 use native.Mathlib.Omega.{arith}
 use borrow.Author.Needs.{needs}
 use lib.ListN.{length, take, drop}
@@ -34,15 +32,21 @@ enough : (c : tie.Start Inv-loop μ-loop) → c .args .layers ≤ length (c .arg
 enough c = omega arith
 
 -- what is left, by the layer that stands there
-step : (c : tie.After-owes Inv-loop μ-loop)
-    → someRowsOwe (drop (c .before .before .before .loop .i) (take (c .before .before .before .before .args .layers) (c .before .before .before .before .args .t1))) (toZ w32 (ofZ w32 (c .before .before .before .before .args .y)))
-    ≡ (c .owes .result || someRowsOwe (drop (c .before .before .before .loop .i + 1) (take (c .before .before .before .before .args .layers) (c .before .before .before .before .args .t1))) (toZ w32 (ofZ w32 (c .before .before .before .before .args .y))))
-step c =
-    let walk = c .before .before .before in
-    let a = walk .before .args in
-    let y : ℤ = toZ w32 (ofZ w32 (a .y)) in
-    owe-here (a .t1) (a .layers) (walk .loop .i) y (c .before .before .loop-test .taken) (enough (walk .before))
-    ∙ ap (λ (t : Bool). t || someRowsOwe (drop (walk .loop .i + 1) (take (a .layers) (a .t1))) y) (sym (c .owes .ensures))
+abbrev entry : tie.After-owes Inv-loop μ-loop → tie.Start Inv-loop μ-loop
+entry c = c .before .before .before .before
+
+abbrev place : tie.After-owes Inv-loop μ-loop → ℕ
+place c = c .before .before .before .loop .i
+
+abbrev owedFrom : tie.After-owes Inv-loop μ-loop → ℕ → Bool
+owedFrom c i = someRowsOwe (drop i (take (entry c .args .layers) (entry c .args .t1))) (toZ w32 (ofZ w32 (entry c .args .y)))
+
+step : (c : tie.After-owes Inv-loop μ-loop) (t : Bool) → c .owes .result ≡ t → owedFrom c (place c) ≡ (t || owedFrom c (place c + 1))
+step c t found =
+    let a = entry c .args in
+    let here = c .before .before .loop-test .taken in
+    owe-here (a .t1) (a .layers) (place c) (toZ w32 (ofZ w32 (a .y))) here (enough (entry c))
+    ∙ ap (λ (u : Bool). u || owedFrom c (place c + 1)) (sym (c .owes .ensures) ∙ found)
 
 loop-holds : tie.Need-loop-holds Inv-loop μ-loop
 loop-holds c = (omega arith, refl)
@@ -59,7 +63,7 @@ owes-requires c κs = search needs
 returns : tie.Need-returns Inv-loop μ-loop
 returns c =
     let walk = c .before .before .before .before in
-    sym (held-row (walk .before) (sym (walk .loop .inv .1) ∙ step (c .before) ∙ rw (c .if1 .taken)))
+    sym (held-row (walk .before) (sym (walk .loop .inv .1) ∙ step (c .before) true (c .if1 .taken)))
 
 add-i : tie.Need-add-i Inv-loop μ-loop
 add-i c = search needs
@@ -70,7 +74,7 @@ loop-less c = search needs
 loop-again : tie.Need-loop-again Inv-loop μ-loop
 loop-again c =
     let walk = c .before .before .before .before in
-    (omega arith, sym (step (c .before) ∙ rw (c .if1 .left)) ∙ walk .loop .inv .1)
+    (omega arith, sym (step (c .before) false (c .if1 .left)) ∙ walk .loop .inv .1)
 
 returns-2 : tie.Need-returns-2 Inv-loop μ-loop
 returns-2 c =

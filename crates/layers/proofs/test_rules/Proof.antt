@@ -2,7 +2,7 @@
 -- step takes one more in, or shows that the whole breaks a rule.
 -- Assumes nothing.
 use mathlib.Core.Path.{_≡_, refl, sym, ap, ap₂, _∙_}
-use mathlib.Core.Bool.{Bool, true, false, false≢true}
+use mathlib.Core.Bool.{true, false≢true}
 use mathlib.Core.List.{List, [], map}
 use Prim.Native.Nat.{ℕ, _+_, _-_, _<_, _≤_}
 use native.Mathlib.Omega.{arith}
@@ -76,7 +76,9 @@ kept c =
 -- the test of the order is that of the layer and those after it
 order : (c : tie.After-none-overtakes Inv-loop μ-loop)
     → noRowsOvertake (layerRows (layer (c .before .before .before .before)))
-    (map layerRows (drop (c .before .before .before .before .before .before .before .loop .i) (take (count (c .before .before .before .before)) (layers (c .before .before .before .before)))))
+    (map layerRows
+    (drop (c .before .before .before .before .before .before .before .loop .i)
+    (take (count (c .before .before .before .before)) (layers (c .before .before .before .before)))))
     ≡ c .none-overtakes .result
 order c =
     let found = c .before .before .before .before in
@@ -110,7 +112,8 @@ returns c =
     let found = c .before .before in
     let broken = found-broken (layerKeepsRules drawing (layerOf (layer found))) (layerRows (layer found))
     (sym (c .enum-told .given .1) ∙ found .rows .ensures) in
-    (sym (broken-here (layers found) (count found) (place found) _ (step found) (here found) (enough found) broken), λ e. absurd (false≢true e))
+    let whole = broken-here (layers found) (count found) (place found) _ (step found) (here found) (enough found) broken in
+    (sym whole, λ e. absurd (false≢true e))
 
 none-overtakes-requires : tie.Need-none-overtakes-requires Inv-loop μ-loop
 none-overtakes-requires c κs = (c .before .before .before .before .before .before .loop .inv .0, c .before .before .before .before .before .before .before .pre)
@@ -119,7 +122,10 @@ returns-2 : tie.Need-returns-2 Inv-loop μ-loop
 returns-2 c =
     let tested = c .before in
     let found = tested .before .before .before .before in
-    (sym (broken-order (layers found) (count found) (place found) _ (step found) (here found) (enough found) (kept tested .0) (order tested ∙ not-true _ (c .if1 .taken))), λ e. absurd (false≢true e))
+    let broken =
+    broken-order (layers found) (count found) (place found) _ (step found) (here found) (enough found) (kept tested .0)
+    (order tested ∙ not-true _ (c .if1 .taken)) in
+    (sym broken, λ e. absurd (false≢true e))
 
 mul-rows : tie.Need-mul-rows Inv-loop μ-loop
 mul-rows c = record { fits = omega arith }
@@ -139,8 +145,10 @@ loop-again c =
       simp length-set (inv .1),
       kept-here (layers found) (count found) (place found) _ (step found) (here found) (enough found) (kept tested .0)
           (order tested ∙ not-false _ (c .if1 .left)) (inv .2),
-      ap (λ (r : LayerRows). drop (place found) (take (count found) (set (found .before .before .before .loop .rows) (place found) r))) (kept tested .1)
-          ∙ rows-put (layers found) (count found) (place found) _ (step found) (here found) (enough found) (found .before .before .before .loop .rows) (omega arith) (inv .3),
+      ap (λ (r : LayerRows).
+          drop (place found) (take (count found) (set (found .before .before .before .loop .rows) (place found) r))) (kept tested .1)
+          ∙ rows-put (layers found) (count found) (place found) _ (step found) (here found) (enough found)
+          (found .before .before .before .loop .rows) (omega arith) (inv .3),
     )
 
 returns-3 : tie.Need-returns-3 Inv-loop μ-loop

@@ -64,7 +64,8 @@ found c = kept c .before .before .before .test-rules .ensures .1 (not-false _ (k
 own-is : (c : tie.After-own) → own c ≡ layerRows (layer c)
 own-is c =
     let a = start (kept c) .args in
-    rows-at (a .count) (kept c .before .before .before .before .args .layer) (c .before .if2 .left) (kept c .before .before .before .test-rules .result .rows) (a .places) (found c)
+    rows-at (a .count) (a .layer) (c .before .if2 .left)
+    (kept c .before .before .before .test-rules .result .rows) (a .places) (found c)
     (omega (arith, few (kept c), sixteen (kept c .before .before .before .before)))
 
 own-fits : (c : tie.After-own) → RowsFit (own c)
@@ -82,7 +83,9 @@ by-end c test =
 
 -- whether an earlier layer owes the row is what was asked
 owed : (c : tie.After-some-owes)
-    → someRowsOwe (map layerRows (take (kept (c .before .before .before .before .before) .before .before .before .before .args .layer) (start (kept (c .before .before .before .before .before)) .args .places)))
+    → someRowsOwe
+    (map layerRows (take (start (kept (c .before .before .before .before .before)) .args .layer)
+    (start (kept (c .before .before .before .before .before)) .args .places)))
     (layerRows (layer (c .before .before .before .before .before)) .next)
     ≡ c .some-owes .result
 owed c =
@@ -101,7 +104,9 @@ test-rules-requires c κs = search needs
 returns : tie.Need-returns
 returns c =
     let entry = c .before .before .before .before in
-    λ canvas long. sym (paint-broken (entry .args .size .width) (entry .args .size .height) (entry .args .count) (entry .args .places) (sixteen entry) (entry .args .layer) canvas (sym (c .before .before .before .test-rules .ensures .0) ∙ not-true _ (c .if1 .taken)))
+    let a = entry .args in
+    λ canvas long. sym (paint-broken (a .size .width) (a .size .height) (a .count) (a .places) (sixteen entry) (a .layer) canvas
+    (sym (c .before .before .before .test-rules .ensures .0) ∙ not-true _ (c .if1 .taken)))
 
 check-length-requires : tie.Need-check-length-requires
 check-length-requires c κs = search needs
@@ -118,7 +123,9 @@ returns-2 c =
     let told = c .before in
     let kept = told .before .before .before in
     let entry = kept .before .before .before .before in
-    λ canvas long. sym (paint-no-layer (entry .args .size .width) (entry .args .size .height) (entry .args .count) (entry .args .places) (sixteen entry) (entry .args .layer) canvas (rules kept) (size told canvas long) (c .if2 .taken))
+    let a = entry .args in
+    λ canvas long. sym (paint-no-layer (a .size .width) (a .size .height) (a .count) (a .places) (sixteen entry) (a .layer) canvas
+    (rules kept) (size told canvas long) (c .if2 .taken))
 
 mul-own : tie.Need-mul-own
 mul-own c = search needs
@@ -134,8 +141,11 @@ returns-3 c =
     let own = c .before .before .before .before in
     let told = own .before .before in
     let entry = kept own .before .before .before .before in
+    let a = entry .args in
     λ canvas long.
-    sym (paint-finished (entry .args .size .width) (entry .args .size .height) (entry .args .count) (entry .args .places) (sixteen entry) (entry .args .layer) canvas (rules (kept own)) (size told canvas long) (own .before .if2 .left) (by-end own (c .if3 .taken)))
+    sym (paint-finished (a .size .width) (a .size .height) (a .count) (a .places) (sixteen entry) (a .layer) canvas
+    (rules (kept own)) (size told canvas long)
+    (own .before .if2 .left) (by-end own (c .if3 .taken)))
 
 some-owes-requires : tie.Need-some-owes-requires
 some-owes-requires c κs =
@@ -148,24 +158,32 @@ returns-4 c =
     let own = c .before .before .before .before .before .before in
     let told = own .before .before in
     let entry = kept own .before .before .before .before in
+    let a = entry .args in
     λ canvas long.
-    sym (paint-owed (entry .args .size .width) (entry .args .size .height) (entry .args .count) (entry .args .places) (sixteen entry) (entry .args .layer) canvas (rules (kept own)) (size told canvas long) (own .before .if2 .left) (by-end own (c .before .before .if3 .left)) (owed (c .before) ∙ c .if4 .taken))
+    sym (paint-owed (a .size .width) (a .size .height) (a .count) (a .places) (sixteen entry) (a .layer) canvas
+    (rules (kept own)) (size told canvas long)
+    (own .before .if2 .left) (by-end own (c .before .before .if3 .left)) (owed (c .before) ∙ c .if4 .taken))
 
 -- 8
 returns-5 : tie.Need-returns-5
 returns-5 c =
     let kept = c .before .before .before .before in
     let entry = kept .before .before .before .before in
-    λ canvas long. sym (paint-length (entry .args .size .width) (entry .args .size .height) (entry .args .count) (entry .args .places) (sixteen entry) (entry .args .layer) canvas (rules kept) _
-    (ap (canvasLengthCheck (entry .args .size .width) (entry .args .size .height)) long ∙ sym (c .before .before .before .check-length .ensures) ∙ c .before .refusal .given .1))
+    let a = entry .args in
+    λ canvas long. sym (paint-length (a .size .width) (a .size .height) (a .count) (a .places) (sixteen entry) (a .layer) canvas
+    (rules kept) _
+    (ap (canvasLengthCheck (a .size .width) (a .size .height)) long ∙ sym (c .before .before .before .check-length .ensures) ∙ c .before .refusal .given .1))
 
 returns-6 : tie.Need-returns-6
 returns-6 c =
     let own = c .before .before .before .before .before .before in
     let told = own .before .before in
     let entry = kept own .before .before .before .before in
+    let a = entry .args in
     λ canvas long.
-    sym (paint-free (entry .args .size .width) (entry .args .size .height) (entry .args .count) (entry .args .places) (sixteen entry) (entry .args .layer) canvas (rules (kept own)) (size told canvas long) (own .before .if2 .left) (by-end own (c .before .before .if3 .left)) (owed (c .before) ∙ c .if4 .left))
+    sym (paint-free (a .size .width) (a .size .height) (a .count) (a .places) (sixteen entry) (a .layer) canvas
+    (rules (kept own)) (size told canvas long)
+    (own .before .if2 .left) (by-end own (c .before .before .if3 .left)) (owed (c .before) ∙ c .if4 .left))
 
 pub check-paint-spec : {M : Type 1} → statement M
 check-paint-spec =

@@ -1,12 +1,8 @@
 -- `layers::Layer::rows` meets its contract: the check and the two tests of the next row decide whether the layer keeps its rules.
 -- Assumes nothing.
 use borrow.Author.Needs.{needs}
-use Rattle.drawing.proofs.check.Reads as check-reads
-use Rattle.drawing.proofs.stroke_rows.Reads as stroke-rows-reads
-use Rattle.signed.proofs.add.Reads as add-reads
-use Rattle.signed.proofs.from_u32.Reads as from-u32-reads
 use mathlib.Core.Path.{_≡_, sym, ap, ap₂, _∙_}
-use mathlib.Core.Bool.{Bool, false, cond}
+use mathlib.Core.Bool.{Bool}
 use native.Mathlib.Omega.{arith}
 use lib.IntN.{ℤ, pos, _+ℤ_}
 use lib.Signed.{ltZ}
@@ -24,8 +20,6 @@ use Rattle.layers.proofs.LayerRules.{broken-by-check, broken-above, bro
 use Rattle.layers.proofs.RowTests.{lt-held, rows-by-fields}
 use Rattle.layers.proofs.Layer.rows.Statement.{statement}
 use Rattle.layers.proofs.Layer.rows.Tie as tie
-use Rattle.layers.proofs.Layer.rows.Reads as reads
-use Rattle.layers.proofs.Layer.rows.Lts as lts
 
 -- within limits
 passed : (c : tie.After-enum-told2)

@@ -2,11 +2,7 @@
 -- place, and the layer is put there.
 -- Assumes nothing.
 use borrow.Author.Needs.{needs}
-use Rattle.drawing.proofs.check.Reads as check-reads
-use Rattle.drawing.proofs.stroke_rows.Reads as stroke-rows-reads
-use Rattle.refusal.proofs.Checked.or_else.Reads as or-else-reads
-use Rattle.sheet_checks.proofs.check_room.Reads as check-room-reads
-use mathlib.Core.Path.{_≡_, refl, sym, ap, _∙_}
+use mathlib.Core.Path.{_≡_, sym, ap, _∙_}
 use mathlib.Core.List.{[]}
 use native.Mathlib.Omega.{arith}
 use lib.IntN.{ℤ}
@@ -22,13 +18,10 @@ use Rattle.drawing.specs.Drawing.{StyledFigure, answerOf, styledFigure, styledC
 use Rattle.layers.proofs.LayerRules.{checked-figure, checked-stroke}
 use Rattle.sheet_checks.proofs.Places.{sixteen-places}
 use Rattle.sheet_checks.proofs.Answers.{answer-or-else, added-room}
-use Rattle.sheet.specs.declared.Sheet.{Sheet}
 use Rattle.sheet.specs.Sheet.{sheetAnswer, withLayer, carriedOutSheet}
 use Rattle.sheet.proofs.Records.{refused-record, added-record}
 use Rattle.sheet.proofs.Sheet.add.Statement.{statement}
 use Rattle.sheet.proofs.Sheet.add.Tie as tie
-use Rattle.sheet.proofs.Sheet.add.Reads as reads
-use Rattle.sheet.proofs.Sheet.add.Lts as lts
 
 sixteen : (c : tie.Start) → length (c .args .self .layers) ≡ 16
 sixteen c = sixteen-places (c .args .self .layers) (c .good .0 .1 .1 .1 .1 .1 .0 .1 .0 .1)

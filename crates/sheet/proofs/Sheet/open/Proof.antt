@@ -1,19 +1,14 @@
 -- `sheet::Sheet::open` meets its contract: the size's check is the answer, and 16 blank layers are the places.
 -- Assumes nothing.
 use borrow.Author.Needs.{needs}
-use Rattle.canvas_size.proofs.CanvasSize.check.Reads as check-reads
-use Rattle.sheet.proofs.blank_layer.Reads as blank-layer-reads
-use mathlib.Core.Path.{_≡_, refl, sym, ap, _∙_}
+use mathlib.Core.Path.{_≡_, sym, ap, _∙_}
 use lib.ListN.{replicate}
-use Rattle.canvas_size.specs.CanvasSize.{canvasSizeCheck}
 use Rattle.drawing.specs.Drawing.{answerOf}
 use Rattle.layers.specs.declared.Layer.{Layer}
 use Rattle.sheet.specs.declared.Sheet.{Sheet}
 use Rattle.sheet.specs.Sheet.{openedSheet}
 use Rattle.sheet.proofs.Sheet.open.Statement.{statement}
 use Rattle.sheet.proofs.Sheet.open.Tie as tie
-use Rattle.sheet.proofs.Sheet.open.Reads as reads
-use Rattle.sheet.proofs.Sheet.open.Lts as lts
 
 made : (c : tie.After-blank-layer)
     → _≡_ {A = Sheet} (record { width = c .before .args .width; height = c .before .args .height; count = 0; layers = replicate 16 (c .blank-layer .result) })

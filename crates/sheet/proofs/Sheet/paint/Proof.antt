@@ -2,12 +2,8 @@
 -- and its next row moves down by one. A refusal is the check's own, and nothing was written.
 -- Assumes nothing.
 use borrow.Author.Needs.{needs}
-use Rattle.drawing.proofs.paint_row.Reads as paint-row-reads
-use Rattle.sheet_checks.proofs.check_paint.Reads as check-paint-reads
-use Rattle.signed.proofs.add.Reads as add-reads
 use mathlib.Core.Path.{_≡_, refl, sym, ap, _∙_}
-use mathlib.Core.List.{List}
-use Prim.Native.Nat.{ℕ, _<_, _≤_}
+use Prim.Native.Nat.{_<_, _≤_}
 use native.Mathlib.Omega.{arith}
 use lib.IntN.{ℤ, pos, _+ℤ_}
 use lib.ListN.{length, getD}
@@ -28,8 +24,6 @@ use Rattle.sheet_checks.proofs.Answers.{PaintAccepted, painted-accepted}
 use Rattle.sheet.proofs.Records.{refused-record, refused-canvas, painted-record, painted-canvas}
 use Rattle.sheet.proofs.Sheet.paint.Statement.{statement}
 use Rattle.sheet.proofs.Sheet.paint.Tie as tie
-use Rattle.sheet.proofs.Sheet.paint.Reads as reads
-use Rattle.sheet.proofs.Sheet.paint.Lts as lts
 
 sixteen : (c : tie.Start) → length (c .args .self .layers) ≡ 16
 sixteen c = sixteen-places (c .args .self .layers) (c .good .0 .1 .1 .1 .1 .1 .0 .1 .0 .1)

@@ -1,0 +1,69 @@
+-- `call_numbers::is_call` meets its contract: the first number says which of the two it may be.
+-- Assumes nothing.
+use borrow.Author.Needs.{needs}
+use mathlib.Core.Path.{_≡_, sym, ap, _∙_}
+use mathlib.Core.Bool.{Bool, true}
+use borrow.Author.Tests.{not-true, not-false}
+use lib.IntN.{pos}
+use lib.Signed.{leZ}
+use mir.Syntax.{w32}
+use mir.Val.{toZ, ofZ}
+use Rattle.call_numbers.proofs.Walks.{read-back}
+use Rattle.call_numbers.specs.CallNumbers.{numberAt, within, isCall}
+use Rattle.call_numbers.proofs.is_call.Statement.{statement}
+use Rattle.call_numbers.proofs.is_call.Tie as tie
+
+kind : (c : tie.After-is-within) → within (pos 0) (pos 1) (numberAt (c .before .before .args .numbers .now) 0) ≡ c .is-within .result
+kind c = sym (c .is-within .ensures ∙ ap (within (pos 0) (pos 1)) (read-back (c .before .before .args .numbers .now) 0 (c .before .is-within-arg .given)))
+
+after-kind : (c : tie.Else1) → within (pos 0) (pos 1) (numberAt (c .before .before .before .args .numbers .now) 0) ≡ true
+after-kind c = kind (c .before) ∙ not-false _ (c .if1 .left)
+
+-- whether a row is painted
+by-kind : (c : tie.After-if22) {t : Bool} → leZ (pos 1) (toZ w32 (ofZ w32 (numberAt (c .before .before .before .before .args .numbers .now) 0))) ≡ t
+    → leZ (pos 1) (numberAt (c .before .before .before .before .args .numbers .now) 0) ≡ t
+by-kind c test = sym (ap (leZ (pos 1)) (read-back (c .before .before .before .before .args .numbers .now) 0 (c .if22 .given))) ∙ test
+
+shared-slice-copy-out-is-within : tie.Need-shared-slice-copy-out-is-within
+shared-slice-copy-out-is-within c = search needs
+
+is-within-requires : tie.Need-is-within-requires
+is-within-requires c κs = search needs
+
+returns : tie.Need-returns
+unfolding isCall
+returns c = rw (kind (c .before) ∙ not-true _ (c .if1 .taken))
+
+shared-slice-copy-out-if2 : tie.Need-shared-slice-copy-out-if2
+shared-slice-copy-out-if2 c = search needs
+
+shared-slice-copy-out-result : tie.Need-shared-slice-copy-out-result
+shared-slice-copy-out-result c = search needs
+
+returns-2 : tie.Need-returns-2
+unfolding isCall
+returns-2 c =
+    let paints = c .before in
+    rw (after-kind (paints .before .before), by-kind (paints .before) (paints .if2 .taken)) (ap (leZ (pos 0)) (read-back (c .before .before .before .before .before .before .args .numbers .now) 1 (c .result .given)))
+
+is-figure-requires : tie.Need-is-figure-requires
+is-figure-requires c κs = search needs
+
+returns-3 : tie.Need-returns-3
+unfolding isCall
+returns-3 c =
+    let adds = c .before in
+    rw (after-kind (adds .before .before), by-kind (adds .before) (adds .if2 .left)) (c .is-figure .ensures)
+
+pub is-call-spec : {M : Type 1} → statement M
+is-call-spec =
+    tie.close
+    (tie.spec
+    shared-slice-copy-out-is-within
+    is-within-requires
+    returns
+    shared-slice-copy-out-if2
+    shared-slice-copy-out-result
+    returns-2
+    is-figure-requires
+    returns-3)

@@ -1,0 +1,102 @@
+-- `sheet_calls::make_call` meets its contract: the first number says which call it is, and the sheet's own promise the rest.
+-- Assumes nothing.
+use borrow.Author.Needs.{needs}
+use mathlib.Core.Path.{_≡_, sym, ap, ap₂, _∙_}
+use mathlib.Core.Bool.{Bool}
+use lib.IntN.{ℤ, pos}
+use lib.ListN.{length}
+use lib.Signed.{leZ}
+use mir.Syntax.{w32}
+use mir.Val.{toZ, ofZ}
+use Rattle.signed.specs.Signed.{floor0}
+use Rattle.book.specs.Book.{Answer, ifAccepted}
+use Rattle.book.specs.Book.{add as Call·add, paint as Call·paint}
+use Rattle.drawing.specs.Drawing.{styledFigure}
+use Rattle.sheet_checks.proofs.Places.{sixteen-places}
+use Rattle.sheet.specs.Sheet.{carriedOutSheet}
+use Rattle.sheet.proofs.Records.{add-any-canvas, add-keeps-canvas}
+use Rattle.call_numbers.specs.CallNumbers.{numberAt, callOf}
+use Rattle.call_numbers.proofs.Walks.{read-back}
+use Rattle.sheet_calls.proofs.make_call.Statement.{statement}
+use Rattle.sheet_calls.proofs.make_call.Tie as tie
+
+sixteen : (c : tie.Start) → length (c .args .sheet .layers) ≡ 16
+sixteen c = sixteen-places (c .args .sheet .layers) (c .good .0 .1 .1 .1 .1 .1 .0 .1 .0 .1)
+
+-- whether a row is painted
+by-kind : (c : tie.After-if12) {t : Bool} → leZ (pos 1) (toZ w32 (ofZ w32 (numberAt (c .before .before .args .numbers .now) 0))) ≡ t
+    → leZ (pos 1) (numberAt (c .before .before .args .numbers .now) 0) ≡ t
+by-kind c test = sym (ap (leZ (pos 1)) (read-back (c .before .before .args .numbers .now) 0 (c .if12 .given))) ∙ test
+
+paints : (c : tie.After-floor0) → callOf (c .before .before .before .before .before .args .numbers .now) ≡ Call·paint (c .floor0 .result)
+unfolding callOf
+paints c =
+    let numbers = c .before .before .before .before .before .args .numbers .now in
+    rw (by-kind (c .before .before .before) (c .before .before .if1 .taken))
+    (ap Call·paint (sym (c .floor0 .ensures ∙ ap (λ (z : ℤ). floor0 z) (read-back numbers 1 (c .before .floor0-arg .given)))))
+
+adds : (c : tie.After-style-of)
+    → callOf (c .before .before .before .before .before .args .numbers .now) ≡ Call·add (styledFigure (c .before .figure-of .result) (c .style-of .result))
+unfolding callOf
+adds c =
+    rw (by-kind (c .before .before .before) (c .before .before .if1 .left))
+    (ap Call·add (sym (ap₂ styledFigure (c .before .figure-of .ensures) (c .style-of .ensures))))
+
+shared-slice-copy-out-if1 : tie.Need-shared-slice-copy-out-if1
+shared-slice-copy-out-if1 c = search needs
+
+shared-slice-copy-out-floor0 : tie.Need-shared-slice-copy-out-floor0
+shared-slice-copy-out-floor0 c = search needs
+
+floor0-requires : tie.Need-floor0-requires
+floor0-requires c κs = search needs
+
+paint-requires : tie.Need-paint-requires
+paint-requires c κs = search needs
+
+same-length : tie.Need-same-length
+same-length c = search needs
+
+returns : tie.Need-returns
+returns c =
+    let done = c .before .before .paint .ensures in
+    rw (paints (c .before .before .before .before))
+    (record { answer = done .0; sheet = done .1 .0; bytes = done .1 .1 })
+
+figure-of-requires : tie.Need-figure-of-requires
+figure-of-requires c κs = search needs
+
+style-of-requires : tie.Need-style-of-requires
+style-of-requires c κs = search needs
+
+add-requires : tie.Need-add-requires
+add-requires c κs = search needs
+
+returns-2 : tie.Need-returns-2
+returns-2 c =
+    let start = c .before .before .before .before .before .before in
+    let s = start .args .sheet in
+    let canvas = start .args .canvas .now in
+    let item = styledFigure (c .before .before .figure-of .result) (c .before .style-of .result) in
+    let same = add-any-canvas s (sixteen start) canvas item in
+    rw (adds (c .before))
+    (record {
+      answer = c .add .ensures .0 ∙ same;
+      sheet = c .add .ensures .1 ∙ ap (λ (a : Answer). ifAccepted a (carriedOutSheet s (Call·add item)) s) same;
+      bytes = sym (add-keeps-canvas s (sixteen start) canvas item);
+    })
+
+pub make-call-spec : {M : Type 1} → statement M
+make-call-spec =
+    tie.close
+    (tie.spec
+    shared-slice-copy-out-if1
+    shared-slice-copy-out-floor0
+    floor0-requires
+    paint-requires
+    same-length
+    returns
+    figure-of-requires
+    style-of-requires
+    add-requires
+    returns-2)

@@ -1,0 +1,124 @@
+// A list of calls, written as numbers (crate call_numbers), run from a sheet just opened on one
+// canvas: the function whose promise is demand 3.
+use canvas_size::CanvasSize;
+use refusal::Checked;
+use refusal::Refusal;
+use refusal::check_room;
+use sheet::Sheet;
+use sheet::SheetAnswer;
+use sheet::SheetOutcome;
+ghost use mathlib.Core.Path.{_≡_};
+ghost use mathlib.Core.List.{map};
+ghost use Prim.Native.Nat.{_*_, _≤_};
+ghost use lib.ListN.{length};
+ghost use lib.Seq.{sets};
+ghost use Rattle.book.specs.Sheet.{answers as Sheet·answers, afterAll};
+ghost use Rattle.drawing.specs.Drawing.{drawing};
+ghost use Rattle.sheet.specs.Sheet.{said, stateOf};
+ghost use Rattle.call_numbers.specs.CallNumbers.{callLength, callOf, callsFrom, callsOf};
+ghost use Rattle.sheet_calls.specs.SheetCalls.{answerNumber, runSaid, runAnswer, Called, answersAfter, stateAfter, RunLeaves};
+
+pub enum RunAnswer {
+    Refused(Refusal),
+    // The numbers are no calls (14).
+    NoCalls,
+    Ran,
+}
+
+pub struct RunOutcome {
+    pub sheet: Sheet,
+    pub answer: RunAnswer,
+}
+
+// The number that stands for an answer: 0 for accepted.
+fn number_of(answer: SheetAnswer) -> u32
+    ensures { λ r. ⌜ r ≡ answerNumber (said answer) ⌝ }
+{
+    match answer {
+        SheetAnswer::Refused(refusal) => refusal.number(),
+        SheetAnswer::Accepted => 0,
+    }
+}
+
+// Makes one call.
+fn make_call(sheet: Sheet, numbers: &[i32], canvas: &mut [u8]) -> SheetOutcome
+    requires { ⌜ length (now numbers) ≡ callLength ⌝ }
+    ensures { λ r. ⌜ Called (callOf (now (numbers .entry))) sheet (now (canvas .entry)) r (now (canvas .exit)) ⌝ }
+{
+    if 1 <= numbers[0] {
+        return sheet.paint(signed::floor0(numbers[1]), canvas);
+    }
+    sheet.add(
+        call_numbers::figure_of(numbers),
+        call_numbers::style_of(numbers),
+    )
+}
+
+// Makes so many calls in order, and writes their answers.
+fn make_calls(
+    sheet: Sheet,
+    count: usize,
+    numbers: &[i32],
+    canvas: &mut [u8],
+    answers: &mut [u32],
+) -> Sheet
+    requires { ⌜ callLength * count ≤ length (now numbers) ⌝ }
+    requires { ⌜ count ≤ length (now answers) ⌝ }
+    ensures { λ r. ⌜ now (answers .exit) ≡ answersAfter (now (answers .entry)) sheet (now (canvas .entry)) (callsFrom (now (numbers .entry)) 0 count) ⌝ }
+    ensures { λ r. ⌜ stateOf r (now (canvas .exit)) ≡ stateAfter sheet (now (canvas .entry)) (callsFrom (now (numbers .entry)) 0 count) ⌝ }
+    ensures { λ r. ⌜ (r .width ≡ sheet .width) × (r .height ≡ sheet .height) ⌝ }
+{
+    let mut current = sheet;
+    let mut j: usize = 0;
+    while j < count {
+        let at = call_numbers::CALL_LENGTH * j;
+        let end = at + call_numbers::CALL_LENGTH;
+        let made = make_call(current, &numbers[at..end], canvas);
+        current = made.sheet;
+        let answer = made.answer;
+        answers[j] = number_of(answer);
+        j += 1;
+    }
+    current
+}
+
+// Runs a list of calls from a sheet just opened, on a canvas of its size. Refused by 6, 8 and 13,
+// and by 14 where the numbers are no calls; then nothing is run and nothing written. Else each
+// call's answer is written, 0 for accepted, and the canvas is left as the calls painted it.
+pub fn run_calls(
+    width: u32,
+    height: u32,
+    calls: &[i32],
+    canvas: &mut [u8],
+    answers: &mut [u32],
+) -> RunOutcome
+    ensures { λ r. ⌜ runSaid (r .answer) ≡ runAnswer width height (now (calls .entry)) (length (now (canvas .entry))) (length (now (answers .entry))) ⌝ }
+    ensures { λ r. ⌜ RunLeaves (runSaid (r .answer)) width height (callsOf (now (calls .entry))) (now (canvas .entry)) (now (answers .entry)) (r .sheet) (now (canvas .exit)) (now (answers .exit)) ⌝ }
+{
+    let opened = Sheet::open(width, height);
+    let sheet = opened.sheet;
+    let size = CanvasSize {
+        width: width,
+        height: height,
+    };
+    let count = calls.len() / call_numbers::CALL_LENGTH;
+    let lent = size.check().or_else(size.check_length(canvas.len()));
+    let check = lent.or_else(check_room(count, answers.len()));
+    let Checked::Refused(refusal) = check else {
+        if !call_numbers::encodes_calls(calls) {
+            return RunOutcome {
+                sheet: sheet,
+                answer: RunAnswer::NoCalls,
+            };
+        }
+        let made = make_calls(sheet, count, calls, canvas, answers);
+        return RunOutcome {
+            sheet: made,
+            answer: RunAnswer::Ran,
+        };
+    };
+    RunOutcome {
+        sheet: sheet,
+        answer: RunAnswer::Refused(refusal),
+    }
+}
