@@ -1,7 +1,7 @@
 -- What a styled row makes of a canvas: the runs laid over the canvas row, or nothing where the canvas or the figure lacks it.
 -- Assumes nothing.
 use mathlib.Core.Path.{_≡_, refl, ap, _∙_}
-use mathlib.Core.Bool.{true, false, cond}
+use mathlib.Core.Bool.{Bool, true, false, cond}
 use mathlib.Core.List.{List, _++_}
 use Prim.Native.Nat.{ℕ, _*_, _≤_, _<_}
 use native.Mathlib.Omega.{arith}
@@ -39,6 +39,25 @@ module _ (rowAt : ℤ → StyledRow) (style : Style) (W H : ℕ) (canvas : List 
       ap (λ (row : StyledRow). cond (ltb y H) (putRow W y (overpaint style row (canvasRow W y canvas)) canvas) canvas) (is (pos y))
   paint-by-figure f is (negsuc y) = refl
 
+  -- only the row at y counts
+  pub paint-by-row : (row : StyledRow) (y : ℤ) → row ≡ rowAt y
+      → paintBy (λ _. row) style W H y canvas ≡ paintBy rowAt style W H y canvas
+  unfolding paintBy
+  paint-by-row row (pos y) is =
+      ap (λ (r : StyledRow). cond (ltb y H) (putRow W y (overpaint style r (canvasRow W y canvas)) canvas) canvas) is
+  paint-by-row row (negsuc y) is = refl
+
+  -- a row that the figure lacks
+  pub paint-by-lacking : (y : ℤ) → rowAt y ≡ NoRow → paintBy rowAt style W H y canvas ≡ canvas
+  unfolding paintBy
+  paint-by-lacking (pos y) is = by-test (ltb y H)
+    where
+      by-test : (t : Bool) → cond t (putRow W y (overpaint style (rowAt (pos y)) (canvasRow W y canvas)) canvas) canvas ≡ canvas
+      by-test true =
+          ap (λ (row : StyledRow). putRow W y (overpaint style row (canvasRow W y canvas)) canvas) is ∙ put-row-same W y canvas
+      by-test false = refl
+  paint-by-lacking (negsuc y) is = refl
+
   -- rows that the canvas lacks
   pub paint-by-above : (y : ℤ) → ltZ y (pos 0) ≡ true → paintBy rowAt style W H y canvas ≡ canvas
   unfolding paintBy
@@ -65,7 +84,3 @@ module _ (rowAt : ℤ → StyledRow) (style : Style) (W H : ℕ) (canvas : List 
     pub paint-by-runs : (runs : StyledScanline) → rowAt y ≡ Runs runs
         → paintBy rowAt style W H y canvas ≡ overpaintAt W (floor0 y) style runs canvas
     paint-by-runs runs is = paint-by-on y from low ∙ ap (λ (row : StyledRow). with row y) is
-
-    pub paint-by-lacking : rowAt y ≡ NoRow → paintBy rowAt style W H y canvas ≡ canvas
-    paint-by-lacking is =
-        paint-by-on y from low ∙ ap (λ (row : StyledRow). with row y) is ∙ put-row-same W (floor0 y) canvas

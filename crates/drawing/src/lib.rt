@@ -7,9 +7,6 @@ use rectangle::Rectangle;
 use refusal::Checked;
 use scanline::StyledRow;
 use style::Style;
-use styled_shape::RowHints;
-use styled_shape::StyledShape;
-use styled_shape::no_hints;
 ghost use mathlib.Core.Path.{_≡_};
 ghost use Prim.Native.Nat.{_*_, _≤_};
 ghost use lib.ListN.{length};
@@ -19,7 +16,6 @@ ghost use Rattle.rectangle.specs.Rectangle.{offset as Rectangle·offset};
 ghost use Rattle.corner.specs.Bounds.{wideStrokeSide};
 ghost use Rattle.figure.specs.Bounds.{wideOffset, wideAreaPosition, OwnRectangle, OwnFigure};
 ghost use Rattle.book.specs.Sheet.{paintRow as Sheet·paintRow};
-ghost use Rattle.styled_shape.specs.Ready.{rowOf, Ready};
 ghost use Rattle.drawing.specs.Rows.{boxRows, ellipseRows, strokeRows};
 ghost use Rattle.drawing.specs.Drawing.{styledCheck, styledFigure, paintBy, drawing};
 
@@ -80,37 +76,24 @@ pub fn stroke_rows(figure: Figure, style: Style) -> StrokeRows
     }
 }
 
-// Paints the row at y of a figure made ready, if the canvas has that row, and answers the hints for
-// the row after it.
-pub fn paint_shape_row(
-    canvas: &mut [u8],
-    size: CanvasSize,
-    shape: StyledShape,
-    style: Style,
-    y: i32,
-    hints: RowHints,
-) -> RowHints
+// Paints a styled row at y, if the canvas has that row.
+pub fn paint_row_on(canvas: &mut [u8], size: CanvasSize, row: StyledRow, style: Style, y: i32)
     requires { ⌜ length (now canvas) ≡ size .width * size .height ⌝ }
     requires { ⌜ size .width ≤ wideSide ⌝ }
-    requires { ⌜ Ready shape ⌝ }
     requires { ⌜ Near widePoint y ⌝ }
-    ensures { λ _. ⌜ now (canvas .exit) ≡ paintBy (rowOf shape) style (size .width) (size .height) y (now (canvas .entry)) ⌝ }
+    ensures { λ _. ⌜ now (canvas .exit) ≡ paintBy (λ _. row) style (size .width) (size .height) y (now (canvas .entry)) ⌝ }
 {
     if y < 0 {
-        return hints;
+        return;
     }
     let place = signed::floor0(y);
     if size.height <= place {
-        return hints;
+        return;
     }
-    let found = shape.row(y, hints);
-    let row = found.row;
-    let next = found.hints;
     let StyledRow::Runs(runs) = row else {
-        return next;
+        return;
     };
     canvas::paint_row_at(canvas, size.width, place, runs, style);
-    next
 }
 
 // Paints the figure's row at y, if the canvas has that row.
@@ -122,6 +105,5 @@ pub fn paint_row(canvas: &mut [u8], size: CanvasSize, figure: Figure, style: Sty
     requires { ⌜ Near widePoint y ⌝ }
     ensures { λ _. ⌜ now (canvas .exit) ≡ Sheet·paintRow drawing (size .width) (size .height) (styledFigure figure style) y (now (canvas .entry)) ⌝ }
 {
-    let shape = styled::ready(figure, style);
-    let _ = paint_shape_row(canvas, size, shape, style, y, no_hints());
+    paint_row_on(canvas, size, styled::row_at(figure, style, y), style, y);
 }

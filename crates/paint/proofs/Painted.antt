@@ -18,6 +18,7 @@ use Rattle.drawing.specs.Drawing.{styledFigure, paintBy, drawing}
 use Rattle.drawing.proofs.Rows.{sets-nothing-off-rows}
 use Rattle.drawing.proofs.PaintRow.{paint-by-figure}
 use Rattle.paint.specs.Paint.{painted}
+use Rattle.paint.specs.Rows.{rowsBy}
 
 pub whole-is-painted : (f : Figure) (style : Style) (W H : ℕ) (canvas : List ℕ) → length canvas ≡ W * H
     → paintWhole drawing W H (styledFigure f style) canvas ≡ painted f style W H canvas
@@ -25,11 +26,7 @@ unfolding painted
 whole-is-painted f style W H canvas size =
     whole-by-rows drawing (styledFigure f style) W H (sets-nothing-off-rows (styledFigure f style)) canvas size
 
--- ---- rows painted one after another, by any figure's rows
-unfoldable pub rowsBy : (ℤ → StyledRow) → Style → ℕ → ℕ → ℤ → ℕ → List ℕ → List ℕ
-rowsBy rowAt style W H y zero canvas = canvas
-rowsBy rowAt style W H y (suc n) canvas = rowsBy rowAt style W H (y +ℤ pos 1) n (paintBy rowAt style W H y canvas)
-
+-- ---- a figure's rows are those of its definition
 pub rows-by-figure : (rowAt : ℤ → StyledRow) (f : Figure) (style : Style) (W H : ℕ) → ((y : ℤ) → rowAt y ≡ styledRow f style y)
     → (n : ℕ) (y : ℤ) (canvas : List ℕ)
     → rowsBy rowAt style W H y n canvas ≡ paintRows drawing W H (styledFigure f style) y n canvas

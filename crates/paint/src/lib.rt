@@ -2,18 +2,31 @@
 // height. Document 01 adds it; in the Rust it is `pixels` drawn to a target. Areas and tests are made
 // once for the figure, and each row hands its hints to the next.
 use canvas_size::CanvasSize;
+use drawing::StrokeRows;
+use ellipse_search::ANYWHERE;
+use ellipse_styled::EllipseHints;
+use ellipse_styled::StyledEllipse;
 use figure::Figure;
 use refusal::Checked;
 use refusal::Refusal;
 use style::Style;
+use styled_shape::StyledBox;
+use styled_shape::StyledShape;
 use styled_shape::no_hints;
 ghost use mathlib.Core.Path.{_≡_};
 ghost use Prim.Native.Nat.{_*_, _≤_};
 ghost use lib.ListN.{length};
+ghost use Rattle.signed.specs.Signed.{Near};
 ghost use Rattle.geometry.specs.Bounds.{wideSide};
-ghost use Rattle.figure.specs.Bounds.{wideOffset, OwnFigure};
+ghost use Rattle.corner.specs.Bounds.{wideStrokeSide};
+ghost use Rattle.figure.specs.Bounds.{wideOffset, wideAreaPosition, OwnFigure};
+ghost use Rattle.ellipse_styled.specs.EllipseStyled.{ellipseStyledRow};
+ghost use Rattle.ellipse_styled.specs.Relative.{ReadyEllipse};
+ghost use Rattle.styled_shape.specs.StyledRow.{boxStyledRow};
+ghost use Rattle.styled_shape.specs.Ready.{strokeBox, fillBox, ReadyStyledBox};
 ghost use Rattle.book.specs.Whole.{paintWhole};
 ghost use Rattle.drawing.specs.Drawing.{styledFigure, drawing};
+ghost use Rattle.paint.specs.Rows.{rowsBy, visibleRows};
 ghost use Rattle.paint.specs.Paint.{paintOutcome, paintCall, canvasAfter};
 
 pub enum PaintAnswer {
@@ -21,22 +34,97 @@ pub enum PaintAnswer {
     Painted,
 }
 
-// Paints every row of the figure that the canvas has.
-fn paint_whole(canvas: &mut [u8], size: CanvasSize, figure: Figure, style: Style)
+// The rows of a figure that a canvas of this height has.
+fn visible(rows: StrokeRows, height: u32) -> StrokeRows
+    requires { ⌜ Near wideAreaPosition (rows .first) × (rows .count ≤ wideStrokeSide) × (height ≤ wideSide) ⌝ }
+    ensures { λ r. ⌜ r ≡ visibleRows rows height ⌝ }
+    ensures { λ r. ⌜ Near wideAreaPosition (r .first) × (r .count ≤ wideStrokeSide) ⌝ }
+{
+    let above = signed::least(signed::floor0(signed::sub(0, rows.first)), rows.count);
+    let first = signed::add(rows.first, signed::from_u32(above));
+    let room = signed::floor0(signed::sub(signed::from_u32(height), first));
+    StrokeRows {
+        first: first,
+        count: signed::least(rows.count - above, room),
+    }
+}
+
+// Paints so many rows of an ellipse made ready, from row y on.
+fn paint_ellipse_rows(
+    canvas: &mut [u8],
+    size: CanvasSize,
+    ellipse: StyledEllipse,
+    style: Style,
+    y: i32,
+    count: u32,
+)
     requires { ⌜ length (now canvas) ≡ size .width * size .height ⌝ }
     requires { ⌜ size .width ≤ wideSide ⌝ }
+    requires { ⌜ ReadyEllipse ellipse ⌝ }
+    requires { ⌜ Near wideAreaPosition y × (count ≤ wideStrokeSide) ⌝ }
+    ensures { λ _. ⌜ now (canvas .exit) ≡ rowsBy (ellipseStyledRow (ellipse .area) (ellipse .sides)) style (size .width) (size .height) y count (now (canvas .entry)) ⌝ }
+{
+    let mut hints = EllipseHints {
+        stroke: ANYWHERE,
+        fill: ANYWHERE,
+    };
+    let mut dy: u32 = 0;
+    while dy < count {
+        let row_y = signed::add(y, signed::from_u32(dy));
+        let found = ellipse.row(row_y, hints);
+        let row = found.row;
+        drawing::paint_row_on(canvas, size, row, style, row_y);
+        hints = found.hints;
+        dy += 1;
+    }
+}
+
+// Paints so many rows of a box made ready, from row y on.
+fn paint_box_rows(
+    canvas: &mut [u8],
+    size: CanvasSize,
+    b: StyledBox,
+    style: Style,
+    y: i32,
+    count: u32,
+)
+    requires { ⌜ length (now canvas) ≡ size .width * size .height ⌝ }
+    requires { ⌜ size .width ≤ wideSide ⌝ }
+    requires { ⌜ ReadyStyledBox b ⌝ }
+    requires { ⌜ Near wideAreaPosition y × (count ≤ wideStrokeSide) ⌝ }
+    ensures { λ _. ⌜ now (canvas .exit) ≡ rowsBy (boxStyledRow (strokeBox b) (fillBox b)) style (size .width) (size .height) y count (now (canvas .entry)) ⌝ }
+{
+    let mut hints = no_hints();
+    let mut dy: u32 = 0;
+    while dy < count {
+        let row_y = signed::add(y, signed::from_u32(dy));
+        let found = b.row(row_y, hints);
+        let row = found.row;
+        drawing::paint_row_on(canvas, size, row, style, row_y);
+        hints = found.hints;
+        dy += 1;
+    }
+}
+
+// Paints every row of the figure that the canvas has. Rows above the canvas and below it are left out
+// at once.
+fn paint_whole(canvas: &mut [u8], size: CanvasSize, figure: Figure, style: Style)
+    requires { ⌜ length (now canvas) ≡ size .width * size .height ⌝ }
+    requires { ⌜ (size .width ≤ wideSide) × (size .height ≤ wideSide) ⌝ }
     requires { ⌜ OwnFigure figure ⌝ }
     requires { ⌜ style .«stroke_width» ≤ wideOffset ⌝ }
     ensures { λ _. ⌜ now (canvas .exit) ≡ paintWhole drawing (size .width) (size .height) (styledFigure figure style) (now (canvas .entry)) ⌝ }
 {
     let rows = drawing::stroke_rows(figure, style);
-    let shape = styled::ready(figure, style);
-    let mut hints = no_hints();
-    let mut dy: u32 = 0;
-    while dy < rows.count {
-        let y = signed::add(rows.first, signed::from_u32(dy));
-        hints = drawing::paint_shape_row(canvas, size, shape, style, y, hints);
-        dy += 1;
+    let seen = visible(rows, size.height);
+    match styled::ready(figure, style) {
+        StyledShape::Ellipse(ellipse) => {
+            paint_ellipse_rows(canvas, size, ellipse, style, seen.first, seen.count)
+        }
+        StyledShape::RoundedBox(b) => {
+            paint_box_rows(canvas, size, b, style, seen.first, seen.count)
+        }
+        StyledShape::Neither => {}
     }
 }
 

@@ -1,39 +1,42 @@
--- `drawing::paint_row` meets its contract: the rows of the figure made ready are the definition's.
+-- `drawing::paint_row` meets its contract: the row asked for is the definition's.
 -- Assumes nothing.
+use native.Mathlib.Omega.{arith}
+use Rattle.signed.proofs.Laws.{int}
 use borrow.Author.Needs.{needs}
-use mathlib.Core.Path.{ap, _∙_}
+use mathlib.Core.Path.{refl, ap, _∙_}
 use lib.IntN.{ℤ}
 use mir.Facts.{toZ-ofZ}
-use Rattle.styled_shape.specs.Ready.{rowOf}
+use Rattle.styled.specs.Styled.{styledRow}
 use Rattle.drawing.specs.Drawing.{paintBy}
-use Rattle.drawing.proofs.PaintRow.{paint-by-figure}
+use Rattle.drawing.proofs.PaintRow.{paint-by-row, paint-by-figure}
 use Rattle.drawing.proofs.paint_row.Statement.{statement}
 use Rattle.drawing.proofs.paint_row.Tie as tie
 
-ready-requires : tie.Need-ready-requires
-ready-requires c κs = search needs
-
-no-hints-requires : tie.Need-no-hints-requires
-no-hints-requires c κs = search needs
-
-paint-shape-row-requires : tie.Need-paint-shape-row-requires
-paint-shape-row-requires c κs =
-    let entry = c .before .before .before .before in
+row-at-requires : tie.Need-row-at-requires
+row-at-requires c κs =
+    let entry = c .before .before in
     let near = entry .pre .1 .1 .1 .1 in
-    (entry .pre .0, (entry .pre .1 .0, (c .before .before .ready .ensures .0, rw (toZ-ofZ (near .fits)) near)))
+    (entry .pre .1 .1 .0, (entry .pre .1 .1 .1 .0, rw (toZ-ofZ (near .fits)) near))
+
+paint-row-on-requires : tie.Need-paint-row-on-requires
+paint-row-on-requires c κs =
+    let entry = c .before .before .before in
+    let near = entry .pre .1 .1 .1 .1 in
+    (entry .pre .0, (entry .pre .1 .0, rw (toZ-ofZ (near .fits)) near))
 
 same-length : tie.Need-same-length
 same-length c = search needs
 
 returns : tie.Need-returns
 returns c =
-    let a = c .before .before .before .before .before .before .before .args in
-    let shape = c .before .before .before .before .before .ready .result in
-    c .before .before .paint-shape-row .ensures
-    ∙ ap (λ (z : ℤ). paintBy (rowOf shape) (a .style) (a .size .width) (a .size .height) z (a .canvas .now)) (toZ-ofZ (c .before .before .before .before .before .before .before .pre .1 .1 .1 .1 .fits))
-    ∙ paint-by-figure (rowOf shape) (a .style) (a .size .width) (a .size .height) (a .canvas .now) (a .figure) (c .before .before .before .before .before .ready .ensures .1) (a .y)
+    let entry = c .before .before .before .before .before .before in
+    let a = entry .args in
+    let held = toZ-ofZ (entry .pre .1 .1 .1 .1 .fits) in
+    let row = c .before .before .before .row-at .result in
+    c .before .before .paint-row-on .ensures
+    ∙ ap (λ (z : ℤ). paintBy (λ _. row) (a .style) (a .size .width) (a .size .height) z (a .canvas .now)) held
+    ∙ paint-by-row (styledRow (a .figure) (a .style)) (a .style) (a .size .width) (a .size .height) (a .canvas .now) row (a .y) (c .before .before .before .row-at .ensures ∙ ap (styledRow (a .figure) (a .style)) held)
+    ∙ paint-by-figure (styledRow (a .figure) (a .style)) (a .style) (a .size .width) (a .size .height) (a .canvas .now) (a .figure) (λ _. refl) (a .y)
 
 pub paint-row-spec : {M : Type 1} → statement M
-paint-row-spec =
-    tie.close
-    (tie.spec ready-requires no-hints-requires paint-shape-row-requires same-length returns)
+paint-row-spec = tie.close (tie.spec row-at-requires paint-row-on-requires same-length returns)

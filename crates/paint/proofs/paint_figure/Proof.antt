@@ -47,8 +47,9 @@ paint-whole-requires : tie.Need-paint-whole-requires
 paint-whole-requires c κs =
     let p = passed (c .before) in
     let wide = p .sides .width-most in
+    let high = p .sides .height-most in
     let stroke = p .stroke in
-    (p .size, (omega arith, (p .figure, omega arith)))
+    (p .size, ((omega arith, omega arith), (p .figure, omega arith)))
 
 same-length : tie.Need-same-length
 same-length c = search needs

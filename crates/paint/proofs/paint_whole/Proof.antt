@@ -1,124 +1,101 @@
--- `paint::paint_whole` meets its contract. The invariant: the rows that are left, painted on the canvas as it is now, make the whole.
+-- `paint::paint_whole` meets its contract: the kind says whose rows are painted, and the visible ones make the whole.
 -- Assumes nothing.
 use native.Mathlib.Omega.{arith}
 use Rattle.signed.proofs.Laws.{int}
-use mathlib.Core.Path.{_≡_, ap, _∙_}
-use Prim.Native.Nat.{_-_}
-use lib.IntN.{ℤ, pos, _+ℤ_}
-use lib.ListN.{length}
-use mir.Facts.{toZ-ofZ}
 use borrow.Author.Needs.{needs}
-use Rattle.signed.proofs.Laws.{add-law}
-use Rattle.book.specs.Whole.{paintRows}
-use Rattle.styled_shape.specs.Ready.{rowOf}
-use Rattle.drawing.specs.declared.StrokeRows.{StrokeRows}
-use Rattle.drawing.specs.Drawing.{styledFigure, paintBy, drawing}
-use Rattle.paint.proofs.Painted.{rows-by-figure, RowsLeft, rows-start, rows-turn, rows-end}
+use mathlib.Core.Path.{_≡_, refl, sym, ap, subst, _∙_}
+use lib.IntN.{ℤ}
+use mir.Facts.{toZ-ofZ}
+use Rattle.styled.specs.Styled.{styledRow}
+use Rattle.styled_shape.specs.declared.StyledShape.{StyledShape}
+use Rattle.styled_shape.specs.declared.StyledShape.the-variants as styled
+use Rattle.styled_shape.specs.Ready.{rowOf, Ready}
+use Rattle.paint.specs.Rows.{rowsBy}
+use Rattle.paint.proofs.OnCanvas.{visible-rows-whole, lacking-whole}
 use Rattle.paint.proofs.paint_whole.Statement.{statement}
 use Rattle.paint.proofs.paint_whole.Tie as tie
 
-abbrev Inv-loop : tie.InvT-loop
-Inv-loop canvas₀ size style rows shape hints₀ dy₀ canvas hints dy =
-    RowsLeft (rowOf shape) style (size .width) (size .height) (rows .first) (rows .count) canvas₀ dy canvas
+-- the rows of the shape made ready, whichever it is, are the figure's
+rows-of : (c : tie.After-ready) (shape : StyledShape) → c .ready .result ≡ shape → (y : ℤ) → rowOf shape y ≡ styledRow (c .before .before .before .before .args .figure) (c .before .before .before .before .args .style) y
+rows-of c shape is y = ap (λ (s : StyledShape). rowOf s y) (sym is) ∙ c .ready .ensures .1 y
 
-abbrev μ-loop : tie.MeasureT-loop
-μ-loop canvas₀ size style rows shape hints₀ dy₀ canvas hints dy = rows .count - dy
+stroke-rows-requires : tie.Need-stroke-rows-requires
+stroke-rows-requires c κs = search needs
 
--- the row of this turn
-row-is : (c : tie.After-add Inv-loop μ-loop) → c .add .result ≡ c .before .before .before .before .before .before .before .before .stroke-rows .result .first +ℤ pos (c .before .before .before .before .before .loop .dy)
-row-is c =
-    let sum = c .add .ensures .is in
-    let down = c .before .before .from-u32 .ensures .is in
-    let first = c .before .before .before .before .before .before .before .before .stroke-rows .ensures .1 .0 in
-    omega (arith, int, add-law (c .before .before .before .before .before .before .before .before .stroke-rows .result .first) (pos (c .before .before .before .before .before .loop .dy)))
+visible-requires : tie.Need-visible-requires
+visible-requires c κs =
+    let rows = c .stroke-rows .ensures .1 in
+    (rows .0, rows .1, c .before .before .pre .1 .0 .1)
 
-stroke-rows-requires : tie.Need-stroke-rows-requires Inv-loop μ-loop
-stroke-rows-requires c κs = (c .before .pre .1 .1 .0, c .before .pre .1 .1 .1)
+ready-requires : tie.Need-ready-requires
+ready-requires c κs = search needs
 
-ready-requires : tie.Need-ready-requires Inv-loop μ-loop
-ready-requires c κs = (c .before .before .pre .1 .1 .0, c .before .before .pre .1 .1 .1)
+enum-known-ellipse : tie.Need-enum-known-ellipse
+enum-known-ellipse c = search needs
 
-no-hints-requires : tie.Need-no-hints-requires Inv-loop μ-loop
-no-hints-requires c κs = search needs
+paint-ellipse-rows-requires : tie.Need-paint-ellipse-rows-requires
+paint-ellipse-rows-requires c κs =
+    let entry = c .before .before .before .before .before .before .before .before .before in
+    let seen = c .before .before .before .before .before .before .visible .ensures .1 in
+    let near = seen .0 in
+    (entry .pre .0, (entry .pre .1 .0 .0, (subst Ready (c .before .before .before .ellipse .given .1) (c .before .before .before .before .before .ready .ensures .0), (rw (toZ-ofZ (near .fits)) near, seen .1))))
 
-loop-holds : tie.Need-loop-holds Inv-loop μ-loop
-loop-holds c = rows-start _ _ _ _ _ _ _ (c .before .before .before .before .pre .0)
+enum-known-b : tie.Need-enum-known-b
+enum-known-b c = search needs
 
-from-u32-requires : tie.Need-from-u32-requires Inv-loop μ-loop
-from-u32-requires c κs = omega (arith, int)
+paint-box-rows-requires : tie.Need-paint-box-rows-requires
+paint-box-rows-requires c κs =
+    let entry = c .before .before .before .before .before .before .before .before .before in
+    let seen = c .before .before .before .before .before .before .visible .ensures .1 in
+    let near = seen .0 in
+    (entry .pre .0, (entry .pre .1 .0 .0, (subst Ready (c .before .before .before .b .given .1) (c .before .before .before .before .before .ready .ensures .0), (rw (toZ-ofZ (near .fits)) near, seen .1))))
 
-add-requires : tie.Need-add-requires Inv-loop μ-loop
-add-requires c κs = omega (arith, int)
+enum-told : tie.Need-enum-told
+enum-told c = search needs
 
-paint-shape-row-requires : tie.Need-paint-shape-row-requires Inv-loop μ-loop
-paint-shape-row-requires c κs =
-    let entry = c .before .before .before .before .before .before .before .before .before .before .before in
-    let first = c .before .before .before .before .before .before .before .before .before .stroke-rows .ensures .1 .0 in
-    let few = c .before .before .before .before .before .before .before .before .before .stroke-rows .ensures .1 .1 in
-    let more = c .before .before .before .before .if1 .taken in
-    let at = row-is (c .before) in
-    let fits = c .before .add .ensures .fits in (
-      c .before .before .before .before .before .before .loop .inv .size,
-      (
-        entry .pre .1 .0,
-        (
-          c .before .before .before .before .before .before .before .before .ready .ensures .0,
-          rw (toZ-ofZ fits) record {
-            above = omega (arith, int, add-law (c .before .before .before .before .before .before .before .before .before .stroke-rows .result .first) (pos (c .before .before .before .before .before .before .loop .dy)));
-            below = omega (arith, int, add-law (c .before .before .before .before .before .before .before .before .before .stroke-rows .result .first) (pos (c .before .before .before .before .before .before .loop .dy)));
-            fits = fits;
-          },
-        ),
-      ),
-    )
+same-length : tie.Need-same-length
+same-length c = search needs
 
-add-dy : tie.Need-add-dy Inv-loop μ-loop
-add-dy c = omega (arith, int)
-
-loop-less : tie.Need-loop-less Inv-loop μ-loop
-loop-less c = omega (arith, int)
-
-loop-again : tie.Need-loop-again Inv-loop μ-loop
-loop-again c =
-    let entry = c .before .before .before .before .before .before .before .before .before .before .before .before .before .before in
-    let shape = c .before .before .before .before .before .before .before .before .before .before .before .ready .result in
-    let call = c .before .before .paint-shape-row in
-    let before = c .before .before .before .before .before .before .before .before .before .loop .canvas in
-    let same : length (call .last .0) ≡ length before = search needs in
-    rows-turn _ _ _ _ _ _ _ (c .before .before .before .before .before .before .before .before .before .loop .dy) before (call .last .0) (c .before .before .before .before .before .before .before .if1 .taken) same
-    (call .ensures
-    ∙ ap (λ (z : ℤ). paintBy (rowOf shape) (entry .args .style) (entry .args .size .width) (entry .args .size .height) z before)
-    (toZ-ofZ (c .before .before .before .before .add .ensures .fits) ∙ row-is (c .before .before .before .before)))
-    (c .before .before .before .before .before .before .before .before .before .loop .inv)
-
-same-length : tie.Need-same-length Inv-loop μ-loop
-same-length c = omega (arith, int)
-
-returns : tie.Need-returns Inv-loop μ-loop
+returns : tie.Need-returns
 returns c =
-    let entry = c .before .before .before .before .before .before .before in
-    let a = entry .args in
-    let shape = c .before .before .before .before .ready .result in
-    let rows = c .before .before .before .before .before .stroke-rows .result in
-    rows-end (rowOf shape) (a .style) (a .size .width) (a .size .height) (rows .first) (rows .count) (a .canvas .now) (c .before .before .loop .dy) (c .before .before .loop .canvas) (c .if1 .left) (c .before .before .loop .inv)
-    ∙ rows-by-figure (rowOf shape) (a .figure) (a .style) (a .size .width) (a .size .height) (c .before .before .before .before .ready .ensures .1) (rows .count) (rows .first) (a .canvas .now)
-    ∙ ap (λ (r : StrokeRows). paintRows drawing (a .size .width) (a .size .height) (styledFigure (a .figure) (a .style)) (r .first) (r .count) (a .canvas .now)) (c .before .before .before .before .before .stroke-rows .ensures .0)
+    let a = c .before .before .before .before .before .before .before .before .before .before .before .before .args in
+    let seen = c .before .before .before .before .before .before .before .before .before .visible in
+    let shape = styled.Ellipse (c .before .before .before .before .before .before .ellipse .given .0 .0) in
+    c .before .before .paint-ellipse-rows .ensures
+    ∙ ap (λ (z : ℤ). rowsBy (rowOf shape) (a .style) (a .size .width) (a .size .height) z (seen .result .count) (a .canvas .now)) (toZ-ofZ (seen .ensures .1 .0 .fits))
+    ∙ visible-rows-whole (rowOf shape) (a .figure) (a .style) (a .size .width) (a .size .height) (rows-of (c .before .before .before .before .before .before .before .before) shape (c .before .before .before .before .before .before .ellipse .given .1)) (c .before .before .before .before .before .before .before .before .before .before .stroke-rows .result) (c .before .before .before .before .before .before .before .before .before .before .stroke-rows .ensures .0) (a .canvas .now) (seen .result) (seen .ensures .0)
+
+same-length-2 : tie.Need-same-length-2
+same-length-2 c = search needs
+
+returns-2 : tie.Need-returns-2
+returns-2 c =
+    let a = c .before .before .before .before .before .before .before .before .before .before .before .before .args in
+    let seen = c .before .before .before .before .before .before .before .before .before .visible in
+    let shape = styled.RoundedBox (c .before .before .before .before .before .before .b .given .0 .0) in
+    c .before .before .paint-box-rows .ensures
+    ∙ ap (λ (z : ℤ). rowsBy (rowOf shape) (a .style) (a .size .width) (a .size .height) z (seen .result .count) (a .canvas .now)) (toZ-ofZ (seen .ensures .1 .0 .fits))
+    ∙ visible-rows-whole (rowOf shape) (a .figure) (a .style) (a .size .width) (a .size .height) (rows-of (c .before .before .before .before .before .before .before .before) shape (c .before .before .before .before .before .before .b .given .1)) (c .before .before .before .before .before .before .before .before .before .before .stroke-rows .result) (c .before .before .before .before .before .before .before .before .before .before .stroke-rows .ensures .0) (a .canvas .now) (seen .result) (seen .ensures .0)
+
+returns-3 : tie.Need-returns-3
+returns-3 c =
+    let a = c .before .before .before .before .before .before .args in
+    lacking-whole (rowOf styled.Neither) (a .figure) (a .style) (a .size .width) (a .size .height) (rows-of (c .before .before) styled.Neither (c .enum-told .given .1)) (c .before .before .before .before .stroke-rows .result) (c .before .before .before .before .stroke-rows .ensures .0) (a .canvas .now) (λ _. refl)
 
 pub paint-whole-spec : {M : Type 1} → statement M
 paint-whole-spec =
     tie.close
     (tie.spec
-    Inv-loop
-    μ-loop
     stroke-rows-requires
+    visible-requires
     ready-requires
-    no-hints-requires
-    loop-holds
-    from-u32-requires
-    add-requires
-    paint-shape-row-requires
-    add-dy
-    loop-less
-    loop-again
+    enum-known-ellipse
+    paint-ellipse-rows-requires
+    enum-known-b
+    paint-box-rows-requires
+    enum-told
     same-length
-    returns)
+    returns
+    same-length-2
+    returns-2
+    returns-3)

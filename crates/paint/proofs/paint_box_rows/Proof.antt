@@ -1,0 +1,119 @@
+-- `paint::paint_box_rows` meets its contract. The invariant: the rows that are left, painted on the canvas as it is now, make the whole.
+-- Assumes nothing.
+use native.Mathlib.Omega.{arith}
+use Rattle.signed.proofs.Laws.{int}
+use mathlib.Core.Path.{_≡_, ap, _∙_}
+use Prim.Native.Nat.{ℕ, _-_}
+use lib.IntN.{ℤ, pos, _+ℤ_}
+use lib.ListN.{length}
+use mir.Facts.{toZ-ofZ}
+use mir.Syntax.{w32}
+use mir.Val.{toZ, ofZ}
+use borrow.Author.Needs.{needs}
+use Rattle.signed.specs.Signed.{Near}
+use Rattle.signed.proofs.Laws.{add-law}
+use Rattle.geometry.specs.Bounds.{widePoint}
+use Rattle.styled_shape.specs.StyledRow.{boxStyledRow}
+use Rattle.styled_shape.specs.Ready.{strokeBox, fillBox}
+use Rattle.drawing.specs.Drawing.{paintBy}
+use Rattle.drawing.proofs.PaintRow.{paint-by-row}
+use Rattle.paint.specs.Rows.{rowsBy}
+use Rattle.paint.proofs.Painted.{RowsLeft, rows-start, rows-turn, rows-end}
+use Rattle.paint.proofs.paint_box_rows.Statement.{statement}
+use Rattle.paint.proofs.paint_box_rows.Tie as tie
+
+abbrev Inv-loop : tie.InvT-loop
+Inv-loop canvas₀ size b style y count hints₀ dy₀ canvas hints dy =
+    RowsLeft (boxStyledRow (strokeBox (b)) (fillBox (b))) style (size .width) (size .height) (toZ w32 y) count canvas₀ dy canvas
+
+abbrev μ-loop : tie.MeasureT-loop
+μ-loop canvas₀ size b style y count hints₀ dy₀ canvas hints dy = count - dy
+
+-- the row of this turn
+row-is : (c : tie.After-add Inv-loop μ-loop) → c .add .result ≡ toZ w32 (ofZ w32 (c .before .before .before .before .before .before .args .y)) +ℤ pos (c .before .before .before .loop .dy)
+row-is c =
+    let near = c .before .before .before .before .before .before .pre .1 .1 .1 .0 in
+    let fits = near .fits in
+    let sum = c .add .ensures .is in
+    let down = c .before .from-u32 .ensures .is in
+    omega (arith, int, add-law (toZ w32 (ofZ w32 (c .before .before .before .before .before .before .args .y))) (pos (c .before .before .before .loop .dy)))
+
+row-near : (c : tie.After-add Inv-loop μ-loop) → Near widePoint (c .add .result)
+row-near c =
+    let near = c .before .before .before .before .before .before .pre .1 .1 .1 .0 in
+    let high = near .above in
+    let low = near .below in
+    let few = c .before .before .before .before .before .before .pre .1 .1 .1 .1 in
+    let more = c .before .before .loop-test .taken in
+    record {
+      above = omega (arith, int, row-is c, add-law (toZ w32 (ofZ w32 (c .before .before .before .before .before .before .args .y))) (pos (c .before .before .before .loop .dy)));
+      below = omega (arith, int, row-is c, add-law (toZ w32 (ofZ w32 (c .before .before .before .before .before .before .args .y))) (pos (c .before .before .before .loop .dy)));
+      fits = c .add .ensures .fits;
+    }
+
+no-hints-requires : tie.Need-no-hints-requires Inv-loop μ-loop
+no-hints-requires c κs = search needs
+
+loop-holds : tie.Need-loop-holds Inv-loop μ-loop
+loop-holds c = rows-start _ _ _ _ _ _ _ (c .before .before .pre .0)
+
+from-u32-requires : tie.Need-from-u32-requires Inv-loop μ-loop
+from-u32-requires c κs = omega (arith, int)
+
+add-requires : tie.Need-add-requires Inv-loop μ-loop
+add-requires c κs = omega (arith, int)
+
+row-requires : tie.Need-row-requires Inv-loop μ-loop
+row-requires c κs = (c .before .before .before .before .before .before .pre .1 .1 .0, rw (toZ-ofZ (c .add .ensures .fits)) (row-near c))
+
+paint-row-on-requires : tie.Need-paint-row-on-requires Inv-loop μ-loop
+paint-row-on-requires c κs = (c .before .before .before .before .before .loop .inv .size, (c .before .before .before .before .before .before .before .before .pre .1 .0, rw (toZ-ofZ (c .before .before .add .ensures .fits)) (row-near (c .before .before))))
+
+add-dy : tie.Need-add-dy Inv-loop μ-loop
+add-dy c = omega (arith, int)
+
+loop-less : tie.Need-loop-less Inv-loop μ-loop
+loop-less c = omega (arith, int)
+
+loop-again : tie.Need-loop-again Inv-loop μ-loop
+loop-again c =
+    let a = c .before .before .before .before .before .before .before .before .before .before .before .before .args in
+    let call = c .before .before .before .paint-row-on in
+    let before = c .before .before .before .before .before .before .before .before .before .loop .canvas in
+    let row = c .before .before .before .before .before .row .result .row in
+    let rowAt = boxStyledRow (strokeBox (a .b)) (fillBox (a .b)) in
+    let at = toZ-ofZ (c .before .before .before .before .before .before .add .ensures .fits) ∙ row-is (c .before .before .before .before .before .before) in
+    let same : length (call .last .0) ≡ length before = search needs in
+    rows-turn _ _ _ _ _ _ _ (c .before .before .before .before .before .before .before .before .before .loop .dy) before (call .last .0) (c .before .before .before .before .before .before .before .before .loop-test .taken) same
+    (call .ensures
+    ∙ ap (λ (z : ℤ). paintBy (λ _. row) (a .style) (a .size .width) (a .size .height) z before) at
+    ∙ paint-by-row rowAt (a .style) (a .size .width) (a .size .height) before row (toZ w32 (ofZ w32 (a .y)) +ℤ pos (c .before .before .before .before .before .before .before .before .before .loop .dy)) (c .before .before .before .before .before .row .ensures ∙ ap rowAt at))
+    (c .before .before .before .before .before .before .before .before .before .loop .inv)
+
+same-length : tie.Need-same-length Inv-loop μ-loop
+same-length c = omega (arith, int)
+
+returns : tie.Need-returns Inv-loop μ-loop
+returns c =
+    let entry = c .before .before .before .before in
+    let a = entry .args in
+    rows-end (boxStyledRow (strokeBox (a .b)) (fillBox (a .b))) (a .style) (a .size .width) (a .size .height) (toZ w32 (ofZ w32 (a .y))) (a .count) (a .canvas .now) (c .before .loop .dy) (c .before .loop .canvas) (c .loop-test .left) (c .before .loop .inv)
+    ∙ ap (λ (z : ℤ). rowsBy (boxStyledRow (strokeBox (a .b)) (fillBox (a .b))) (a .style) (a .size .width) (a .size .height) z (a .count) (a .canvas .now)) (toZ-ofZ (entry .pre .1 .1 .1 .0 .fits))
+
+pub paint-box-rows-spec : {M : Type 1} → statement M
+paint-box-rows-spec =
+    tie.close
+    (tie.spec
+    Inv-loop
+    μ-loop
+    no-hints-requires
+    loop-holds
+    from-u32-requires
+    add-requires
+    row-requires
+    paint-row-on-requires
+    add-dy
+    loop-less
+    loop-again
+    same-length
+    returns)

@@ -1,0 +1,27 @@
+-- Rows painted one after another, as the code does it: proofs/Painted.antt and proofs/OnCanvas.antt equate it with `painted`.
+-- Assumes nothing.
+use mathlib.Core.List.{List}
+use Prim.Native.Nat.{ℕ, zero, suc, _-_, min}
+use lib.IntN.{ℤ, pos, _+ℤ_, _-ℤ_}
+use Rattle.signed.specs.Signed.{floor0}
+use Rattle.scanline.specs.declared.StyledRow.{StyledRow}
+use Rattle.style.specs.declared.Style.{Style}
+use Rattle.drawing.specs.declared.StrokeRows.{StrokeRows}
+use Rattle.drawing.specs.Drawing.{paintBy}
+
+-- n rows from row y down, by a figure's rows
+unfoldable pub rowsBy : (ℤ → StyledRow) → Style → ℕ → ℕ → ℤ → ℕ → List ℕ → List ℕ
+rowsBy rowAt style W H y zero canvas = canvas
+rowsBy rowAt style W H y (suc n) canvas = rowsBy rowAt style W H (y +ℤ pos 1) n (paintBy rowAt style W H y canvas)
+
+-- how many of a figure's rows lie above the canvas
+abbrev pub rowsAbove : StrokeRows → ℕ
+rowsAbove rows = min (floor0 (pos 0 -ℤ rows .first)) (rows .count)
+
+-- those of its rows that a canvas of height H has
+abbrev pub visibleRows : StrokeRows → ℕ → StrokeRows
+visibleRows rows H =
+    record {
+      first = rows .first +ℤ pos (rowsAbove rows);
+      count = min (rows .count - rowsAbove rows) (floor0 (pos H -ℤ (rows .first +ℤ pos (rowsAbove rows))));
+    }
