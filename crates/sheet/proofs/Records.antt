@@ -21,13 +21,9 @@ use Rattle.sheet_checks.proofs.Places.{layers-are, layer-at, kept-few}
 use Rattle.sheet_checks.proofs.Answers.{added-room, PaintAccepted, painted-accepted}
 
 module _ (s : Sheet) (sixteen : length (s .layers) ≡ 16) (canvas : List ℕ) where
-  -- ---- refused
+  -- ---- refused: the record
   pub refused-record : (call : Call StyledFigure) (n : ℕ) → sheetAnswer s canvas call ≡ refused n → sheetAfter s canvas call ≡ s
   refused-record call n e = rw e
-
-  pub refused-canvas : (call : Call StyledFigure) (n : ℕ) → sheetAnswer s canvas call ≡ refused n → canvasAfter s canvas call ≡ canvas
-  refused-canvas call n e =
-      ap (λ (t : State StyledFigure). t .canvas) (refused-changes-nothing drawing (s .width) (s .height) (stateOf s canvas) call e)
 
   -- ---- added
   module _ (item : StyledFigure) (e : sheetAnswer s canvas (add item) ≡ accepted) where
@@ -90,6 +86,11 @@ module _ (s : Sheet) (sixteen : length (s .layers) ≡ 16) (canvas : List ℕ) w
     painted-state =
         ap₂ (λ (l : Layers drawing) (bytes : List ℕ). record { layers = l; canvas = bytes }) painted-layers painted-canvas
         ∙ sym painted-carried-out
+
+  -- ---- refused: the canvas
+  pub refused-canvas : (call : Call StyledFigure) (n : ℕ) → sheetAnswer s canvas call ≡ refused n → canvasAfter s canvas call ≡ canvas
+  refused-canvas call n e =
+      ap (λ (t : State StyledFigure). t .canvas) (refused-changes-nothing drawing (s .width) (s .height) (stateOf s canvas) call e)
 
   -- ---- The record and the canvas after a call are the sheet and the canvas of `book`'s definitions after it.
   pub state-after : (call : Call StyledFigure)

@@ -22,7 +22,8 @@ abbrev pub said : SheetAnswer → Answer
 said (sheet-answer.Refused refusal) = refused (number refusal)
 said sheet-answer.Accepted = accepted
 
--- a sheet record with the canvas that its paint calls get: the layers are as many as the record says ('The records')
+-- a sheet record with the canvas that its paint calls get: its layers are those in its first places, and 17 if it says more than
+-- 16 ('The records')
 abbrev pub stateOf : Sheet → List ℕ → State StyledFigure
 stateOf s canvas = Layers·stateOf (s .count) (s .layers) canvas
 

@@ -139,10 +139,10 @@ impl Sheet {
         let check = sheet_checks::check_paint(size, self.count, places, layer, canvas.len());
         let Checked::Refused(refusal) = check else {
             let place = layer as usize;
-            let top = places[place];
-            let figure = top.figure;
-            let style = top.style;
-            let row = top.next_row;
+            let chosen = places[place];
+            let figure = chosen.figure;
+            let style = chosen.style;
+            let row = chosen.next_row;
             drawing::paint_row(canvas, size, figure, style, row);
             let mut sheet = self;
             sheet.layers[place] = Layer {

@@ -3,10 +3,13 @@
 -- Assumes nothing.
 use borrow.Author.Needs.{needs}
 use mathlib.Core.Path.{_≡_, refl, sym, ap, _∙_}
-use Prim.Native.Nat.{_<_, _≤_}
+use mathlib.Core.List.{List}
+use Prim.Native.Nat.{ℕ, _<_, _≤_}
 use native.Mathlib.Omega.{arith}
 use lib.IntN.{ℤ, pos, _+ℤ_}
 use lib.ListN.{length, getD}
+use mir.Syntax.{w32}
+use mir.Val.{toZ, ofZ}
 use mir.Facts.{toZ-ofZ}
 use Rattle.signed.proofs.Laws.{int}
 use Rattle.geometry.specs.Bounds.{wideSide}
@@ -61,6 +64,16 @@ has-place c =
 narrow : (c : tie.After-enum-told) → sheet c .width ≤ wideSide
 narrow c = omega (arith, kept-width (sheet c .width) (sheet c .height) (sheet c .count) (sheet c .layers) (sixteen (entry c)) (told c .rules))
 
+-- the sheet with another next row for the layer, and the canvas with the layer's row at y
+abbrev put : tie.After-enum-told → ℤ → Sheet
+put c z =
+    withLayer (sheet c) (sheet c .count) (entry c .args .layer)
+    (record { figure = layer c .figure; style = layer c .style; «next_row» = z })
+
+abbrev written : tie.After-enum-told → ℤ → List ℕ
+written c y =
+    paintRow drawing (sheet c .width) (sheet c .height) (styledFigure (layer c .figure) (layer c .style)) y (entry c .args .canvas .now)
+
 check-paint-requires : tie.Need-check-paint-requires
 check-paint-requires c κs = search needs
 
@@ -70,11 +83,11 @@ enum-known-check c = search needs
 enum-told : tie.Need-enum-told
 enum-told c = search needs
 
-mul-top : tie.Need-mul-top
-mul-top c = search needs
+mul-chosen : tie.Need-mul-chosen
+mul-chosen c = search needs
 
-array-copy-out-top : tie.Need-array-copy-out-top
-array-copy-out-top c = has-place c
+array-copy-out-chosen : tie.Need-array-copy-out-chosen
+array-copy-out-chosen c = has-place c
 
 paint-row-requires : tie.Need-paint-row-requires
 paint-row-requires c κs =
@@ -105,11 +118,9 @@ returns c =
     let moved = toZ-ofZ (c .add .ensures .fits) ∙ c .add .ensures .is ∙ ap (λ (z : ℤ). z +ℤ pos 1) next in (
       sym (passed at),
       (
-        ap (λ (z : ℤ). withLayer (a .self) (a .self .count) (a .layer) (record { figure = layer at .figure; style = layer at .style; «next_row» = z })) moved
-            ∙ sym (painted-record (a .self) (sixteen (entry at)) (a .canvas .now) (a .layer) (passed at)),
-        c .before .before .before .paint-row .ensures
-            ∙ ap (λ (z : ℤ). paintRow drawing (a .self .width) (a .self .height) (styledFigure (layer at .figure) (layer at .style)) z (a .canvas .now)) next
-            ∙ sym (painted-canvas (a .self) (sixteen (entry at)) (a .canvas .now) (a .layer) (passed at)),
+        ap (put at) moved ∙ sym (painted-record (a .self) (sixteen (entry at)) (a .canvas .now) (a .layer) (passed at)),
+        _∙_ {b = written at (toZ w32 (ofZ w32 (layer at .«next_row»)))} (c .before .before .before .paint-row .ensures)
+            (ap (written at) next ∙ sym (painted-canvas (a .self) (sixteen (entry at)) (a .canvas .now) (a .layer) (passed at))),
       ),
     )
 
@@ -134,8 +145,8 @@ paint-spec =
     check-paint-requires
     enum-known-check
     enum-told
-    mul-top
-    array-copy-out-top
+    mul-chosen
+    array-copy-out-chosen
     paint-row-requires
     add-requires
     mul-t16
