@@ -1,8 +1,7 @@
 -- The test `keepsRules` holds exactly where the rules do. Of one layer the two say the same. Of two layers that keep their
--- own rules: runs that meet share the later of their starts, and a row in both makes each start lie below each end.
+-- own rules: runs that meet share the later of their starts, and a row in both makes each start less than each end.
 -- Assumes nothing.
 use mathlib.Core.Path.{_≡_, refl}
-use mathlib.Core.Logic.{_↔_}
 use mathlib.Core.List.{[], _∷_}
 use mathlib.Core.Bool.{Bool, true, false, not, _&&_}
 use Prim.Native.Nat.{ℕ}
@@ -15,7 +14,7 @@ use borrow.Author.Tests.{leb-true, le-leb, not-true}
 use Rattle.signed.proofs.Laws.{int}
 use Rattle.book.specs.Each.{Each, EachTwo}
 use Rattle.book.specs.Book.{Drawing, endRow, hasRow}
-use Rattle.book.specs.Sheet.{isAccepted, Layer, Layers, layerOwes, WithinSide, LayerRules, OrderRule, Rules}
+use Rattle.book.specs.Sheet.{isAccepted, Layer, Layers, layerOwes, WithinSide, LayerRules, OrderRule, Rules, TestIsRules}
 use Rattle.book.specs.Sheet.{layerKeepsRules, overtakes, noneOvertakes, layersKeepRules, fitsSide, keepsRules}
 use Rattle.book.proofs.Tests.{and-true-parts, and-true-of, false-unless, true-false-apart, is-accepted-true}
 use Rattle.book.proofs.EntryRows.{InRun, has-row-true, has-row-holds}
@@ -185,6 +184,6 @@ module _ (d : Drawing) where
         )
         (layers-rules-test layers (r .each) (r .order))
 
-    -- number 7 is answered by the rules of the paper
-    pub keeps-rules-iff : (keepsRules d W H layers ≡ true) ↔ Rules d W H layers
-    keeps-rules-iff = (test-rules, rules-test)
+  -- number 7 is answered by the rules of the paper
+  pub keeps-rules-iff : TestIsRules d
+  keeps-rules-iff W H layers = (test-rules W H layers, rules-test W H layers)

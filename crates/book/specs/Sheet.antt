@@ -3,6 +3,7 @@
 -- `keepsRules`; the law `keeps-rules-iff` (proofs/RulesTest.antt) says that the two agree.
 -- Assumes nothing.
 use mathlib.Core.Path.{_≡_}
+use mathlib.Core.Logic.{_↔_}
 use mathlib.Core.List.{List, [], _∷_, _++_}
 use mathlib.Core.Option.{Option, none, some}
 use mathlib.Core.Bool.{Bool, true, false, cond, not, _&&_, _||_}
@@ -79,7 +80,7 @@ module _ (d : Drawing) where
       isAccepted (d .refuse (l .item)) && (leZ (d .first (l .item)) (l .next) && leZ (l .next) (endRow d (l .item)))
 
   -- The test that two layers break the order ("Sheet"): the rows that the later has painted, first..next, and those that
-  -- the earlier has left, next..end, meet. Two runs meet where each one's start is below each one's end.
+  -- the earlier has left, next..end, meet. Two runs meet where each one's start is less than each one's end.
   unfoldable pub overtakes : Layer (d .Item) → Layer (d .Item) → Bool
   overtakes earlier later =
       (ltZ (d .first (later .item)) (later .next) && ltZ (d .first (later .item)) (endRow d (earlier .item)))
@@ -103,6 +104,10 @@ module _ (d : Drawing) where
   unfoldable pub keepsRules : ℕ → ℕ → Layers → Bool
   keepsRules W H layers =
       (fitsSide W && fitsSide H) && (leb (length layers) (d .maxLayers) && layersKeepRules layers)
+
+  -- The test is true exactly when the rules hold: `keeps-rules-iff` (proofs/RulesTest.antt).
+  abbrev pub TestIsRules : Type 0
+  TestIsRules = (W H : ℕ) (layers : Layers) → (keepsRules W H layers ≡ true) ↔ Rules W H layers
 
   -- The answer to a paint call, by the layer that stands at its number ("The records", the table): 10, then 11, then 12.
   abbrev pub layerAnswer : Layers → ℕ → Option (Layer (d .Item)) → Answer

@@ -6,7 +6,8 @@
 --     6 to 13              the radii's width and height, top-left, top-right, bottom-right, bottom-left
 --     14, 15               stroke and fill: −1 absent, 0 to 255 a colour
 --     16, 17               stroke width; alignment, 0 Inside, 1 Center, 2 Outside
--- The numbers that a call does not use are not looked at: the radii of an ellipse are, and must not be negative.
+-- A paint call's numbers from 2 on, and 18 and 19 of any call, are not looked at; an ellipse's 6 to 13 must not be negative. Numbers
+-- are i32: sides, radii, stroke widths and layers of 2^31 and more, which `Sheet::add` and `Sheet::paint` take too, cannot be written.
 -- Assumes nothing.
 use mathlib.Core.Bool.{Bool, true, cond, _&&_}
 use mathlib.Core.List.{List, [], _∷_}
@@ -62,7 +63,7 @@ isCall numbers =
     within (pos 0) (pos 1) (numberAt numbers 0)
     && cond (leZ (pos 1) (numberAt numbers 0)) (leZ (pos 0) (numberAt numbers 1)) (isFigure numbers)
 
--- ---- Which call it is.
+-- ---- Which call it is, by the numbers above: a paint, an alignment, a size, a rectangle, radii, a box, a figure, a style, a call.
 unfoldable pub paintOf : ℤ → Paint
 paintOf v = cond (ltZ v (pos 0)) Absent (Colour (floor0 v % 256))
 

@@ -29,6 +29,7 @@ pub record StyledFigure : Type 0 where
   pub figure : Figure
   pub style : Style
 
+-- made of the two
 abbrev pub styledFigure : Figure → Style → StyledFigure
 styledFigure f style = record { figure = f; style = style }
 

@@ -19,6 +19,7 @@ boxRows r = record { first = rows r .start; count = r .size .height }
 abbrev pub ellipseRows : Rectangle → StrokeRows
 ellipseRows r = record { first = rows r .start; count = rowCount r }
 
+-- by the shape's kind
 abbrev pub rowsOfShape : Shape → StrokeRows
 rowsOfShape (shape-of.Ellipse r) = ellipseRows r
 rowsOfShape (shape-of.RoundedBox b) = boxRows (b .rectangle)

@@ -1,18 +1,25 @@
 // The layers of a sheet and the rules that they keep, one by one and two by two (refusal 7). The
 // paper adds them; the Rust has no such type.
 use figure::Figure;
+use geometry::Point;
+use geometry::Size;
+use rectangle::Rectangle;
 use refusal::Checked;
+use style::Paint;
+use style::StrokeAlignment;
 use style::Style;
 ghost use mathlib.Core.Path.{_≡_};
 ghost use mathlib.Core.Bool.{true, false, cond};
 ghost use mathlib.Core.List.{map};
 ghost use Prim.Native.Nat.{_≤_};
 ghost use lib.ListN.{take, drop};
+ghost use Rattle.geometry.specs.Limits.{maxLayers};
 ghost use Rattle.book.specs.Sheet.{layerKeepsRules, layersKeepRules};
 ghost use Rattle.drawing.specs.Drawing.{drawing};
-ghost use Rattle.layers.specs.Layers.{layerOf, layerRows, rowsOwe, someRowsOwe, rowsOvertake, noRowsOvertake};
+ghost use Rattle.layers.specs.Layers.{blankLayer, layerOf, layerRows, rowsOwe, someRowsOwe, rowsOvertake, noRowsOvertake};
 ghost use Rattle.layers.specs.declared.RowsFound.the-variants as rows-found;
 
+// A figure with its style on a sheet, and the row that its next paint call paints.
 pub struct Layer {
     pub figure: Figure,
     pub style: Style,
@@ -57,7 +64,29 @@ impl RulesTested {
 
 impl Layer {
     // The largest number of layers of a sheet (refusals 7 and 9).
-    pub const MAX_COUNT: u32 = 16;
+    pub const MAX_LAYERS: u32 = 16;
+
+    // A place that no layer was put in.
+    pub fn blank() -> Layer
+        ensures { λ r. ⌜ r ≡ blankLayer ⌝ }
+    {
+        Layer {
+            figure: Figure::Ellipse(Rectangle {
+                top_left: Point { x: 0, y: 0 },
+                size: Size {
+                    width: 0,
+                    height: 0,
+                },
+            }),
+            style: Style {
+                stroke: Paint::Absent,
+                fill: Paint::Absent,
+                stroke_width: 0,
+                alignment: StrokeAlignment::Inside,
+            },
+            next_row: 0,
+        }
+    }
 
     // The layer's rows, if its figure and style are within limits and its next row among its rows or
     // right after them.
@@ -123,7 +152,7 @@ impl LayerRows {
 
 // Whether one of the first layers owes y.
 pub fn some_owes(rows: [LayerRows; 16], layers: usize, y: i32) -> bool
-    requires { ⌜ layers ≤ 16 ⌝ }
+    requires { ⌜ layers ≤ maxLayers ⌝ }
     ensures { λ r. ⌜ r ≡ someRowsOwe (take layers rows) y ⌝ }
 {
     let mut i: usize = 0;
@@ -140,7 +169,7 @@ pub fn some_owes(rows: [LayerRows; 16], layers: usize, y: i32) -> bool
 // Whether no layer from this place up to the count overtakes an earlier one.
 fn none_overtakes(earlier: LayerRows, rows: [LayerRows; 16], from: usize, count: usize) -> bool
     requires { ⌜ from ≤ count ⌝ }
-    requires { ⌜ count ≤ 16 ⌝ }
+    requires { ⌜ count ≤ maxLayers ⌝ }
     ensures { λ r. ⌜ r ≡ noRowsOvertake earlier (drop from (take count rows)) ⌝ }
 {
     let mut i = from;
@@ -157,7 +186,7 @@ fn none_overtakes(earlier: LayerRows, rows: [LayerRows; 16], from: usize, count:
 // Tests the rules of the first layers, one by one and two by two, from the last to the first: so
 // the rows of all that come later are at hand.
 pub fn test_rules(layers: [Layer; 16], count: usize) -> RulesTested
-    requires { ⌜ count ≤ 16 ⌝ }
+    requires { ⌜ count ≤ maxLayers ⌝ }
     ensures { λ r. ⌜ r .kept ≡ layersKeepRules drawing (map layerOf (take count layers)) ⌝ }
     ensures { λ r. ⌜ (r .kept ≡ true → take count (r .rows) ≡ map layerRows (take count layers)) ⌝ }
 {

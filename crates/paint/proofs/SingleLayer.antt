@@ -8,7 +8,7 @@ use native.Mathlib.Omega.{arith}
 use lib.ListN.{length}
 use Rattle.refusal.specs.declared.Checked.{Checked}
 use Rattle.refusal.specs.declared.Checked.the-variants.{Passed}
-use Rattle.refusal.specs.Refusal.{orElse, keeping}
+use Rattle.refusal.specs.Refusal.{keeping}
 use Rattle.refusal.proofs.Checks.{passed-first}
 use Rattle.figure.specs.declared.Figure.{Figure}
 use Rattle.style.specs.declared.Style.{Style}
@@ -18,7 +18,7 @@ use Rattle.book.specs.Sheet.{State}
 use Rattle.book.specs.Whole.{SingleLayerWhole}
 use Rattle.book.proofs.Whole.{single-layer-whole}
 use Rattle.drawing.specs.Drawing.{StyledFigure, styledFigure, styledCheck, answerOf, drawing}
-use Rattle.paint.specs.Paint.{paintCheck, painted, canvasAfter, SheetComesToTheSame}
+use Rattle.paint.specs.Paint.{paintCheck, painted, SheetComesToTheSame, OneCallIsSheet}
 use Rattle.paint.proofs.Passed.{paint-passed}
 use Rattle.paint.proofs.Painted.{whole-is-painted}
 
@@ -33,8 +33,8 @@ module _ (f : Figure) (style : Style) (W H : ℕ) (lent : List ℕ) (passed : pa
       single-layer-whole drawing W H (within .sides .width-least, within .sides .width-most)
       (within .sides .height-least, within .sides .height-most) (styledFigure f style) figure-allowed (omega arith) lent (within .size)
 
-  pub sheet-comes-to-the-same : SheetComesToTheSame f style W H lent
-  sheet-comes-to-the-same =
+  same-here : SheetComesToTheSame f style W H lent
+  same-here =
       record {
         all-accepted = whole .all-accepted;
         same-bytes =
@@ -42,3 +42,6 @@ module _ (f : Figure) (style : Style) (W H : ℕ) (lent : List ℕ) (passed : pa
             ∙ whole-is-painted f style W H lent (paint-passed f style W H lent passed .size)
             ∙ ap (λ (c : Checked). keeping c lent (painted f style W H lent)) (sym passed);
       }
+
+pub sheet-comes-to-the-same : OneCallIsSheet
+sheet-comes-to-the-same f style W H lent passed = same-here f style W H lent passed

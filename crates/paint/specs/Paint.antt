@@ -5,12 +5,13 @@ use mathlib.Core.List.{List, []}
 use Prim.Native.Nat.{ℕ, suc}
 use lib.ListN.{length, replicate}
 use Rattle.refusal.specs.declared.Checked.{Checked}
+use Rattle.refusal.specs.declared.Checked.the-variants.{Passed}
 use Rattle.refusal.specs.Refusal.{number, orElse, Outcome, refused, answered, unless, keeping}
 use Rattle.figure.specs.declared.Figure.{Figure}
 use Rattle.style.specs.declared.Style.{Style}
 use Rattle.canvas_size.specs.CanvasSize.{canvasSizeCheck, canvasLengthCheck}
-use Rattle.book.specs.Book.{accepted, Drawing}
-use Rattle.book.specs.Sheet.{State, answers, afterAll, opened}
+use Rattle.book.specs.Book.{accepted}
+use Rattle.book.specs.Sheet.{answers, afterAll, opened}
 use Rattle.book.specs.Whole.{overpaintRows, wholeCalls}
 use Rattle.drawing.specs.Drawing.{styledFigure, styledCheck, drawing}
 use Rattle.paint.specs.declared.PaintAnswer.{PaintAnswer}
@@ -37,10 +38,15 @@ paintCall f style W H canvas = unless (paintCheck f style W H canvas) []
 abbrev pub canvasAfter : Figure → Style → ℕ → ℕ → List ℕ → List ℕ
 canvasAfter f style W H canvas = keeping (paintCheck f style W H canvas) canvas (painted f style W H canvas)
 
--- 'the bytes are then those of a sheet with that one layer painted to the end': a sheet just opened takes the figure, accepts a paint
--- call for each of its rows, and comes to the canvas that the one call leaves (`sheet-comes-to-the-same`, proofs/SingleLayer.antt)
+-- a sheet just opened takes the figure, accepts a paint call for each of its rows, and comes to the canvas that the one call leaves
 pub record SheetComesToTheSame (f : Figure) (style : Style) (W H : ℕ) (lent : List ℕ) : Type 0 where
   pub all-accepted : answers drawing W H (opened drawing lent) (wholeCalls drawing (styledFigure f style))
       ≡ replicate (suc (drawing .rows (styledFigure f style))) accepted
   pub same-bytes : afterAll drawing W H (opened drawing lent) (wholeCalls drawing (styledFigure f style)) .canvas
       ≡ canvasAfter f style W H lent
+
+-- 'the bytes are then those of a sheet with that one layer painted to the end': so it is wherever the one call is not refused
+-- (`sheet-comes-to-the-same`, proofs/SingleLayer.antt)
+abbrev pub OneCallIsSheet : Type 0
+OneCallIsSheet =
+    (f : Figure) (style : Style) (W H : ℕ) (lent : List ℕ) → paintCheck f style W H lent ≡ Passed → SheetComesToTheSame f style W H lent

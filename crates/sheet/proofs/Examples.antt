@@ -1,7 +1,7 @@
 -- The examples of document 01's table for a sheet, computed from the definitions: 6 to 12, and the layer that can go on.
 -- Assumes nothing.
 use mathlib.Core.Path.{_≡_, refl}
-use mathlib.Core.List.{List, [], _∷_, _++_}
+use mathlib.Core.List.{List, [], _∷_}
 use Prim.Native.Nat.{ℕ}
 use lib.IntN.{pos}
 use lib.ListN.{replicate}
@@ -23,7 +23,6 @@ use Rattle.book.specs.Book.{accepted, refused, add, paint, hasRow}
 use Rattle.book.specs.Sheet.{answer, keepsRules, layersKeepRules, layerKeepsRules, noneOvertakes, overtakes, someLayerOwes, layerOwes}
 use Rattle.drawing.specs.Rows.{strokeRows}
 use Rattle.drawing.specs.Drawing.{StyledFigure, styledCheck}
-use Rattle.layers.specs.declared.Layer.{Layer}
 use Rattle.layers.specs.Layers.{blankLayer}
 use Rattle.sheet.specs.declared.Sheet.{Sheet}
 use Rattle.sheet.specs.Sheet.{openAnswer, openedSheet, sheetAnswer, addedLayer}

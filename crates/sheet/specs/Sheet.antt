@@ -6,6 +6,7 @@ use Prim.Native.Nat.{ℕ, _+_}
 use lib.IntN.{pos, _+ℤ_}
 use lib.ListN.{set, getD, replicate}
 use Rattle.refusal.specs.Refusal.{number}
+use Rattle.geometry.specs.Limits.{maxLayers}
 use Rattle.canvas_size.specs.CanvasSize.{canvasSizeCheck}
 use Rattle.book.specs.Book.{Answer, accepted, refused, ifAccepted, Call, add, paint}
 use Rattle.book.specs.Sheet.{State, answer, after}
@@ -27,12 +28,12 @@ said sheet-answer.Accepted = accepted
 abbrev pub stateOf : Sheet → List ℕ → State StyledFigure
 stateOf s canvas = Layers·stateOf (s .count) (s .layers) canvas
 
--- ---- Opening ('Sheet'): 6, else accepted; and a sheet of that size without layers.
+-- ---- Opening ('Sheet'): 6, else accepted; and a sheet of that size without layers, after 6 too, when every later call refuses it.
 abbrev pub openAnswer : ℕ → ℕ → Answer
 openAnswer W H = answerOf (canvasSizeCheck W H)
 
 abbrev pub openedSheet : ℕ → ℕ → Sheet
-openedSheet W H = record { width = W; height = H; count = 0; layers = replicate 16 blankLayer }
+openedSheet W H = record { width = W; height = H; count = 0; layers = replicate maxLayers blankLayer }
 
 -- ---- Adding and painting.
 

@@ -4,20 +4,14 @@
 // it was given and changes no byte.
 use canvas_size::CanvasSize;
 use figure::Figure;
-use geometry::Point;
-use geometry::Size;
 use layers::Layer;
-use rectangle::Rectangle;
 use refusal::Checked;
 use refusal::Refusal;
-use style::Paint;
-use style::StrokeAlignment;
 use style::Style;
 ghost use mathlib.Core.Path.{_≡_};
 ghost use mathlib.Core.List.{[]};
 ghost use Rattle.book.specs.Book.{add as Call·add, paint as Call·paint};
 ghost use Rattle.drawing.specs.Drawing.{styledFigure};
-ghost use Rattle.layers.specs.Layers.{blankLayer};
 ghost use Rattle.sheet.specs.Sheet.{said, openAnswer, openedSheet, sheetAnswer, sheetAfter, canvasAfter};
 
 pub struct Sheet {
@@ -38,38 +32,14 @@ pub struct SheetOutcome {
     pub answer: SheetAnswer,
 }
 
-// A place that no layer was put in.
-fn blank_layer() -> Layer
-    ensures { λ r. ⌜ r ≡ blankLayer ⌝ }
-{
-    Layer {
-        figure: Figure::Ellipse(Rectangle {
-            top_left: Point { x: 0, y: 0 },
-            size: Size {
-                width: 0,
-                height: 0,
-            },
-        }),
-        style: Style {
-            stroke: Paint::Absent,
-            fill: Paint::Absent,
-            stroke_width: 0,
-            alignment: StrokeAlignment::Inside,
-        },
-        next_row: 0,
-    }
-}
-
 impl Sheet {
-    // The largest number of layers (refusals 7 and 9).
-    pub const MAX_LAYERS: u32 = Layer::MAX_COUNT;
-
-    // A sheet without layers for a canvas of this size (refusal 6).
+    // A sheet without layers for a canvas of this size (refusal 6). After a refusal too: a sheet of such
+    // a size breaks the rules, so every later call refuses it.
     pub fn open(width: u32, height: u32) -> SheetOutcome
         ensures { λ r. ⌜ said (r .answer) ≡ openAnswer width height ⌝ }
         ensures { λ r. ⌜ r .sheet ≡ openedSheet width height ⌝ }
     {
-        let blank = blank_layer();
+        let blank = Layer::blank();
         let sheet = Sheet {
             width: width,
             height: height,
@@ -102,7 +72,7 @@ impl Sheet {
             height: self.height,
         };
         let places = self.layers;
-        let room = sheet_checks::check_room(size, self.count, places);
+        let room = sheet_checks::check_add(size, self.count, places);
         let check = drawing::check(figure, style).or_else(room);
         let Checked::Refused(refusal) = check else {
             let area = drawing::stroke_rows(figure, style);

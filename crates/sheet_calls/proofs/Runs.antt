@@ -2,7 +2,7 @@
 -- make of those at the start; at the end nothing is left. Demand 3 of a list from a sheet just opened then says the rest.
 -- Assumes nothing.
 use mathlib.Core.Path.{_≡_, refl, sym, ap, ap₂, subst, _∙_}
-use mathlib.Core.Bool.{true, false, not}
+use mathlib.Core.Bool.{true, false}
 use mathlib.Core.List.{List, [], _∷_, map}
 use Prim.Native.Nat.{ℕ, suc, _+_, _*_, _-_, _<_, _≤_}
 use native.Mathlib.Omega.{arith}
@@ -11,23 +11,22 @@ use lib.IntN.{ℤ}
 use lib.ListN.{length, take, drop, set}
 use lib.Seq.{sets}
 use Rattle.refusal.specs.declared.Refusal.{Refusal}
-use Rattle.refusal.specs.declared.Checked.{Checked}
 use Rattle.refusal.specs.declared.Checked.the-variants.{Passed, Refused}
-use Rattle.refusal.specs.Refusal.{number, orElse as firstOf, roomCheck}
+use Rattle.refusal.specs.Refusal.{number}
 use Rattle.canvas_size.specs.CanvasSize.{canvasSizeCheck, canvasLengthCheck}
 use Rattle.canvas_size.proofs.Sides.{canvas-size-passed, canvas-length-passed}
-use Rattle.book.specs.Book.{Answer, accepted, refused, refuseIf, _orElse_, Call, bookAfterAll}
+use Rattle.book.specs.Book.{Answer, Call, bookAfterAll}
 use Rattle.book.specs.Sheet.{State, answer, after, answers, afterAll}
 use Rattle.book.specs.Demand3.{AfterCalls}
-use Rattle.drawing.specs.Drawing.{StyledFigure, answerOf, drawing}
+use Rattle.drawing.specs.Drawing.{StyledFigure, drawing}
 use Rattle.sheet.specs.declared.Sheet.{Sheet}
 use Rattle.sheet.specs.declared.SheetOutcome.{SheetOutcome}
 use Rattle.sheet.specs.Sheet.{said, stateOf, openedSheet}
 use Rattle.sheet.proofs.Records.{state-after, SameFrame, same-frame-after}
 use Rattle.sheet.proofs.Figures.{figures-demand3}
-use Rattle.call_numbers.specs.CallNumbers.{callOf, callNumbers, callsFrom, callCount, encodesCalls}
+use Rattle.call_numbers.specs.CallNumbers.{callOf, callNumbers, callsFrom, encodesCalls}
 use Rattle.call_numbers.proofs.Walks.{call-part}
-use Rattle.sheet_calls.specs.SheetCalls.{answerNumber, runAnswer, Called, answersAfter, stateAfter, Ran}
+use Rattle.sheet_calls.specs.SheetCalls.{answerNumber, allRan, notCalls, refusedBy, lentCheck, runAnswer, Called, answersAfter, stateAfter, Ran}
 
 -- ---- The loop, from a sheet s₀ with its canvas and the list of answers.
 module _ (numbers : List ℤ) (count : ℕ) (s₀ : Sheet) (canvas₀ list : List ℕ) where
@@ -157,31 +156,18 @@ module _ (W H : ℕ) (lent list : List ℕ) (calls : List (Call StyledFigure)) w
       (answered ∙ ap (λ (t : Sheet). answersAfter list t lent calls) just-opened)
       (reached ∙ ap (λ (t : Sheet). stateAfter t lent calls) just-opened)
 
--- ---- The run's own answer.
-first-of-three : (a b c : Checked) (last : Answer)
-    → (answerOf a orElse answerOf b orElse answerOf c orElse last) ≡ (answerOf (firstOf (firstOf a b) c) orElse last)
-first-of-three (Refused r) b c last = refl
-first-of-three Passed (Refused r) c last = refl
-first-of-three Passed Passed (Refused r) last = refl
-first-of-three Passed Passed Passed last = refl
-
+-- ---- What the run says.
 module _ (W H : ℕ) (numbers : List ℤ) (bytes room : ℕ) where
-  -- the checks before any number is read
-  abbrev pub lentCheck : Checked
-  lentCheck = firstOf (firstOf (canvasSizeCheck W H) (canvasLengthCheck W H bytes)) (roomCheck (callCount numbers) room)
-
-  by-checks : runAnswer W H numbers bytes room ≡ (answerOf lentCheck orElse refuseIf (not (encodesCalls numbers)) (refused 14))
+  pub run-refused : (refusal : Refusal) → lentCheck W H numbers bytes room ≡ Refused refusal
+      → runAnswer W H numbers bytes room ≡ refusedBy (number refusal)
   unfolding runAnswer
-  by-checks =
-      first-of-three (canvasSizeCheck W H) (canvasLengthCheck W H bytes) (roomCheck (callCount numbers) room)
-      (refuseIf (not (encodesCalls numbers)) (refused 14))
+  run-refused refusal e = rw e
 
-  pub run-refused : (refusal : Refusal) → lentCheck ≡ Refused refusal → runAnswer W H numbers bytes room ≡ refused (number refusal)
-  run-refused refusal e = by-checks ∙ rw e
+  module _ (passed : lentCheck W H numbers bytes room ≡ Passed) where
+    pub run-not-calls : encodesCalls numbers ≡ false → runAnswer W H numbers bytes room ≡ notCalls
+    unfolding runAnswer
+    run-not-calls none = rw (passed, none)
 
-  module _ (passed : lentCheck ≡ Passed) where
-    pub run-no-calls : encodesCalls numbers ≡ false → runAnswer W H numbers bytes room ≡ refused 14
-    run-no-calls none = by-checks ∙ rw (passed, none)
-
-    pub run-accepted : encodesCalls numbers ≡ true → runAnswer W H numbers bytes room ≡ accepted
-    run-accepted calls = by-checks ∙ rw (passed, calls)
+    pub run-accepted : encodesCalls numbers ≡ true → runAnswer W H numbers bytes room ≡ allRan
+    unfolding runAnswer
+    run-accepted calls = rw (passed, calls)

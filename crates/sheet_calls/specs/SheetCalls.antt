@@ -1,17 +1,19 @@
 -- Demand 3 (document 00) of a function: a list of calls written as numbers, run from a sheet just opened on one canvas.
 -- Assumes nothing.
 use mathlib.Core.Path.{_≡_}
-use mathlib.Core.Bool.{not}
+use mathlib.Core.Bool.{Bool, true, false}
 use mathlib.Core.List.{List, [], map}
 use Prim.Native.Nat.{ℕ}
 use lib.IntN.{ℤ}
 use lib.Seq.{sets}
-use Rattle.refusal.specs.Refusal.{number, roomCheck}
+use Rattle.refusal.specs.declared.Checked.{Checked}
+use Rattle.refusal.specs.declared.Checked.the-variants.{Passed, Refused}
+use Rattle.refusal.specs.Refusal.{number, orElse, roomCheck}
 use Rattle.canvas_size.specs.CanvasSize.{canvasSizeCheck, canvasLengthCheck}
-use Rattle.book.specs.Book.{Answer, accepted, refused, refuseIf, _orElse_, Call, bookAnswers, bookAfterAll}
+use Rattle.book.specs.Book.{Answer, accepted, refused, Call, bookAnswers, bookAfterAll}
 use Rattle.book.specs.Sheet.{State, answers, afterAll}
 use Rattle.book.specs.Demand3.{AfterCalls}
-use Rattle.drawing.specs.Drawing.{StyledFigure, answerOf, drawing}
+use Rattle.drawing.specs.Drawing.{StyledFigure, drawing}
 use Rattle.sheet.specs.declared.Sheet.{Sheet}
 use Rattle.sheet.specs.declared.SheetOutcome.{SheetOutcome}
 use Rattle.sheet.specs.Sheet.{said, stateOf, openedSheet, sheetAnswer, sheetAfter, canvasAfter}
@@ -24,19 +26,31 @@ abbrev pub answerNumber : Answer → ℕ
 answerNumber accepted = 0
 answerNumber (refused n) = n
 
--- what a run answers. 14 is no number of the table: numbers that encode no call
-abbrev pub runSaid : RunAnswer → Answer
-runSaid (run-answer.Refused refusal) = refused (number refusal)
-runSaid run-answer.NoCalls = refused 14
-runSaid run-answer.Ran = accepted
+-- what a run says: it ran; the numbers are no list of calls, which has no number in the table; or it is refused by a number
+pub data RunSays : Type 0 where
+  allRan : RunSays
+  notCalls : RunSays
+  refusedBy : ℕ → RunSays
 
--- the lowest of 6, 8, 13 and 14 that applies, before any call is made
-unfoldable pub runAnswer : ℕ → ℕ → List ℤ → ℕ → ℕ → Answer
-runAnswer W H numbers bytes room =
-    answerOf (canvasSizeCheck W H)
-    orElse answerOf (canvasLengthCheck W H bytes)
-    orElse answerOf (roomCheck (callCount numbers) room)
-    orElse refuseIf (not (encodesCalls numbers)) (refused 14)
+abbrev pub runSaid : RunAnswer → RunSays
+runSaid (run-answer.Refused refusal) = refusedBy (number refusal)
+runSaid run-answer.NotCalls = notCalls
+runSaid run-answer.Ran = allRan
+
+-- by what the checks of what is lent find, and whether the numbers are calls
+abbrev pub saysAfter : Checked → Bool → RunSays
+saysAfter (Refused refusal) areCalls = refusedBy (number refusal)
+saysAfter Passed true = allRan
+saysAfter Passed false = notCalls
+
+-- 6, 8 and 13 of what is lent, before any number is read
+abbrev pub lentCheck : ℕ → ℕ → List ℤ → ℕ → ℕ → Checked
+lentCheck W H numbers bytes room =
+    orElse (orElse (canvasSizeCheck W H) (canvasLengthCheck W H bytes)) (roomCheck (callCount numbers) room)
+
+-- what a run with these numbers says, with a canvas of so many bytes and room for so many answers
+unfoldable pub runAnswer : ℕ → ℕ → List ℤ → ℕ → ℕ → RunSays
+runAnswer W H numbers bytes room = saysAfter (lentCheck W H numbers bytes room) (encodesCalls numbers)
 
 -- one call on a sheet with its canvas
 pub record Called (call : Call StyledFigure) (s : Sheet) (canvas : List ℕ) (r : SheetOutcome) (canvas-after : List ℕ) : Type 0 where
@@ -53,7 +67,8 @@ abbrev pub stateAfter : Sheet → List ℕ → List (Call StyledFigure) → Stat
 stateAfter s canvas calls = afterAll drawing (s .width) (s .height) (stateOf s canvas) calls
 
 -- what a list of calls leaves: the sheet keeps its size, its answers are the book's, and demand 3 holds of the sheet and the canvas.
--- So the unused layer places of the sheet alone are left free
+-- So the unused layer places of the sheet alone are left free. Where demand 3 speaks of the answer to a paint call that may come
+-- next, that is the answer of `Sheet::paint` on this sheet with this canvas, by its own promise
 pub record Ran (W H : ℕ) (calls : List (Call StyledFigure)) (lent list : List ℕ) (s : Sheet) (canvas told : List ℕ)
     : Type 0 where
   pub width : s .width ≡ W
@@ -61,13 +76,14 @@ pub record Ran (W H : ℕ) (calls : List (Call StyledFigure)) (lent list : List 
   pub answered : told ≡ sets list 0 (map answerNumber (bookAnswers drawing [] calls))
   pub reached : AfterCalls drawing W H lent (stateOf s canvas) (bookAfterAll drawing [] calls)
 
--- what a refused run leaves: a sheet just opened, and what was lent
+-- what a run leaves that did not take place: a sheet just opened, and what was lent
 pub record NotRun (W H : ℕ) (lent list : List ℕ) (s : Sheet) (canvas told : List ℕ) : Type 0 where
   pub sheet : s ≡ openedSheet W H
   pub kept-canvas : canvas ≡ lent
   pub kept-answers : told ≡ list
 
--- by the run's answer
-abbrev pub RunLeaves : Answer → ℕ → ℕ → List (Call StyledFigure) → List ℕ → List ℕ → Sheet → List ℕ → List ℕ → Type 0
-RunLeaves accepted W H calls lent list s canvas told = Ran W H calls lent list s canvas told
-RunLeaves (refused n) W H calls lent list s canvas told = NotRun W H lent list s canvas told
+-- by what the run says
+abbrev pub RunLeaves : RunSays → ℕ → ℕ → List (Call StyledFigure) → List ℕ → List ℕ → Sheet → List ℕ → List ℕ → Type 0
+RunLeaves allRan W H calls lent list s canvas told = Ran W H calls lent list s canvas told
+RunLeaves notCalls W H calls lent list s canvas told = NotRun W H lent list s canvas told
+RunLeaves (refusedBy n) W H calls lent list s canvas told = NotRun W H lent list s canvas told

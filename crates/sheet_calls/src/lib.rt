@@ -16,8 +16,8 @@ ghost use Rattle.sheet_calls.specs.SheetCalls.{answerNumber, runSaid, ru
 
 pub enum RunAnswer {
     Refused(Refusal),
-    // The numbers are no calls (14).
-    NoCalls,
+    // The numbers are no list of calls.
+    NotCalls,
     Ran,
 }
 
@@ -78,9 +78,9 @@ fn make_calls(
     current
 }
 
-// Runs a list of calls from a sheet just opened, on a canvas of its size. Refused by 6, 8 and 13,
-// and by 14 where the numbers are no calls; then nothing is run and nothing written. Else each
-// call's answer is written, 0 for accepted, and the canvas is left as the calls painted it.
+// Runs a list of calls from a sheet just opened, on a canvas of its size. Refused by 6, 8 and 13, and
+// answered `NotCalls` for numbers that are no list of calls: then nothing is run and nothing written.
+// Else each call's answer is written, 0 for accepted, and the canvas is left as the calls painted it.
 pub fn run_calls(
     width: u32,
     height: u32,
@@ -104,7 +104,7 @@ pub fn run_calls(
         if !call_numbers::encodes_calls(calls) {
             return RunOutcome {
                 sheet: sheet,
-                answer: RunAnswer::NoCalls,
+                answer: RunAnswer::NotCalls,
             };
         }
         let made = make_calls(sheet, count, calls, canvas, answers);

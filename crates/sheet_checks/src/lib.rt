@@ -1,5 +1,5 @@
 // The refusals 7 to 12 of a sheet with its size, its count and its places for layers, whatever they
-// hold. They are a crate of their own, since its proofs take as long as the rest of the sheet's.
+// hold. They are a crate of their own, since their proofs take as long as the rest of the sheet's.
 use canvas_size::CanvasSize;
 use layers::Layer;
 use layers::RulesTested;
@@ -23,7 +23,7 @@ pub fn test_rules(size: CanvasSize, count: u32, places: [Layer; 16]) -> RulesTes
     match size.check() {
         Checked::Refused(_) => RulesTested::broken(),
         Checked::Passed => {
-            if Layer::MAX_COUNT < count {
+            if Layer::MAX_LAYERS < count {
                 return RulesTested::broken();
             }
             layers::test_rules(places, count as usize)
@@ -32,14 +32,14 @@ pub fn test_rules(size: CanvasSize, count: u32, places: [Layer; 16]) -> RulesTes
 }
 
 // Refusals 7 and 9 of adding.
-pub fn check_room(size: CanvasSize, count: u32, places: [Layer; 16]) -> Checked
+pub fn check_add(size: CanvasSize, count: u32, places: [Layer; 16]) -> Checked
     ensures { λ r. ⌜ ((item : StyledFigure) (canvas : List ℕ) → answer drawing (size .width) (size .height) (stateOf count places canvas) (Call·add item) ≡ (drawing .refuse item orElse answerOf r)) ⌝ }
 {
     let tested = test_rules(size, count, places);
     if !tested.kept {
         return Checked::Refused(Refusal::SheetRule);
     }
-    if Layer::MAX_COUNT <= count {
+    if Layer::MAX_LAYERS <= count {
         return Checked::Refused(Refusal::SheetFull);
     }
     Checked::Passed

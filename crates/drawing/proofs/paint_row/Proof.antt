@@ -1,7 +1,5 @@
 -- `drawing::paint_row` meets its contract: the row asked for is the definition's.
 -- Assumes nothing.
-use native.Mathlib.Omega.{arith}
-use Rattle.signed.proofs.Laws.{int}
 use borrow.Author.Needs.{needs}
 use mathlib.Core.Path.{refl, ap, _∙_}
 use lib.IntN.{ℤ}

@@ -3,7 +3,7 @@
 use native.Mathlib.Omega.{arith}
 use Rattle.signed.proofs.Laws.{int}
 use mathlib.Core.Path.{_≡_, ap, _∙_}
-use Prim.Native.Nat.{ℕ, _-_}
+use Prim.Native.Nat.{_-_}
 use lib.IntN.{ℤ, pos, _+ℤ_}
 use lib.ListN.{length}
 use mir.Facts.{toZ-ofZ}

@@ -1,7 +1,5 @@
 -- `paint::paint_whole` meets its contract: the kind says whose rows are painted, and the visible ones make the whole.
 -- Assumes nothing.
-use native.Mathlib.Omega.{arith}
-use Rattle.signed.proofs.Laws.{int}
 use borrow.Author.Needs.{needs}
 use mathlib.Core.Path.{_≡_, refl, sym, ap, subst, _∙_}
 use lib.IntN.{ℤ}

@@ -13,7 +13,8 @@ use Rattle.refusal.specs.Refusal.{orElse as firstOf, roomCheck}
 use Rattle.refusal.proofs.Checks.{passed-first, passed-next, passed-above}
 use Rattle.canvas_size.specs.CanvasSize.{canvasSizeCheck, canvasLengthCheck}
 use Rattle.call_numbers.specs.CallNumbers.{callCount, callsOf}
-use Rattle.sheet_calls.proofs.Runs.{run-from, lentCheck, run-refused, run-no-calls, run-accepted}
+use Rattle.sheet_calls.specs.SheetCalls.{lentCheck}
+use Rattle.sheet_calls.proofs.Runs.{run-from, run-refused, run-not-calls, run-accepted}
 use Rattle.sheet_calls.proofs.run_calls.Statement.{statement}
 use Rattle.sheet_calls.proofs.run_calls.Tie as tie
 
@@ -82,13 +83,13 @@ enum-told c = search needs
 encodes-calls-requires : tie.Need-encodes-calls-requires
 encodes-calls-requires c κs = search needs
 
--- 14
+-- no list of calls
 returns : tie.Need-returns
 returns c =
     let told = c .before .before in
     let a = entry told .args in
     let none = sym (c .before .encodes-calls .ensures) ∙ not-true _ (c .if1 .taken) in (
-      sym (run-no-calls (a .width) (a .height) (a .calls .now) (length (a .canvas .now)) (length (a .answers .now)) (passed told) none),
+      sym (run-not-calls (a .width) (a .height) (a .calls .now) (length (a .canvas .now)) (length (a .answers .now)) (passed told) none),
       record { sheet = told .before .before .before .before .before .before .before .before .«open» .ensures .1; kept-canvas = refl; kept-answers = refl },
     )
 

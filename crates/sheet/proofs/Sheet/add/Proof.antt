@@ -35,7 +35,7 @@ checked : (c : tie.After-or-else)
     ≡ answerOf (c .or-else .result)
 checked c =
     let figure = c .before .check in
-    let room = c .before .before .check-room in
+    let room = c .before .before .check-add in
     room .ensures (item (c .before .before .before .before)) []
     ∙ ap (λ (t : Answer). t orElse answerOf (room .result)) (ap answerOf (sym (figure .ensures)))
     ∙ sym (ap answerOf (c .or-else .ensures) ∙ answer-or-else (figure .result) (room .result))
@@ -51,7 +51,7 @@ figure-passed : (c : tie.After-enum-told) → styledCheck (entry c .args .figure
 figure-passed c =
     let figure = c .before .before .before .check in
     sym (figure .ensures)
-    ∙ passed-first (figure .result) (c .before .before .before .before .check-room .result)
+    ∙ passed-first (figure .result) (c .before .before .before .before .check-add .result)
     (sym (c .before .before .or-else .ensures) ∙ c .enum-told .given .1)
 
 room : (c : tie.After-enum-told) → entry c .args .self .count < 16
@@ -59,8 +59,8 @@ room c =
     let s = entry c .args .self in
     added-room (s .width) (s .height) (s .count) (s .layers) (sixteen (entry c)) (item (entry c)) [] (passed c)
 
-check-room-requires : tie.Need-check-room-requires
-check-room-requires c κs = search needs
+check-add-requires : tie.Need-check-add-requires
+check-add-requires c κs = search needs
 
 check-requires : tie.Need-check-requires
 check-requires c κs = search needs
@@ -112,7 +112,7 @@ pub add-spec : {M : Type 1} → statement M
 add-spec =
     tie.close
     (tie.spec
-    check-room-requires
+    check-add-requires
     check-requires
     or-else-requires
     enum-known-check

@@ -10,13 +10,13 @@ use Rattle.sheet.specs.Sheet.{openedSheet}
 use Rattle.sheet.proofs.Sheet.open.Statement.{statement}
 use Rattle.sheet.proofs.Sheet.open.Tie as tie
 
-made : (c : tie.After-blank-layer)
-    → _≡_ {A = Sheet} (record { width = c .before .args .width; height = c .before .args .height; count = 0; layers = replicate 16 (c .blank-layer .result) })
+made : (c : tie.After-blank)
+    → _≡_ {A = Sheet} (record { width = c .before .args .width; height = c .before .args .height; count = 0; layers = replicate 16 (c .blank .result) })
     (openedSheet (c .before .args .width) (c .before .args .height))
-made c = ap (λ (l : Layer). record { width = c .before .args .width; height = c .before .args .height; count = 0; layers = replicate 16 l }) (c .blank-layer .ensures)
+made c = ap (λ (l : Layer). record { width = c .before .args .width; height = c .before .args .height; count = 0; layers = replicate 16 l }) (c .blank .ensures)
 
-blank-layer-requires : tie.Need-blank-layer-requires
-blank-layer-requires c κs = search needs
+blank-requires : tie.Need-blank-requires
+blank-requires c κs = search needs
 
 check-requires : tie.Need-check-requires
 check-requires c κs = search needs
@@ -40,4 +40,4 @@ returns-2 c = (sym (ap answerOf (sym (c .before .before .before .check .ensures)
 pub open-spec : {M : Type 1} → statement M
 open-spec =
     tie.close
-    (tie.spec blank-layer-requires check-requires enum-known-refusal enum-told returns returns-2)
+    (tie.spec blank-requires check-requires enum-known-refusal enum-told returns returns-2)

@@ -1,4 +1,4 @@
--- `sheet_checks::check_room` meets its contract: whether the rules are kept, and then whether a place is free.
+-- `sheet_checks::check_add` meets its contract: whether the rules are kept, and then whether a place is free.
 -- Assumes nothing.
 use mathlib.Core.Path.{_≡_, sym, _∙_}
 use native.Mathlib.Omega.{arith}
@@ -6,8 +6,8 @@ use borrow.Author.Needs.{needs}
 use borrow.Author.Tests.{not-true, not-false}
 use lib.ListN.{length}
 use Rattle.sheet_checks.proofs.Answers.{add-broken, add-full, add-free}
-use Rattle.sheet_checks.proofs.check_room.Statement.{statement}
-use Rattle.sheet_checks.proofs.check_room.Tie as tie
+use Rattle.sheet_checks.proofs.check_add.Statement.{statement}
+use Rattle.sheet_checks.proofs.check_add.Tie as tie
 
 sixteen : (c : tie.Start) → length (c .args .places) ≡ 16
 sixteen c = omega arith
@@ -40,5 +40,5 @@ returns-3 c =
     λ item canvas.
     add-free (a .size .width) (a .size .height) (a .count) (a .places) (sixteen entry) item canvas rules (c .if2 .left)
 
-pub check-room-spec : {M : Type 1} → statement M
-check-room-spec = tie.close (tie.spec test-rules-requires returns returns-2 returns-3)
+pub check-add-spec : {M : Type 1} → statement M
+check-add-spec = tie.close (tie.spec test-rules-requires returns returns-2 returns-3)
