@@ -13,7 +13,7 @@ use Rattle.book.specs.Book.{painters, overpainted}
 use Rattle.book.specs.Canvas.{canvasRow, putRow}
 use Rattle.book.specs.Whole.{paintRows, paintWhole}
 use Rattle.book.specs.Sheet.{State, layerOwes, someLayerOwes, layerKeepsRules, overtakes, noneOvertakes}
-use Rattle.book.specs.Sheet.{layersKeepRules, keepsRules, answer, paintRow, carriedOut, after, answers, afterAll}
+use Rattle.book.specs.Sheet.{layersKeepRules, keepsRules, answer, withRow, carriedOut, after, answers, afterAll}
 use Rattle.book.specs.Sheet.{opened}
 
 -- a bar: its first row, how many rows it has, and its colour
@@ -126,7 +126,7 @@ listAnswers =
 
 list-answers : answers bars 2 2 (opened bars lentCanvas) listCalls ≡ listAnswers
 unfolding answers answer keepsRules layersKeepRules layerKeepsRules noneOvertakes overtakes someLayerOwes layerOwes hasRow
-    after carriedOut paintRow putRow canvasRow
+    after carriedOut withRow putRow canvasRow
 list-answers = refl
 
 list-book-answers : bookAnswers bars [] listCalls ≡ listAnswers
@@ -135,7 +135,7 @@ list-book-answers = refl
 
 list-canvas : afterAll bars 2 2 (opened bars lentCanvas) listCalls .canvas ≡ 7 ∷ 7 ∷ 3 ∷ 4 ∷ []
 unfolding afterAll answer keepsRules layersKeepRules layerKeepsRules noneOvertakes overtakes someLayerOwes layerOwes hasRow
-    after carriedOut paintRow putRow canvasRow
+    after carriedOut withRow putRow canvasRow
 list-canvas = refl
 
 list-book-row : overpainted bars (painters bars (bookAfterAll bars [] listCalls) (pos 0)) (pos 0) (1 ∷ 2 ∷ []) ≡ 7 ∷ 7 ∷ []
@@ -143,5 +143,5 @@ unfolding bookAfterAll bookAnswer bookAfter noted noneLeft someOwes isLeft hasRo
 list-book-row = refl
 
 whole-canvas : paintWhole bars 2 2 (tall 5) lentCanvas ≡ 5 ∷ 5 ∷ 3 ∷ 4 ∷ []
-unfolding paintRows paintRow putRow canvasRow
+unfolding paintRows withRow putRow canvasRow
 whole-canvas = refl

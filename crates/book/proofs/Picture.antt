@@ -15,7 +15,7 @@ use Rattle.book.specs.Each.{Each}
 use Rattle.book.specs.Canvas.{canvasRow, putRow}
 use Rattle.book.specs.Book.{Answer, accepted, refused, ifAccepted, Drawing, Call, add, paint, Entry, Book}
 use Rattle.book.specs.Book.{firstLeft, hasPainted, bookAnswer, noted, bookAfter, painters, overpainted}
-use Rattle.book.specs.Sheet.{paintRow}
+use Rattle.book.specs.Sheet.{withRow, paintRow}
 use Rattle.book.proofs.Tests.{false-unless}
 use Rattle.book.proofs.EachLaws.{each-implies, each-two-later}
 use Rattle.book.proofs.Lists.{split-at-element, set-at-element}
@@ -96,7 +96,7 @@ module _ (d : Drawing) where
 
     pub paint-row-length : (item : d .Item) (z : ℤ) (canvas : List ℕ) → length canvas ≡ W * H
         → length (paintRow d W H item z canvas) ≡ W * H
-    unfolding paintRow
+    unfolding withRow
     paint-row-length item (pos y) canvas size = by-test (ltb y H) refl
       where
         row : List ℕ
@@ -111,7 +111,7 @@ module _ (d : Drawing) where
 
     pub paint-row-here : (item : d .Item) (y : ℕ) (canvas : List ℕ) → length canvas ≡ W * H → y < H
         → canvasRow W y (paintRow d W H item (pos y) canvas) ≡ d .over item (pos y) (canvasRow W y canvas)
-    unfolding paintRow
+    unfolding withRow
     paint-row-here item y canvas size low =
         rw (lt-ltb y H low)
         (put-row-here W H y canvas low size (d .over item (pos y) (canvasRow W y canvas))
@@ -119,7 +119,7 @@ module _ (d : Drawing) where
 
     pub paint-row-other : (item : d .Item) (z : ℤ) (y : ℕ) (canvas : List ℕ) → length canvas ≡ W * H → y < H
         → (pos y ≡ z → ⊥) → canvasRow W y (paintRow d W H item z canvas) ≡ canvasRow W y canvas
-    unfolding paintRow
+    unfolding withRow
     paint-row-other item (pos z) y canvas size low other = by-test (ltb z H) refl
       where
         row : List ℕ

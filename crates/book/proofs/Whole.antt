@@ -13,7 +13,7 @@ use borrow.Author.Tests.{lt-leb, le-ltb}
 use Rattle.signed.proofs.Laws.{int, add-law}
 use Rattle.book.specs.Book.{Answer, accepted, Drawing, add, paint, Book, firstLeft, someOwes, noneLeft, bookAnswer}
 use Rattle.book.specs.Book.{noted, bookAfter}
-use Rattle.book.specs.Sheet.{State, WithinSide, paintRow, after, answers, afterAll, opened}
+use Rattle.book.specs.Sheet.{withRow, State, WithinSide, paintRow, after, answers, afterAll, opened}
 use Rattle.book.specs.Whole.{paintRows, SingleLayerWhole}
 use Rattle.book.proofs.BookInOrder.{InOrder, empty-book-in-order}
 use Rattle.book.proofs.SheetOfBook.{sheetOf, answer-is-book, canvasAfter, after-is-book, next-down}
@@ -31,13 +31,13 @@ module _ (d : Drawing) (W H : ℕ) where
   -- rows above the canvas, and rows below it, write nothing
   pub paint-row-above : (item : d .Item) (y : ℤ) (canvas : List ℕ) → ltZ y (pos 0) ≡ true
       → paintRow d W H item y canvas ≡ canvas
-  unfolding paintRow
+  unfolding withRow
   paint-row-above item (pos y) canvas h = absurd (omega (arith, int))
   paint-row-above item (negsuc y) canvas h = refl
 
   pub paint-row-below : (item : d .Item) (y : ℤ) (canvas : List ℕ) → leZ (pos H) y ≡ true
       → paintRow d W H item y canvas ≡ canvas
-  unfolding paintRow
+  unfolding withRow
   paint-row-below item (pos y) canvas h = rw (le-ltb y H (omega (arith, int)))
   paint-row-below item (negsuc y) canvas h = refl
 

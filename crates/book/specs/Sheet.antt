@@ -33,6 +33,12 @@ abbrev pub isAccepted : Answer → Bool
 isAccepted accepted = true
 isAccepted (refused n) = false
 
+-- A canvas of W by H with its row y made into another, by a function of the row's number and its bytes; as it was where y is not a
+-- row of the canvas ("Sheet": pixels off the canvas are skipped).
+unfoldable pub withRow : (ℤ → List ℕ → List ℕ) → ℕ → ℕ → ℤ → List ℕ → List ℕ
+withRow over W H (pos y) canvas = cond (ltb y H) (putRow W y (over (pos y) (canvasRow W y canvas)) canvas) canvas
+withRow over W H (negsuc y) canvas = canvas
+
 module _ (d : Drawing) where
   -- The layers of a sheet, the earliest first ("Sheet").
   abbrev pub Layers : Type 0
@@ -129,10 +135,8 @@ module _ (d : Drawing) where
       orElse layerAnswer (s .layers) i (getElem? (s .layers) i)
 
   -- The styled row of an item at y written onto the canvas ("Sheet"): nothing where y is not a row of the canvas.
-  unfoldable pub paintRow : ℕ → ℕ → d .Item → ℤ → List ℕ → List ℕ
-  paintRow W H item (pos y) canvas =
-      cond (ltb y H) (putRow W y (d .over item (pos y) (canvasRow W y canvas)) canvas) canvas
-  paintRow W H item (negsuc y) canvas = canvas
+  abbrev pub paintRow : ℕ → ℕ → d .Item → ℤ → List ℕ → List ℕ
+  paintRow W H item y canvas = withRow (d .over item) W H y canvas
 
   -- An accepted paint call ("Sheet"): the layer's row at its next row is written, and next row moves down by one.
   abbrev pub paintedLayer : ℕ → ℕ → State (d .Item) → ℕ → Option (Layer (d .Item)) → State (d .Item)

@@ -18,7 +18,7 @@ use Rattle.scanline.specs.declared.StyledRow.the-variants.{Runs, NoRow}
 use Rattle.figure.specs.declared.Figure.{Figure}
 use Rattle.style.specs.declared.Style.{Style}
 use Rattle.book.specs.Canvas.{canvasRow, putRow}
-use Rattle.book.specs.Sheet.{paintRow}
+use Rattle.book.specs.Sheet.{withRow, paintRow}
 use Rattle.styled.specs.Styled.{styledRow}
 use Rattle.canvas.specs.Canvas.{overpaint, overpaintAt}
 use Rattle.drawing.specs.Drawing.{styledFigure, overpaintBy, paintBy, drawing}
@@ -34,7 +34,7 @@ module _ (rowAt : ℤ → StyledRow) (style : Style) (W H : ℕ) (canvas : List 
   -- a figure's rows are those of its definition
   pub paint-by-figure : (f : Figure) → ((y : ℤ) → rowAt y ≡ styledRow f style y) → (y : ℤ)
       → paintBy rowAt style W H y canvas ≡ paintRow drawing W H (styledFigure f style) y canvas
-  unfolding paintRow overpaintBy paintBy
+  unfolding withRow overpaintBy
   paint-by-figure f is (pos y) =
       ap (λ (row : StyledRow). cond (ltb y H) (putRow W y (overpaint style row (canvasRow W y canvas)) canvas) canvas) (is (pos y))
   paint-by-figure f is (negsuc y) = refl
@@ -42,14 +42,14 @@ module _ (rowAt : ℤ → StyledRow) (style : Style) (W H : ℕ) (canvas : List 
   -- only the row at y counts
   pub paint-by-row : (row : StyledRow) (y : ℤ) → row ≡ rowAt y
       → paintBy (λ _. row) style W H y canvas ≡ paintBy rowAt style W H y canvas
-  unfolding paintBy
+  unfolding withRow
   paint-by-row row (pos y) is =
       ap (λ (r : StyledRow). cond (ltb y H) (putRow W y (overpaint style r (canvasRow W y canvas)) canvas) canvas) is
   paint-by-row row (negsuc y) is = refl
 
   -- a row that the figure lacks
   pub paint-by-lacking : (y : ℤ) → rowAt y ≡ NoRow → paintBy rowAt style W H y canvas ≡ canvas
-  unfolding paintBy
+  unfolding withRow
   paint-by-lacking (pos y) is = by-test (ltb y H)
     where
       by-test : (t : Bool) → cond t (putRow W y (overpaint style (rowAt (pos y)) (canvasRow W y canvas)) canvas) canvas ≡ canvas
@@ -60,12 +60,12 @@ module _ (rowAt : ℤ → StyledRow) (style : Style) (W H : ℕ) (canvas : List 
 
   -- rows that the canvas lacks
   pub paint-by-above : (y : ℤ) → ltZ y (pos 0) ≡ true → paintBy rowAt style W H y canvas ≡ canvas
-  unfolding paintBy
+  unfolding withRow
   paint-by-above (pos y) above = absurd (omega (arith, int))
   paint-by-above (negsuc y) above = refl
 
   pub paint-by-below : (y : ℤ) → ltZ y (pos 0) ≡ false → H ≤ floor0 y → paintBy rowAt style W H y canvas ≡ canvas
-  unfolding paintBy
+  unfolding withRow
   paint-by-below (pos y) from low = rw (le-ltb y H (omega arith))
   paint-by-below (negsuc y) from low = refl
 
@@ -74,7 +74,7 @@ module _ (rowAt : ℤ → StyledRow) (style : Style) (W H : ℕ) (canvas : List 
   with row y = putRow W (floor0 y) (overpaint style row (canvasRow W (floor0 y) canvas)) canvas
 
   paint-by-on : (y : ℤ) → ltZ y (pos 0) ≡ false → floor0 y < H → paintBy rowAt style W H y canvas ≡ with (rowAt y) y
-  unfolding paintBy
+  unfolding withRow
   paint-by-on (pos y) from low =
       let here : floor0 (pos y) ≡ y = omega arith in
       rw (here, lt-ltb y H (omega arith))

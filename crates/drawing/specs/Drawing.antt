@@ -1,11 +1,9 @@
 -- The drawing of demand 3: figures with their styles, their rows and what those make of a canvas row, for the definitions of `book`.
 -- Assumes nothing.
 use mathlib.Core.Path.{_≡_}
-use mathlib.Core.Bool.{cond}
 use mathlib.Core.List.{List}
 use Prim.Native.Nat.{ℕ}
-use lib.Dec.{ltb}
-use lib.IntN.{ℤ, pos, negsuc}
+use lib.IntN.{ℤ}
 use lib.ListN.{length}
 use Rattle.refusal.specs.declared.Checked.{Checked}
 use Rattle.refusal.specs.declared.Checked.the-variants as checked
@@ -18,7 +16,7 @@ use Rattle.figure.specs.Calls.{figureCheck}
 use Rattle.style.specs.declared.Style.{Style}
 use Rattle.style.specs.Style.{styleCheck}
 use Rattle.styled.specs.Styled.{styledRow}
-use Rattle.book.specs.Canvas.{canvasRow, putRow}
+use Rattle.book.specs.Sheet.{withRow}
 use Rattle.book.specs.Book.{Answer, accepted, refused, Drawing}
 use Rattle.canvas.specs.Canvas.{overpaint}
 use Rattle.canvas.proofs.Overpaint.{overpaint-length}
@@ -47,10 +45,8 @@ unfoldable pub overpaintBy : StyledFigure → ℤ → List ℕ → List ℕ
 overpaintBy item y row = overpaint (item .style) (styledRow (item .figure) (item .style) y) row
 
 -- a canvas with its row y, if it has that row, overpainted by the styled row there of any figure, given by its rows
-unfoldable pub paintBy : (ℤ → StyledRow) → Style → ℕ → ℕ → ℤ → List ℕ → List ℕ
-paintBy rowAt style W H (pos y) canvas =
-    cond (ltb y H) (putRow W y (overpaint style (rowAt (pos y)) (canvasRow W y canvas)) canvas) canvas
-paintBy rowAt style W H (negsuc y) canvas = canvas
+abbrev pub paintBy : (ℤ → StyledRow) → Style → ℕ → ℕ → ℤ → List ℕ → List ℕ
+paintBy rowAt style W H y canvas = withRow (λ y row. overpaint style (rowAt y) row) W H y canvas
 
 -- it sets bytes in place
 pub overpaint-by-length : (item : StyledFigure) (y : ℤ) (row : List ℕ) → length (overpaintBy item y row) ≡ length row
