@@ -1,52 +1,45 @@
+-- `query_records::are_u32` ends: the words looked at grow to those asked for.
+-- Assumes nothing.
+use mathlib.Core.Path.{_≡_}
+use Prim.Native.Nat.{_+_, _*_, _-_, _≤_, _<_}
+use lib.ListN.{length}
+use native.Mathlib.Omega.{arith}
+use borrow.Author.Needs.{needs}
 use Rattle.query_records.proofs.are_u32.Statement.{statement}
 use Rattle.query_records.proofs.are_u32.Tie as tie
-use Rattle.query_records.proofs.are_u32.Reads as reads
-use Rattle.query_records.proofs.are_u32.Lts as lts
-use Rattle.query_records.proofs.is_u32.Reads as is-u32-reads
-use Rattle.query_records.proofs.plus.Reads as plus-reads
-use Rattle.query_records.proofs.token.Reads as token-reads
 
 abbrev Inv-loop : tie.InvT-loop
-Inv-loop tokens at words k₀ k = ?
+Inv-loop tokens at words k₀ k = k ≤ words
 
 abbrev μ-loop : tie.MeasureT-loop
-μ-loop tokens at words k₀ k = ?
+μ-loop tokens at words k₀ k = words - k
 
--- src/lib.rt:98:5
 loop-holds : tie.Need-loop-holds Inv-loop μ-loop
-loop-holds c = ?
+loop-holds c = search needs
 
--- src/lib.rt:99:34
 plus-requires : tie.Need-plus-requires Inv-loop μ-loop
-plus-requires c κs = ?
+plus-requires c κs = search needs
 
--- src/lib.rt:99:20
 token-requires : tie.Need-token-requires Inv-loop μ-loop
-token-requires c κs = ?
+token-requires c κs = search needs
 
--- src/lib.rt:99:13
 is-u32-requires : tie.Need-is-u32-requires Inv-loop μ-loop
-is-u32-requires c κs = ?
+is-u32-requires c κs = search needs
 
--- src/lib.rt:100:13
 returns : tie.Need-returns Inv-loop μ-loop
-returns c = ?
+returns c = search needs
 
--- src/lib.rt:102:9
 add-k : tie.Need-add-k Inv-loop μ-loop
-add-k c = ?
+add-k c = search needs
 
--- src/lib.rt:98:5
 loop-less : tie.Need-loop-less Inv-loop μ-loop
-loop-less c = ?
+loop-less c = search needs
 
--- src/lib.rt:98:5
 loop-again : tie.Need-loop-again Inv-loop μ-loop
-loop-again c = ?
+loop-again c = search needs
 
--- src/lib.rt:96:1
 returns-2 : tie.Need-returns-2 Inv-loop μ-loop
-returns-2 c = ?
+returns-2 c = search needs
 
 pub are-u32-spec : {M : Type 1} → statement M
 are-u32-spec =
