@@ -155,7 +155,7 @@ fn part_words(tokens: &[u64], at: usize, part: u8) -> usize {
     if part == b'u' {
         return one_if(is_u32(t));
     }
-    if part == b'p' {
+    if part == b'k' {
         return one_if(is_paint(t));
     }
     if part == b'g' {
@@ -165,7 +165,7 @@ fn part_words(tokens: &[u64], at: usize, part: u8) -> usize {
 }
 
 // The place after the words of a form, or MISFIT. In a form f is a figure, i a number that an i32
-// holds, u one that a u32 holds, p a paint, g an alignment; another letter stands for itself.
+// holds, u one that a u32 holds, k a paint, g an alignment; another letter stands for itself.
 pub fn form_end(tokens: &[u64], from: usize, form: &[u8]) -> usize {
     let mut at = from;
     let mut k: usize = 0;
@@ -250,16 +250,20 @@ fn alignment_of(t: u64) -> StrokeAlignment {
 
 // A style of a stroke width and an alignment alone.
 pub fn stroke_at(tokens: &[u64], at: usize) -> Style {
-    Style::new(Paint::Absent, Paint::Absent, u32_at(tokens, at))
-        .with_alignment(alignment_of(token(tokens, plus(at, 1))))
+    Style::new(Paint::Absent, Paint::Absent, u32_at(tokens, at)).with_alignment(alignment_of(token(
+        tokens,
+        plus(at, 1),
+    )))
 }
 
 // A style: stroke, fill, width, alignment.
 pub fn style_at(tokens: &[u64], at: usize) -> Style {
     let stroke = paint_of(token(tokens, at));
     let fill = paint_of(token(tokens, plus(at, 1)));
-    Style::new(stroke, fill, u32_at(tokens, plus(at, 2)))
-        .with_alignment(alignment_of(token(tokens, plus(at, 3))))
+    Style::new(stroke, fill, u32_at(tokens, plus(at, 2))).with_alignment(alignment_of(token(
+        tokens,
+        plus(at, 3),
+    )))
 }
 
 // The place after a sheet's words: W H COUNT LISTED, then so many layers, each a figure, its style
@@ -273,7 +277,7 @@ pub fn sheet_end(tokens: &[u64], from: usize) -> usize {
     let mut at = first;
     let mut k: u32 = 0;
     while k < listed {
-        at = form_end(tokens, at, b"fppugi");
+        at = form_end(tokens, at, b"fkkugi");
         k += 1;
     }
     at
@@ -302,7 +306,7 @@ pub fn sheet_at(tokens: &[u64], from: usize) -> Sheet {
         }
         let layer = layer_at(tokens, at);
         sheet.layers[place] = layer;
-        at = form_end(tokens, at, b"fppugi");
+        at = form_end(tokens, at, b"fkkugi");
         place += 1;
     }
     sheet

@@ -35,17 +35,16 @@ loop-less : tie.Need-loop-less Inv-loop μ-loop
 loop-less c = search needs
 
 loop-again : tie.Need-loop-again Inv-loop μ-loop
-loop-again c = 
+loop-again c =
     let entry = c .before .before .before .before .before .before .args .bytes .now in
     let head = c .before .before .before .before .loop in
     let low = c .before .next-low .ensures in
-    let high = c .next-high .ensures in
-    (
+    let high = c .next-high .ensures in (
       omega arith,
       low .1,
       high .1,
       (λ i. sumFrom (low .0 i) ((high .0 ∙ ap (nextHigh (head .high)) (low .0)) i) (drop (head .i + 1) entry))
-      ∙ sym (sum-here entry (head .low) (head .high) (head .i) (c .before .before .before .loop-test .taken)) ∙ head .inv .3,
+          ∙ sym (sum-here entry (head .low) (head .high) (head .i) (c .before .before .before .loop-test .taken)) ∙ head .inv .3,
     )
 
 mul-result : tie.Need-mul-result Inv-loop μ-loop
@@ -55,7 +54,7 @@ add-result : tie.Need-add-result Inv-loop μ-loop
 add-result c = search needs
 
 returns : tie.Need-returns Inv-loop μ-loop
-returns c = 
+returns c =
     let head = c .before .loop in
     sym (sum-past (c .before .before .before .args .bytes .now) (head .low) (head .high) (head .i) (c .loop-test .left)) ∙ head .inv .3
 

@@ -32,13 +32,13 @@ is-digit-requires : tie.Need-is-digit-requires Inv-loop μ-loop
 is-digit-requires c κs = search needs
 
 returns-2 : tie.Need-returns-2 Inv-loop μ-loop
-returns-2 c = 
+returns-2 c =
     let entry = c .before .before .before .before .before .before .before .args .word .now in
     let head = c .before .before .before .before .loop in
     let test = sym (c .before .is-digit .ensures) ∙ not-true _ (c .if2 .taken) in
     sym (
-      decimal-of-some entry (c .before .before .before .before .before .if1 .left) ∙ sym (head .inv .2)
-      ∙ digits-here entry (head .value) (head .i) (c .before .before .before .loop-test .taken) ∙ rw test
+    decimal-of-some entry (c .before .before .before .before .before .if1 .left) ∙ sym (head .inv .2)
+    ∙ digits-here entry (head .value) (head .i) (c .before .before .before .loop-test .taken) ∙ rw test
     )
 
 mul-next : tie.Need-mul-next Inv-loop μ-loop
@@ -51,14 +51,14 @@ add-next : tie.Need-add-next Inv-loop μ-loop
 add-next c = search needs
 
 returns-3 : tie.Need-returns-3 Inv-loop μ-loop
-returns-3 c = 
+returns-3 c =
     let entry = c .before .before .before .before .before .before .before .before .before .args .word .now in
     let head = c .before .before .before .before .before .before .loop in
     let test = sym (c .before .before .before .is-digit .ensures) ∙ not-false _ (c .before .before .if2 .left) in
     sym (
-      decimal-of-some entry (c .before .before .before .before .before .before .before .if1 .left) ∙ sym (head .inv .2)
-      ∙ digits-here entry (head .value) (head .i) (c .before .before .before .before .before .loop-test .taken)
-      ∙ rw (test, sym (c .before .digit-value .ensures .0), lt-leb _ _ (c .if3 .taken))
+    decimal-of-some entry (c .before .before .before .before .before .before .before .if1 .left) ∙ sym (head .inv .2)
+    ∙ digits-here entry (head .value) (head .i) (c .before .before .before .before .before .loop-test .taken)
+    ∙ rw (test, sym (c .before .digit-value .ensures .0), lt-leb _ _ (c .if3 .taken))
     )
 
 add-i : tie.Need-add-i Inv-loop μ-loop
@@ -68,24 +68,23 @@ loop-less : tie.Need-loop-less Inv-loop μ-loop
 loop-less c = search needs
 
 loop-again : tie.Need-loop-again Inv-loop μ-loop
-loop-again c = 
+loop-again c =
     let entry = c .before .before .before .before .before .before .before .before .before .args .word .now in
     let head = c .before .before .before .before .before .before .loop in
-    let test = sym (c .before .before .before .is-digit .ensures) ∙ not-false _ (c .before .before .if2 .left) in
-    (
+    let test = sym (c .before .before .before .is-digit .ensures) ∙ not-false _ (c .before .before .if2 .left) in (
       omega arith,
       omega arith,
       sym (digits-here entry (head .value) (head .i) (c .before .before .before .before .before .loop-test .taken)
-      ∙ rw (test, sym (c .before .digit-value .ensures .0), le-leb _ _ (c .if3 .left))) ∙ head .inv .2
+          ∙ rw (test, sym (c .before .digit-value .ensures .0), le-leb _ _ (c .if3 .left))) ∙ head .inv .2,
     )
 
 returns-4 : tie.Need-returns-4 Inv-loop μ-loop
-returns-4 c = 
+returns-4 c =
     let entry = c .before .before .before .before .args .word .now in
     let head = c .before .loop in
     sym (
-      decimal-of-some entry (c .before .before .if1 .left) ∙ sym (head .inv .2)
-      ∙ digits-past entry (head .value) (head .i) (c .loop-test .left)
+    decimal-of-some entry (c .before .before .if1 .left) ∙ sym (head .inv .2)
+    ∙ digits-past entry (head .value) (head .i) (c .loop-test .left)
     )
 
 pub decimal-of-spec : {M : Type 1} → statement M

@@ -43,7 +43,7 @@ negative-token-requires c κs = search needs
 
 returns-3 : tie.Need-returns-3
 unfolding tokenOf
-returns-3 c = 
+returns-3 c =
     rw (
       ne-eqb _ _ (c .before .before .before .before .before .before .if1 .left),
       ne-eqb _ _ (c .before .before .before .before .before .if2 .left),
