@@ -5,10 +5,9 @@ use answer_text::put_byte;
 use answer_text::put_text;
 use libc::STDIN_FILENO;
 use line_numbers::is_name;
-ghost use Prim.Native.Nat.{_≤_};
-ghost use lib.ListN.{length};
 
-const LINE: usize = 4096;
+// The place in the output that stands for the input's end; the output has fewer.
+const ENDED: usize = 1000000;
 
 // Queries that lend a list, a canvas or a file.
 fn canvas_query(word: &[u8], tokens: &[u64], out: &mut [u8], at: usize) -> usize {
@@ -125,6 +124,7 @@ fn plus_one(n: usize) -> usize {
 fn put_line_byte(line: &mut [u8], used: usize, b: u8) -> usize {
     if used < line.len() {
         line[used] = b;
+        return used + 1;
     }
     plus_one(used)
 }
@@ -136,6 +136,26 @@ pub struct Progress {
     pub at: usize,
 }
 
+// Takes one byte: a line end has the line answered.
+fn take_byte(
+    b: u8,
+    progress: Progress,
+    line: &mut [u8],
+    tokens: &mut [u64],
+    out: &mut [u8],
+) -> Progress {
+    if b == 10 {
+        return Progress {
+            used: 0,
+            at: answer_line(line, progress.used, tokens, out, progress.at),
+        };
+    }
+    Progress {
+        used: put_line_byte(line, progress.used, b),
+        at: progress.at,
+    }
+}
+
 // Takes a part of the input and answers the lines that end in it.
 fn take(
     input: &[u8],
@@ -144,41 +164,56 @@ fn take(
     tokens: &mut [u64],
     out: &mut [u8],
 ) -> Progress {
-    let mut used = progress.used;
-    let mut at = progress.at;
+    let mut current = progress;
     let mut i: usize = 0;
     while i < input.len() {
-        if input[i] == 10 {
-            at = answer_line(line, used, tokens, out, at);
-            used = 0;
-        } else {
-            used = put_line_byte(line, used, input[i]);
-        }
+        current = take_byte(input[i], current, line, tokens, out);
         i += 1;
     }
-    Progress { used: used, at: at }
+    current
+}
+
+// Answers a last line that has no line end, and writes out what is left.
+fn finish(progress: Progress, line: &mut [u8], tokens: &mut [u64], out: &mut [u8]) {
+    if 0 < progress.used {
+        let at = answer_line(line, progress.used, tokens, out, progress.at);
+        answer_text::flush(out, at);
+        return;
+    }
+    answer_text::flush(out, progress.at);
+}
+
+// Reads once and takes what came; an empty part is the input's end.
+fn read_some(
+    progress: Progress,
+    line: &mut [u8],
+    tokens: &mut [u64],
+    out: &mut [u8],
+) -> Progress {
+    let mut input = [0u8; 4096];
+    let got = io::read_full(STDIN_FILENO, &mut input);
+    if got == 0 {
+        finish(progress, line, tokens, out);
+        return Progress {
+            used: 0,
+            at: ENDED,
+        };
+    }
+    take(&input[..got], progress, line, tokens, out)
 }
 
 // Reads and answers to the input's end. A proved loop has to end, so it counts its turns down from a
 // number that no run uses up.
 fn serve(line: &mut [u8], tokens: &mut [u64], out: &mut [u8]) {
-    let mut input = [0u8; 4096];
     let mut progress = Progress { used: 0, at: 0 };
     let mut turns = u64::MAX;
     while 0 < turns {
-        let got = io::count(libc::read(STDIN_FILENO, &mut input), &input);
-        if got == 0 {
-            turns = 0;
-        } else {
-            progress = take(&input[0..got], progress, line, tokens, out);
-            turns -= 1;
+        progress = read_some(progress, line, tokens, out);
+        if progress.at == ENDED {
+            return;
         }
+        turns -= 1;
     }
-    let mut at = progress.at;
-    if 0 < progress.used {
-        at = answer_line(line, progress.used, tokens, out, at);
-    }
-    answer_text::flush(out, at);
 }
 
 fn main() {
