@@ -40,8 +40,6 @@ def offset(x, y, w, h, k):
     n = rectangle_refusal(x, y, w, h) or (5 if abs(k) > 256 else 0)
     if n:
         return f'refused {n}'
-    if k >= 0:
-        return f'{x - k} {y - k} {w + 2 * k} {h + 2 * k}'
     a, b = max(w + 2 * k, 0), max(h + 2 * k, 0)
     return f'{x + half(w) - half(a)} {y + half(h) - half(b)} {a} {b}'
 
