@@ -184,20 +184,12 @@ fn finish(progress: Progress, line: &mut [u8], tokens: &mut [u64], out: &mut [u8
 }
 
 // Reads once and takes what came; an empty part is the input's end.
-fn read_some(
-    progress: Progress,
-    line: &mut [u8],
-    tokens: &mut [u64],
-    out: &mut [u8],
-) -> Progress {
+fn read_some(progress: Progress, line: &mut [u8], tokens: &mut [u64], out: &mut [u8]) -> Progress {
     let mut input = [0u8; 4096];
     let got = io::read_full(STDIN_FILENO, &mut input);
     if got == 0 {
         finish(progress, line, tokens, out);
-        return Progress {
-            used: 0,
-            at: ENDED,
-        };
+        return Progress { used: 0, at: ENDED };
     }
     take(&input[..got], progress, line, tokens, out)
 }
