@@ -1,0 +1,3 @@
+-- A walk over the digits of a word.
+-- Assumes nothing.
+pub mod Digits
