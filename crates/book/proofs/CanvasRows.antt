@@ -8,7 +8,7 @@ use Prim.Native.Nat.{ℕ, zero, suc, _+_, _*_, _-_, _/_, _%_, _≤_, _<_}
 use native.Mathlib.Nat.{mul-le-mul-right, mod-lt, div-lt-iff-lt-mul, div-add-mod', mul-comm, zero-mul}
 use native.Mathlib.Omega.{arith}
 use lib.Dec.{ltb}
-use lib.ListN.{length, take, drop, getD, length-append, length-take, length-drop, List·getD-append}
+use lib.ListN.{length, take, drop, getD, length-append, length-take, length-drop, take-append-drop, List·getD-append}
 use lib.Seq.{ext-getD, getD-take, getD-drop, getD-append-add, take-at, drop-at, length-take-le}
 use borrow.Author.Tests.{ltb-true, ltb-false}
 use Rattle.book.specs.Canvas.{canvasRow, putRow}
@@ -85,6 +85,13 @@ module _ (W H y : ℕ) (canvas : List ℕ) (low : y < H) (size : length canvas �
   put-row-other z h other =
       rows-equal-by-bytes W H z (putRow W y row canvas) canvas h put-row-length size
       (λ k inside. byte-outside z k other inside)
+
+-- a row put back as it was leaves the canvas as it was
+pub put-row-same : (W y : ℕ) (canvas : List ℕ) → putRow W y (canvasRow W y canvas) canvas ≡ canvas
+unfolding putRow canvasRow
+put-row-same W y canvas =
+    ap (λ (rest : List ℕ). take (y * W) canvas ++ rest) (take-append-drop W (drop (y * W) canvas))
+    ∙ take-append-drop (y * W) canvas
 
 width-positive : (W H i : ℕ) → i < W * H → 0 < W
 width-positive zero H i h = absurd (omega (arith, zero-mul H))

@@ -1,7 +1,7 @@
 -- Helps on tests and lists (`Tests`, `EachLaws`, `Lists`); the canvas (`CanvasRows`); the rows of an entry (`EntryRows`);
 -- the test of the rules (`RulesTest`) and the answers of a sheet (`LowestNumber`). The invariant: what the answers need
--- (`BookInOrder`, `SheetOfBook`), what the picture needs (`Picture`). The theorem (`Demand3`), and for the crates above:
--- one call more (`OneMoreCall`), an item painted whole (`Whole`). `Examples` computes the definitions.
+-- (`BookInOrder`, `SheetOfBook`), what the picture needs (`Picture`). The theorem (`Demand3`), and for the crates above: an
+-- item painted whole (`Whole`), also row by row (`WholeRows`). `Examples` computes the definitions.
 -- Assumes nothing.
 pub mod Tests
 pub mod EachLaws
@@ -14,7 +14,6 @@ pub mod BookInOrder
 pub mod SheetOfBook
 pub mod Picture
 pub mod Demand3
-pub mod OneMoreCall
 pub mod Whole
 pub mod WholeRows
 pub mod Examples

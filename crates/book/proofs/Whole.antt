@@ -3,17 +3,15 @@
 -- Assumes nothing.
 use mathlib.Core.Path.{_≡_, refl, sym, ap, ap₂, _∙_}
 use mathlib.Core.List.{List, [], _∷_}
-use mathlib.Core.Bool.{true}
 use Prim.Native.Nat.{ℕ, zero, suc, _+_, _*_, _≤_, _<_}
 use native.Mathlib.Omega.{arith}
-use lib.IntN.{ℤ, pos, negsuc, _+ℤ_}
-use lib.Signed.{leZ, ltZ}
+use lib.IntN.{ℤ, pos, _+ℤ_}
 use lib.ListN.{length, replicate}
-use borrow.Author.Tests.{lt-leb, le-ltb}
+use borrow.Author.Tests.{lt-leb}
 use Rattle.signed.proofs.Laws.{int, add-law}
 use Rattle.book.specs.Book.{Answer, accepted, Drawing, add, paint, Book, firstLeft, someOwes, noneLeft, bookAnswer}
 use Rattle.book.specs.Book.{noted, bookAfter}
-use Rattle.book.specs.Sheet.{withRow, State, WithinSide, paintRow, after, answers, afterAll, opened}
+use Rattle.book.specs.Sheet.{State, WithinSide, paintRow, after, answers, afterAll, opened}
 use Rattle.book.specs.Whole.{paintRows, SingleLayerWhole}
 use Rattle.book.proofs.BookInOrder.{InOrder, empty-book-in-order}
 use Rattle.book.proofs.SheetOfBook.{sheetOf, answer-is-book, canvasAfter, after-is-book, next-down}
@@ -27,36 +25,6 @@ module _ (d : Drawing) (W H : ℕ) where
   paint-rows-length item zero y canvas size = size
   paint-rows-length item (suc n) y canvas size =
       paint-rows-length item n (y +ℤ pos 1) (paintRow d W H item y canvas) (paint-row-length d W H item y canvas size)
-
-  -- rows above the canvas, and rows below it, write nothing
-  pub paint-row-above : (item : d .Item) (y : ℤ) (canvas : List ℕ) → ltZ y (pos 0) ≡ true
-      → paintRow d W H item y canvas ≡ canvas
-  unfolding withRow
-  paint-row-above item (pos y) canvas h = absurd (omega (arith, int))
-  paint-row-above item (negsuc y) canvas h = refl
-
-  pub paint-row-below : (item : d .Item) (y : ℤ) (canvas : List ℕ) → leZ (pos H) y ≡ true
-      → paintRow d W H item y canvas ≡ canvas
-  unfolding withRow
-  paint-row-below item (pos y) canvas h = rw (le-ltb y H (omega (arith, int)))
-  paint-row-below item (negsuc y) canvas h = refl
-
-  pub paint-rows-above : (item : d .Item) (n : ℕ) (y : ℤ) (canvas : List ℕ) → leZ (y +ℤ pos n) (pos 0) ≡ true
-      → paintRows d W H item y n canvas ≡ canvas
-  unfolding paintRows
-  paint-rows-above item zero y canvas h = refl
-  paint-rows-above item (suc n) y canvas h =
-      rw (paint-row-above item y canvas (omega (arith, int, add-law y (pos (suc n)))))
-      (paint-rows-above item n (y +ℤ pos 1) canvas
-      (omega (arith, int, add-law y (pos (suc n)), add-law y (pos 1), add-law (y +ℤ pos 1) (pos n))))
-
-  pub paint-rows-below : (item : d .Item) (n : ℕ) (y : ℤ) (canvas : List ℕ) → leZ (pos H) y ≡ true
-      → paintRows d W H item y n canvas ≡ canvas
-  unfolding paintRows
-  paint-rows-below item zero y canvas h = refl
-  paint-rows-below item (suc n) y canvas h =
-      rw (paint-row-below item y canvas h)
-      (paint-rows-below item n (y +ℤ pos 1) canvas (omega (arith, int, add-law y (pos 1))))
 
   -- ---- on a sheet with one layer
   module _ (width : WithinSide d W) (height : WithinSide d H) (item : d .Item) (allowed : d .refuse item ≡ accepted)

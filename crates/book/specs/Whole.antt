@@ -20,7 +20,7 @@ module _ (d : Drawing) where
   paintWhole W H item canvas = paintRows W H item (d .first item) (d .rows item) canvas
 
   -- n canvas rows from row y down, each overpainted by the item's styled row there ("The book"): what the one call makes of
-  -- a canvas, row by row. The law `whole-by-rows` (proofs/Whole.antt) says that it is the same as `paintWhole`.
+  -- a canvas, row by row. The law `whole-by-rows` (proofs/WholeRows.antt) says that it is the same as `paintWhole`.
   unfoldable pub overpaintRows : ℕ → d .Item → ℕ → ℕ → List ℕ → List ℕ
   overpaintRows W item y zero canvas = canvas
   overpaintRows W item y (suc n) canvas =

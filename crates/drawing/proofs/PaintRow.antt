@@ -2,13 +2,12 @@
 -- Assumes nothing.
 use mathlib.Core.Path.{_≡_, refl, ap, _∙_}
 use mathlib.Core.Bool.{Bool, true, false, cond}
-use mathlib.Core.List.{List, _++_}
-use Prim.Native.Nat.{ℕ, _*_, _≤_, _<_}
+use mathlib.Core.List.{List}
+use Prim.Native.Nat.{ℕ, _≤_, _<_}
 use native.Mathlib.Omega.{arith}
 use borrow.Author.Tests.{lt-ltb, le-ltb}
 use lib.Dec.{ltb}
 use lib.IntN.{ℤ, pos, negsuc}
-use lib.ListN.{take, drop, take-append-drop}
 use lib.Signed.{ltZ}
 use Rattle.signed.specs.Signed.{floor0}
 use Rattle.signed.proofs.Laws.{int}
@@ -19,16 +18,10 @@ use Rattle.figure.specs.declared.Figure.{Figure}
 use Rattle.style.specs.declared.Style.{Style}
 use Rattle.book.specs.Canvas.{canvasRow, putRow}
 use Rattle.book.specs.Sheet.{withRow, paintRow}
+use Rattle.book.proofs.CanvasRows.{put-row-same}
 use Rattle.styled.specs.Styled.{styledRow}
 use Rattle.canvas.specs.Canvas.{overpaint, overpaintAt}
 use Rattle.drawing.specs.Drawing.{styledFigure, overpaintBy, paintBy, drawing}
-
--- a row put back as it was leaves the canvas as it was
-pub put-row-same : (W y : ℕ) (canvas : List ℕ) → putRow W y (canvasRow W y canvas) canvas ≡ canvas
-unfolding putRow canvasRow
-put-row-same W y canvas =
-    ap (λ (rest : List ℕ). take (y * W) canvas ++ rest) (take-append-drop W (drop (y * W) canvas))
-    ∙ take-append-drop (y * W) canvas
 
 module _ (rowAt : ℤ → StyledRow) (style : Style) (W H : ℕ) (canvas : List ℕ) where
   -- a figure's rows are those of its definition
