@@ -1,3 +1,3 @@
--- A walk over a list of numbers and over a list of calls.
+-- A walk over a list of calls.
 -- Assumes nothing.
 pub mod Walks

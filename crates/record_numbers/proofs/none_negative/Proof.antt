@@ -1,4 +1,4 @@
--- `call_numbers::none_negative` meets its contract: what is asked of all numbers is asked of those that are left.
+-- `record_numbers::none_negative` meets its contract: what is asked of all numbers is asked of those that are left.
 -- Assumes nothing.
 use mathlib.Core.Path.{_≡_, refl, sym, _∙_}
 use mathlib.Core.Bool.{true, false, _&&_}
@@ -12,10 +12,10 @@ use mir.Syntax.{w32}
 use mir.Val.{SFits, toZ, ofZ}
 use mir.Facts.{toZ-ofZ}
 use Rattle.signed.proofs.Laws.{int}
-use Rattle.call_numbers.specs.CallNumbers.{noneNegative}
-use Rattle.call_numbers.proofs.Walks.{none-negative-here, none-negative-past}
-use Rattle.call_numbers.proofs.none_negative.Statement.{statement}
-use Rattle.call_numbers.proofs.none_negative.Tie as tie
+use Rattle.record_numbers.specs.RecordNumbers.{noneNegative}
+use Rattle.record_numbers.proofs.Walks.{none-negative-here, none-negative-past}
+use Rattle.record_numbers.proofs.none_negative.Statement.{statement}
+use Rattle.record_numbers.proofs.none_negative.Tie as tie
 
 abbrev Inv-loop : tie.InvT-loop
 Inv-loop numbers i₀ i = (i ≤ length numbers) × (noneNegative (drop i numbers) ≡ noneNegative numbers)

@@ -1,10 +1,10 @@
--- `call_numbers::corners_of` meets its contract: each corner is read from its two places.
+-- `record_numbers::corners_of` meets its contract: each corner is read from its two places.
 -- Assumes nothing.
 use borrow.Author.Needs.{needs}
 use mathlib.Core.Path.{_∙_}
-use Rattle.call_numbers.proofs.Walks.{size-read}
-use Rattle.call_numbers.proofs.corners_of.Statement.{statement}
-use Rattle.call_numbers.proofs.corners_of.Tie as tie
+use Rattle.record_numbers.proofs.Walks.{size-read}
+use Rattle.record_numbers.proofs.corners_of.Statement.{statement}
+use Rattle.record_numbers.proofs.corners_of.Tie as tie
 
 shared-slice-copy-out-size-of : tie.Need-shared-slice-copy-out-size-of
 shared-slice-copy-out-size-of c = search needs
@@ -49,10 +49,10 @@ returns c i =
     let second = c .before .before .before .before .before .before in
     let third = c .before .before .before in
     record {
-      «top_left» = (first .size-of .ensures ∙ size-read numbers 6 7 (first .before .before .size-of-arg .given) (first .before .size-of-arg2 .given)) i;
-      «top_right» = (second .size-of2 .ensures ∙ size-read numbers 8 9 (second .before .before .size-of-arg3 .given) (second .before .size-of-arg4 .given)) i;
-      «bottom_right» = (third .size-of3 .ensures ∙ size-read numbers 10 11 (third .before .before .size-of-arg5 .given) (third .before .size-of-arg6 .given)) i;
-      «bottom_left» = (c .size-of4 .ensures ∙ size-read numbers 12 13 (c .before .before .size-of-arg7 .given) (c .before .size-of-arg8 .given)) i;
+      «top_left» = (first .size-of .ensures ∙ size-read numbers 5 6 (first .before .before .size-of-arg .given) (first .before .size-of-arg2 .given)) i;
+      «top_right» = (second .size-of2 .ensures ∙ size-read numbers 7 8 (second .before .before .size-of-arg3 .given) (second .before .size-of-arg4 .given)) i;
+      «bottom_right» = (third .size-of3 .ensures ∙ size-read numbers 9 10 (third .before .before .size-of-arg5 .given) (third .before .size-of-arg6 .given)) i;
+      «bottom_left» = (c .size-of4 .ensures ∙ size-read numbers 11 12 (c .before .before .size-of-arg7 .given) (c .before .size-of-arg8 .given)) i;
     }
 
 pub corners-of-spec : {M : Type 1} → statement M

@@ -1,10 +1,10 @@
--- `call_numbers::rectangle_of` meets its contract: each part is read from its place.
+-- `record_numbers::rectangle_of` meets its contract: each part is read from its place.
 -- Assumes nothing.
 use borrow.Author.Needs.{needs}
 use mathlib.Core.Path.{_∙_}
-use Rattle.call_numbers.proofs.Walks.{read-back, size-read}
-use Rattle.call_numbers.proofs.rectangle_of.Statement.{statement}
-use Rattle.call_numbers.proofs.rectangle_of.Tie as tie
+use Rattle.record_numbers.proofs.Walks.{read-back, size-read}
+use Rattle.record_numbers.proofs.rectangle_of.Statement.{statement}
+use Rattle.record_numbers.proofs.rectangle_of.Tie as tie
 
 shared-slice-copy-out-t3 : tie.Need-shared-slice-copy-out-t3
 shared-slice-copy-out-t3 c = search needs
@@ -26,10 +26,10 @@ returns c i =
     let numbers = c .before .before .before .before .before .args .numbers .now in
     record {
       «top_left» = record {
-        x = read-back numbers 2 (c .before .before .before .before .t3 .given) i;
-        y = read-back numbers 3 (c .before .before .before .t5 .given) i;
+        x = read-back numbers 1 (c .before .before .before .before .t3 .given) i;
+        y = read-back numbers 2 (c .before .before .before .t5 .given) i;
       };
-      size = (c .size-of .ensures ∙ size-read numbers 4 5 (c .before .before .size-of-arg .given) (c .before .size-of-arg2 .given)) i;
+      size = (c .size-of .ensures ∙ size-read numbers 3 4 (c .before .before .size-of-arg .given) (c .before .size-of-arg2 .given)) i;
     }
 
 pub rectangle-of-spec : {M : Type 1} → statement M

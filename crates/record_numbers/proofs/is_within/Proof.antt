@@ -1,4 +1,4 @@
--- `call_numbers::is_within` meets its contract: not below the lowest, and then not above the highest.
+-- `record_numbers::is_within` meets its contract: not below the lowest, and then not above the highest.
 -- Assumes nothing.
 use mathlib.Core.Path.{_≡_, sym, ap₂, _∙_}
 use mathlib.Core.Bool.{Bool, true, false}
@@ -9,8 +9,8 @@ use mir.Syntax.{w32}
 use mir.Val.{SFits, toZ, ofZ}
 use mir.Facts.{toZ-ofZ}
 use Rattle.signed.proofs.Laws.{int}
-use Rattle.call_numbers.proofs.is_within.Statement.{statement}
-use Rattle.call_numbers.proofs.is_within.Tie as tie
+use Rattle.record_numbers.proofs.is_within.Statement.{statement}
+use Rattle.record_numbers.proofs.is_within.Tie as tie
 
 -- the first test, of the numbers as they are held
 held : (c : tie.Start) {t : Bool} → ltZ (toZ w32 (ofZ w32 (c .args .v))) (toZ w32 (ofZ w32 (c .args .low))) ≡ t → ltZ (c .args .v) (c .args .low) ≡ t

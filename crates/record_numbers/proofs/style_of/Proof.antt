@@ -1,14 +1,14 @@
--- `call_numbers::style_of` meets its contract: each part is its leaf's.
+-- `record_numbers::style_of` meets its contract: each part is its leaf's.
 -- Assumes nothing.
 use borrow.Author.Needs.{needs}
 use mathlib.Core.Path.{_≡_, ap, _∙_}
-use Rattle.call_numbers.proofs.Walks.{read-back}
+use Rattle.record_numbers.proofs.Walks.{read-back}
 use lib.IntN.{ℤ}
 use Rattle.signed.specs.Signed.{floor0}
 use Rattle.style.specs.declared.Style.{Style}
-use Rattle.call_numbers.specs.CallNumbers.{paintOf, alignmentOf, styleOf}
-use Rattle.call_numbers.proofs.style_of.Statement.{statement}
-use Rattle.call_numbers.proofs.style_of.Tie as tie
+use Rattle.record_numbers.specs.RecordNumbers.{paintOf, alignmentOf, styleOf}
+use Rattle.record_numbers.proofs.style_of.Statement.{statement}
+use Rattle.record_numbers.proofs.style_of.Tie as tie
 
 style-by-fields : {a b : Style} → a .stroke ≡ b .stroke → a .fill ≡ b .fill → a .«stroke_width» ≡ b .«stroke_width» → a .alignment ≡ b .alignment → a ≡ b
 style-by-fields p q r t i = record { stroke = p i; fill = q i; «stroke_width» = r i; alignment = t i }
@@ -41,10 +41,10 @@ returns : tie.Need-returns
 unfolding styleOf
 returns c =
     let numbers = c .before .before .before .before .before .before .before .before .args .numbers .now in
-    let alignment = c .alignment-of .ensures ∙ ap alignmentOf (read-back numbers 17 (c .before .alignment-of-arg .given)) in
-    let width = c .before .before .floor0 .ensures ∙ ap (λ (z : ℤ). floor0 z) (read-back numbers 16 (c .before .before .before .floor0-arg .given)) in
-    let fill = c .before .before .before .before .paint-of2 .ensures ∙ ap paintOf (read-back numbers 15 (c .before .before .before .before .before .paint-of-arg2 .given)) in
-    let stroke = c .before .before .before .before .before .before .paint-of .ensures ∙ ap paintOf (read-back numbers 14 (c .before .before .before .before .before .before .before .paint-of-arg .given)) in
+    let alignment = c .alignment-of .ensures ∙ ap alignmentOf (read-back numbers 3 (c .before .alignment-of-arg .given)) in
+    let width = c .before .before .floor0 .ensures ∙ ap (λ (z : ℤ). floor0 z) (read-back numbers 2 (c .before .before .before .floor0-arg .given)) in
+    let fill = c .before .before .before .before .paint-of2 .ensures ∙ ap paintOf (read-back numbers 1 (c .before .before .before .before .before .paint-of-arg2 .given)) in
+    let stroke = c .before .before .before .before .before .before .paint-of .ensures ∙ ap paintOf (read-back numbers 0 (c .before .before .before .before .before .before .before .paint-of-arg .given)) in
     style-by-fields stroke fill width alignment
 
 pub style-of-spec : {M : Type 1} → statement M

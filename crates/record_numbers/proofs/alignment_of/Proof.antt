@@ -1,4 +1,4 @@
--- `call_numbers::alignment_of` meets its contract: its tests are the definition's.
+-- `record_numbers::alignment_of` meets its contract: its tests are the definition's.
 -- Assumes nothing.
 use mathlib.Core.Path.{_≡_, sym, ap, _∙_}
 use mathlib.Core.Bool.{Bool}
@@ -8,9 +8,9 @@ use lib.Signed.{ltZ}
 use mir.Syntax.{w32}
 use mir.Val.{SFits, toZ, ofZ}
 use mir.Facts.{toZ-ofZ}
-use Rattle.call_numbers.specs.CallNumbers.{alignmentOf}
-use Rattle.call_numbers.proofs.alignment_of.Statement.{statement}
-use Rattle.call_numbers.proofs.alignment_of.Tie as tie
+use Rattle.record_numbers.specs.RecordNumbers.{alignmentOf}
+use Rattle.record_numbers.proofs.alignment_of.Statement.{statement}
+use Rattle.record_numbers.proofs.alignment_of.Tie as tie
 
 -- a test of the number as it is held
 held : (c : tie.Start) (b : ℤ) {t : Bool} → ltZ (toZ w32 (ofZ w32 (c .args .v))) b ≡ t → ltZ (c .args .v) b ≡ t

@@ -1,4 +1,4 @@
--- `call_numbers::size_of` meets its contract: each side is the leaf's.
+-- `record_numbers::size_of` meets its contract: each side is the leaf's.
 -- Assumes nothing.
 use mathlib.Core.Path.{ap, _∙_}
 use borrow.Author.Needs.{needs}
@@ -8,8 +8,8 @@ use mir.Val.{SFits}
 use mir.Facts.{toZ-ofZ}
 use Rattle.signed.specs.Signed.{floor0}
 use Rattle.geometry.proofs.Fields.{size-by-fields}
-use Rattle.call_numbers.proofs.size_of.Statement.{statement}
-use Rattle.call_numbers.proofs.size_of.Tie as tie
+use Rattle.record_numbers.proofs.size_of.Statement.{statement}
+use Rattle.record_numbers.proofs.size_of.Tie as tie
 
 floor0-requires : tie.Need-floor0-requires
 floor0-requires c κs = search needs

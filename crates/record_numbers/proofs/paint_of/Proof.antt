@@ -1,4 +1,4 @@
--- `call_numbers::paint_of` meets its contract: its test is the definition's.
+-- `record_numbers::paint_of` meets its contract: its test is the definition's.
 -- Assumes nothing.
 use mathlib.Core.Path.{_≡_, sym, ap, _∙_}
 use mathlib.Core.Bool.{Bool}
@@ -11,9 +11,9 @@ use mir.Val.{SFits, toZ, ofZ}
 use mir.Facts.{toZ-ofZ}
 use Rattle.signed.specs.Signed.{floor0}
 use Rattle.style.specs.declared.Paint.the-variants.{Colour}
-use Rattle.call_numbers.specs.CallNumbers.{paintOf}
-use Rattle.call_numbers.proofs.paint_of.Statement.{statement}
-use Rattle.call_numbers.proofs.paint_of.Tie as tie
+use Rattle.record_numbers.specs.RecordNumbers.{paintOf}
+use Rattle.record_numbers.proofs.paint_of.Statement.{statement}
+use Rattle.record_numbers.proofs.paint_of.Tie as tie
 
 fits : (c : tie.Start) → SFits w32 (c .args .v)
 fits c = search needs

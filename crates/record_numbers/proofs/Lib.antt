@@ -1,0 +1,3 @@
+-- A walk over a list of numbers.
+-- Assumes nothing.
+pub mod Walks
