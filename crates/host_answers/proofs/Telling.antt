@@ -1,6 +1,6 @@
 -- What a host is told of a call that put its values, refused or had nothing to give.
 -- Assumes nothing.
-use mathlib.Core.Path.{_≡_, refl, sym, ap, ap₂, _∙_}
+use mathlib.Core.Path.{_≡_, refl, sym, ap, ap₂, subst, _∙_}
 use mathlib.Core.Bool.{true}
 use mathlib.Core.List.{List, [], _∷_, map}
 use Prim.Native.Nat.{ℕ}
@@ -15,7 +15,7 @@ use mir.Facts.{toZ-ofZ}
 use Rattle.signed.proofs.Laws.{int, range}
 use Rattle.signed.specs.Signed.{Is}
 use Rattle.refusal.specs.declared.Checked.{Checked}
-use Rattle.refusal.specs.Refusal.{refused, answered, keeping, roomCheck}
+use Rattle.refusal.specs.Refusal.{Outcome, refused, answered, keeping, roomCheck}
 use Rattle.host_answers.specs.HostAnswers.{nothingThere, checkNumber, told, heldBy32, outAfter, Tells}
 
 -- a number that 32 bits with a sign hold comes out as it is
@@ -37,6 +37,14 @@ held-read n is = toZ-ofZ (is .fits) ∙ is .is
 pub tells-refused : (n : ℕ) (out : List ℤ) → Tells (refused n) out n out
 unfolding told outAfter
 tells-refused n out = record { answer = refl; values = refl }
+
+-- an outcome that is another one's equal, and a refusal that was told by its number
+pub tells-as : {o o′ : Outcome} {out : List ℤ} {r : ℕ} {out′ : List ℤ} → o ≡ o′ → Tells o out r out′ → Tells o′ out r out′
+tells-as {out = out} {r = r} {out′ = out′} same tells = subst (λ (o : Outcome). Tells o out r out′) same tells
+
+pub tells-refusal : {o : Outcome} {n r : ℕ} (out : List ℤ) → refused n ≡ o → r ≡ n → Tells o out r out
+tells-refusal {o} {n} {r} out same number-is =
+    subst (λ (m : ℕ). Tells o out m out) (sym number-is) (tells-as same (tells-refused n out))
 
 -- nothing to give
 pub tells-nothing : (out : List ℤ) → Tells (answered []) out nothingThere out

@@ -26,6 +26,16 @@ abbrev pub ofRecord : Bool → Outcome → Outcome
 ofRecord true outcome = outcome
 ofRecord false outcome = refused noRecord
 
+-- a lent buffer after such a call: of numbers that are no record as it was
+abbrev pub ifRecord : {A : Type 0} → Bool → A → A → A
+ifRecord true before after = after
+ifRecord false before after = before
+
+-- a call that is made once a check has passed
+abbrev pub afterCheck : Checked → Outcome → Outcome
+afterCheck Passed outcome = outcome
+afterCheck (Refused refusal) outcome = refused (number refusal)
+
 -- the number that stands for a check: 0 for passed
 abbrev pub checkNumber : Checked → ℕ
 checkNumber Passed = 0

@@ -1,3 +1,4 @@
--- A walk over a list of numbers.
+-- Numbers read from a list, a walk over it, and the length of a record.
 -- Assumes nothing.
 pub mod Walks
+pub mod Records
