@@ -41,6 +41,11 @@ abbrev pub checkNumber : Checked → ℕ
 checkNumber Passed = 0
 checkNumber (Refused refusal) = number refusal
 
+-- what the host is told of a call that gives no values
+abbrev pub outcomeNumber : Outcome → ℕ
+outcomeNumber (refused n) = n
+outcomeNumber (answered values) = 0
+
 -- what the host is told, by what the call says and the room in the list that it lent for the values: 13 if they have none
 unfoldable pub told : Outcome → ℕ → ℕ
 told (refused n) room = n
