@@ -6,15 +6,15 @@
 -- Figures and styles are written as in `record_numbers`. A paint call's numbers from 2 on, and 18 and 19 of any call, are not looked
 -- at. Numbers are i32: layers of 2^31 and more, which `Sheet::paint` takes too and refuses, cannot be written.
 -- Assumes nothing.
-use mathlib.Core.Bool.{Bool, true, cond, _&&_}
-use mathlib.Core.List.{List, [], _∷_}
-use Prim.Native.Nat.{ℕ, zero, suc, _*_, _/_, _%_}
+use mathlib.Core.Bool.{Bool, cond, _&&_}
+use mathlib.Core.List.{List}
+use Prim.Native.Nat.{ℕ, _*_, _/_, _%_}
 use lib.Dec.{eqb}
 use lib.IntN.{ℤ, pos}
 use lib.ListN.{length, take, drop}
 use lib.Signed.{leZ}
 use Rattle.signed.specs.Signed.{floor0}
-use Rattle.record_numbers.specs.RecordNumbers.{figureLength, styleLength, numberAt, within, isFigure, isStyle, figureOf, styleOf}
+use Rattle.record_numbers.specs.RecordNumbers.{figureLength, styleLength, numberAt, listFrom, allFrom, within, isFigure, isStyle, figureOf, styleOf}
 use Rattle.book.specs.Book.{Call, add, paint}
 use Rattle.drawing.specs.Drawing.{StyledFigure, styledFigure}
 
@@ -49,13 +49,11 @@ abbrev pub callNumbers : List ℤ → ℕ → List ℤ
 callNumbers numbers j = take callLength (drop (callLength * j) numbers)
 
 -- n calls from call j on, and whether all of them are calls
-unfoldable pub callsFrom : List ℤ → ℕ → ℕ → List (Call StyledFigure)
-callsFrom numbers j zero = []
-callsFrom numbers j (suc n) = callOf (callNumbers numbers j) ∷ callsFrom numbers (suc j) n
+abbrev pub callsFrom : List ℤ → ℕ → ℕ → List (Call StyledFigure)
+callsFrom numbers j n = listFrom (λ k. callOf (callNumbers numbers k)) j n
 
-unfoldable pub areCalls : List ℤ → ℕ → ℕ → Bool
-areCalls numbers j zero = true
-areCalls numbers j (suc n) = isCall (callNumbers numbers j) && areCalls numbers (suc j) n
+abbrev pub areCalls : List ℤ → ℕ → ℕ → Bool
+areCalls numbers j n = allFrom (λ k. isCall (callNumbers numbers k)) j n
 
 -- the whole list
 abbrev pub callCount : List ℤ → ℕ

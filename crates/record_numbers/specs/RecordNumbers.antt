@@ -10,7 +10,7 @@
 -- Assumes nothing.
 use mathlib.Core.Bool.{Bool, true, cond, _&&_}
 use mathlib.Core.List.{List, [], _∷_}
-use Prim.Native.Nat.{ℕ, _%_}
+use Prim.Native.Nat.{ℕ, zero, suc, _%_}
 use lib.Dec.{eqb}
 use lib.IntN.{ℤ, pos, negsuc}
 use lib.ListN.{length, take, drop, getD}
@@ -38,6 +38,15 @@ styleLength = 4
 -- the k-th of some numbers
 abbrev pub numberAt : List ℤ → ℕ → ℤ
 numberAt numbers k = getD numbers k (pos 0)
+
+-- n things from the j-th on, and whether a test holds for each of them
+unfoldable pub listFrom : {A : Type 0} → (ℕ → A) → ℕ → ℕ → List A
+listFrom f j zero = []
+listFrom f j (suc n) = f j ∷ listFrom f (suc j) n
+
+unfoldable pub allFrom : (ℕ → Bool) → ℕ → ℕ → Bool
+allFrom test j zero = true
+allFrom test j (suc n) = test j && allFrom test (suc j) n
 
 -- ---- Which numbers are a record.
 

@@ -29,7 +29,7 @@ pub fn is_within(low: i32, high: i32, v: i32) -> bool
 }
 
 // Whether none of the numbers is negative.
-fn none_negative(numbers: &[i32]) -> bool
+pub fn none_negative(numbers: &[i32]) -> bool
     ensures { λ r. ⌜ r ≡ noneNegative (now (numbers .entry)) ⌝ }
 {
     let mut i: usize = 0;
