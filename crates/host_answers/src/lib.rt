@@ -4,8 +4,7 @@ use refusal::Checked;
 use refusal::Refusal;
 use refusal::check_room;
 ghost use mathlib.Core.Path.{_≡_};
-ghost use Prim.Native.Nat.{_≤_};
-ghost use mathlib.Core.List.{[], _∷_};
+ghost use Prim.Native.Nat.{_+_, _≤_};
 ghost use lib.IntN.{pos};
 ghost use lib.ListN.{length};
 ghost use lib.Seq.{sets};
@@ -42,14 +41,14 @@ pub fn number_of(check: Checked) -> u32
     }
 }
 
-// Writes the values from the list's start on.
-fn put_all(out: &mut [i32], values: &[i32])
-    requires { ⌜ length (now values) ≤ length (now out) ⌝ }
-    ensures { λ _. ⌜ now (out .exit) ≡ sets (now (out .entry)) 0 (now (values .entry)) ⌝ }
+// Writes the values from a place of the list on.
+pub fn put_from(out: &mut [i32], at: usize, values: &[i32])
+    requires { ⌜ at + length (now values) ≤ length (now out) ⌝ }
+    ensures { λ _. ⌜ now (out .exit) ≡ sets (now (out .entry)) at (now (values .entry)) ⌝ }
 {
     let mut i: usize = 0;
     while i < values.len() {
-        out[i] = values[i];
+        out[at + i] = values[i];
         i += 1;
     }
 }
@@ -60,7 +59,7 @@ pub fn put_numbers(out: &mut [i32], values: &[i32]) -> u32
     ensures { λ _. ⌜ now (out .exit) ≡ keeping (roomCheck (length (now (values .entry))) (length (now (out .entry)))) (now (out .entry)) (sets (now (out .entry)) 0 (now (values .entry))) ⌝ }
 {
     let Checked::Refused(refusal) = check_room(values.len(), out.len()) else {
-        put_all(out, values);
+        put_from(out, 0, values);
         return DONE;
     };
     refusal.number()

@@ -19,16 +19,17 @@ enum-known-refusal c = search needs
 enum-told : tie.Need-enum-told
 enum-told c = search needs
 
-put-all-requires : tie.Need-put-all-requires
-put-all-requires c κs =
+put-from-requires : tie.Need-put-from-requires
+put-from-requires c κs =
     let entry = c .before .before .before .before .args in
-    passed-above (length (entry .out .now)) (length (entry .values .now)) BufferLength (sym (c .before .before .before .check-room .ensures) ∙ c .before .enum-told .given .1)
+    let room = passed-above (length (entry .out .now)) (length (entry .values .now)) BufferLength (sym (c .before .before .before .check-room .ensures) ∙ c .before .enum-told .given .1) in
+    omega arith
 
 same-length : tie.Need-same-length
 same-length c = search needs
 
 returns : tie.Need-returns
-returns c = rw (sym (c .before .before .before .before .before .check-room .ensures) ∙ c .before .before .before .enum-told .given .1) (refl, c .before .put-all .ensures)
+returns c = rw (sym (c .before .before .before .before .before .check-room .ensures) ∙ c .before .before .before .enum-told .given .1) (refl, c .before .put-from .ensures)
 
 number-requires : tie.Need-number-requires
 number-requires c κs = search needs
@@ -43,7 +44,7 @@ put-numbers-spec =
     check-room-requires
     enum-known-refusal
     enum-told
-    put-all-requires
+    put-from-requires
     same-length
     returns
     number-requires
