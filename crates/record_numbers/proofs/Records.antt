@@ -8,7 +8,7 @@ use lib.IntN.{ℤ}
 use lib.ListN.{length}
 use Rattle.record_numbers.specs.RecordNumbers.{figureLength, styleLength, isFigure, isStyle}
 
-first-true : (a b : Bool) → (a && b) ≡ true → a ≡ true
+pub first-true : (a b : Bool) → (a && b) ≡ true → a ≡ true
 first-true true b both = refl
 first-true false b both = both
 
