@@ -85,6 +85,12 @@ mod query;
 #[path = "$here/../hosts/wunqaber.rs"]
 mod wunqaber;
 #[cfg(library)]
+#[path = "$here/numbers.rs"]
+mod numbers;
+#[cfg(library)]
+#[path = "$here/held.rs"]
+mod held;
+#[cfg(library)]
 #[path = "$here/scale.rs"]
 mod scale;
 fn main() {
