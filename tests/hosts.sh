@@ -11,6 +11,7 @@ root=$(cd "$(dirname "$0")/.." && pwd)
 library=${1:-${WUNQABER_LIBRARY:-}}
 source=${EG_SOURCE:-$root/../shared/docs/src}
 cc=${CC:-cc}
+cxx=${CXX:-c++}
 # What the random rounds of the comparison may take, and when it is ended.
 seconds=90
 limit=150
@@ -51,9 +52,9 @@ done
 page_is_right page
 "$work/refusals" > "$work/log" || fail 'refusals found an answer or a buffer that is not as the header says'
 echo "hosts.sh: $(cat "$work/log")"
-if command -v c++ > /dev/null; then
+if command -v "$cxx" > /dev/null; then
     echo '#include "wunqaber.h"' > "$work/header.cc"
-    quietly 'include/wunqaber.h is not compiled as C++' c++ -Wall -Wextra -Werror -pedantic -fsyntax-only -I"$root/include" "$work/header.cc"
+    quietly 'include/wunqaber.h is not compiled as C++' "$cxx" -Wall -Wextra -Werror -pedantic -fsyntax-only -I"$root/include" "$work/header.cc"
 fi
 
 if ! command -v rustc > /dev/null; then
