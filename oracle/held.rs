@@ -68,8 +68,13 @@ impl Held {
         let number = by.err().unwrap_or(library::DONE);
         if found.0 != number || found.1 != wanted {
             println!("DIFFERENT {call}: {}", asked());
-            println!("expected: answer {number}, buffers {wanted:?}");
-            println!("found: answer {}, buffers {:?}", found.0, found.1);
+            let expected = format!("answer {number}, buffers {wanted:?}");
+            let found = format!("answer {}, buffers {:?}", found.0, found.1);
+            println!("expected: {expected}");
+            println!("found: {found}");
+            let same = expected.bytes().zip(found.bytes()).take_while(|(a, b)| a == b).count();
+            let part = |text: &str| text[same.saturating_sub(20)..(same + 20).min(text.len())].to_string();
+            println!("that is, where they part: '{}' expected, '{}' found", part(&expected), part(&found));
             exit(1);
         }
         let counts = self.counts.entry(call).or_default();

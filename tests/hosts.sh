@@ -74,7 +74,7 @@ timeout "$limit" "$work/build/oracle" scale 1 400 "$seconds" > "$work/scale" || 
 if [ "$status" = 124 ]; then
     fail "the comparison at scale did not end within $limit seconds"
 elif [ "$status" != 0 ]; then
-    tail -n 3 "$work/scale" >&2
+    tail -n 4 "$work/scale" >&2
     fail 'the comparison at scale found a difference'
 fi
 sed -n '/^equal/,/^refused/p' "$work/scale"
