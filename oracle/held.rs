@@ -8,8 +8,8 @@
 use crate::{
     compare::Report,
     numbers::{
-        figure_numbers, given_figure, kept, opened, place_of, radii_numbers, read_calls, read_figure, read_sheet,
-        read_style, style_numbers,
+        figure_numbers, given_figure, opened, place_of, radii_numbers, read_calls, read_figure, read_sheet, read_style,
+        style_numbers,
     },
     original::Original,
     query::{attempt, first_lent, lowest, Answers, Figure, Kind, Style},
@@ -295,7 +295,8 @@ impl Held {
             assert_eq!(added, 0, "oracle: an add call that passed is refused");
             let count = record.count as usize;
             let at = place_of(count);
-            all[at..at + 13].copy_from_slice(&kept(&f));
+            // as given, an ellipse's radii too
+            all[at..at + 13].copy_from_slice(n);
             all[at + 13..at + 17].copy_from_slice(&style_numbers(&s));
             all[at + 17] = given.next_row(count) as i32;
             all[2] += 1;

@@ -123,9 +123,3 @@ pub fn opened(width: u32, height: u32) -> [i32; SHEET_LENGTH] {
     }
     n
 }
-
-/// A figure as a sheet keeps it: an ellipse has no radii.
-pub fn kept(f: &Figure) -> [i32; FIGURE_LENGTH] {
-    let radii = if f.kind == Kind::Ellipse { [(0, 0); 4] } else { f.radii };
-    figure_numbers(&Figure { radii, ..*f })
-}
