@@ -449,6 +449,11 @@ pub fn main() {
                 std::process::exit(1);
             }
         }
+        #[cfg(not(library))]
+        Some("scale") => {
+            eprintln!("oracle: built without the library; build.sh takes it as LIBRARY");
+            std::process::exit(2);
+        }
         Some(other) => {
             eprintln!("oracle [original | reference | compare [SEED [EFFORT]] | scale [SEED [EFFORT [SECONDS]]]]; not {other}");
             std::process::exit(2);
