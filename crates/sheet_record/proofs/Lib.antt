@@ -1,3 +1,5 @@
 -- The part of a list that is lent for a place.
 -- Assumes nothing.
 pub mod Parts
+pub mod Windows
+pub mod ReadBack

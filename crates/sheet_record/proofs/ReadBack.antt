@@ -1,0 +1,310 @@
+-- What is written into a sheet's numbers is read back: a next row, and a layer with the count.
+-- Assumes nothing.
+use mathlib.Core.Path.{_≡_, refl, sym, ap, ap₂, _∙_}
+use mathlib.Core.Bool.{Bool, true, false, _&&_}
+use mathlib.Core.List.{List, [], _∷_, _++_}
+use mathlib.Core.Logic.{_≢_}
+use Prim.Native.Nat.{ℕ, zero, suc, _+_, _<_, _≤_}
+use native.Mathlib.Omega.{arith}
+use borrow.Author.Tests.{leb-true, leb-false, eq-eqb, eqb-true, eqb-false}
+use lib.Dec.{leb, eqb}
+use lib.IntN.{ℤ, pos}
+use lib.ListN.{length, take, drop, set, getD, length-take, length-drop, length-set}
+use lib.Seq.{sets, sets-eq, length-sets, take-set-le, take-set-lt, drop-set-add, getD-set-same, getD-set-other, getD-take, take-take, take-append-seam, drop-append-seam, take-add, length-take-le}
+use lib.Signed.{leZ}
+use Rattle.signed.specs.Signed.{floor0}
+use Rattle.signed.proofs.Laws.{int}
+use Rattle.record_numbers.specs.RecordNumbers.{numberAt, listFrom, allFrom, noneNegative, isFigure, isStyle, figureOf, styleOf}
+use Rattle.book.proofs.Tests.{and-true-parts}
+use Rattle.layers.specs.declared.Layer.{Layer}
+use Rattle.layers.specs.Layers.{blankLayer}
+use Rattle.sheet.specs.declared.Sheet.{Sheet}
+use Rattle.sheet.specs.Sheet.{withLayer}
+use Rattle.sheet_record.specs.SheetRecord.{placeAt, placeNumbers, isLayer, isSheet, layerOf, sheetOf, layerPut}
+use Rattle.sheet_record.proofs.Windows.{drop-sets-before, drop-sets-add, take-sets-behind, part-before, part-behind}
+
+-- ---- Lists that differ in one place.
+module _ {A : Type 0} (f g : ℕ → A) (i : ℕ) (same : (j : ℕ) → j ≢ i → g j ≡ f j) where
+  behind : (n j : ℕ) → i < j → listFrom g j n ≡ listFrom f j n
+  unfolding listFrom
+  behind zero j past = refl
+  behind (suc n) j past = λ k. same j (omega arith) k ∷ behind n (suc j) (omega arith) k
+
+  but-one : (n j d : ℕ) → i ≡ j + d → listFrom g j n ≡ set (listFrom f j n) d (g i)
+  unfolding listFrom
+  but-one zero j d at = refl
+  but-one (suc n) j zero at =
+      let here : j ≡ i = omega arith in
+      λ k. g (here k) ∷ behind n (suc j) (omega arith) k
+  but-one (suc n) j (suc d) at = λ k. same j (omega arith) k ∷ but-one n (suc j) d (omega arith) k
+
+module _ {A : Type 0} (f : ℕ → A) (d : A) where
+  pub get-list-from : (n j i : ℕ) → i < n → getD (listFrom f j n) i d ≡ f (j + i)
+  unfolding listFrom
+  get-list-from zero j i within = absurd (omega arith)
+  get-list-from (suc n) j zero within =
+      let here : j ≡ j + 0 = omega arith in
+      ap f here
+  get-list-from (suc n) j (suc i) within =
+      let next : suc j + i ≡ j + suc i = omega arith in
+      get-list-from n (suc j) i (omega arith) ∙ ap f next
+
+-- ---- A test that holds for each of some things, and for all of them.
+module _ (test : ℕ → Bool) where
+  each-of-all : (n j i : ℕ) → i < n → allFrom test j n ≡ true → test (j + i) ≡ true
+  unfolding allFrom
+  each-of-all zero j i within all = absurd (omega arith)
+  each-of-all (suc n) j zero within all =
+      let here : j + 0 ≡ j = omega arith in
+      ap test here ∙ and-true-parts (test j) (allFrom test (suc j) n) all .0
+  each-of-all (suc n) j (suc i) within all =
+      let next : j + suc i ≡ suc j + i = omega arith in
+      ap test next ∙ each-of-all n (suc j) i (omega arith) (and-true-parts (test j) (allFrom test (suc j) n) all .1)
+
+  all-of-each : (n j : ℕ) → ((i : ℕ) → i < j + n → test i ≡ true) → allFrom test j n ≡ true
+  unfolding allFrom
+  all-of-each zero j each = refl
+  all-of-each (suc n) j each = ap₂ _&&_ (each j (omega arith)) (all-of-each n (suc j) (λ i within. each i (omega arith)))
+
+-- ---- A place that nothing was written in.
+apart : (i j : ℕ) → j ≢ i → (t : Bool) → leb i j ≡ t → (P : Type 0) → (i < j → P) → (j < i → P) → P
+apart i j other true order P after before =
+    let le = leb-true i j order in
+    after (omega arith)
+apart i j other false order P after before = before (leb-false i j order)
+
+-- ---- The numbers are a sheet's afterwards too.
+none-negative-set : (l : List ℤ) (k n : ℕ) → noneNegative l ≡ true → noneNegative (set l k (pos n)) ≡ true
+unfolding noneNegative
+none-negative-set [] k n none = none
+none-negative-set (v ∷ l) zero n none =
+    let here : leZ (pos 0) (pos n) ≡ true = omega (arith, int) in
+    ap₂ _&&_ here (and-true-parts (leZ (pos 0) v) (noneNegative l) none .1)
+none-negative-set (v ∷ l) (suc k) n none =
+    let parts = and-true-parts (leZ (pos 0) v) (noneNegative l) none in
+    ap₂ _&&_ (parts .0) (none-negative-set l k n (parts .1))
+
+module _ (before after : List ℤ) (sheet : isSheet before ≡ true) where
+  pub places-before : (j : ℕ) → j < 16 → isLayer (placeNumbers before j) ≡ true
+  unfolding isSheet
+  places-before j within =
+      let here : 0 + j ≡ j = omega arith in
+      ap (λ (k : ℕ). isLayer (placeNumbers before k)) (sym here)
+      ∙ each-of-all (λ k. isLayer (placeNumbers before k)) 16 0 j within
+      (and-true-parts (noneNegative (take 3 before)) (allFrom (λ k. isLayer (placeNumbers before k)) 0 16)
+      (and-true-parts (eqb (length before) 291) (noneNegative (take 3 before) && allFrom (λ k. isLayer (placeNumbers before k)) 0 16) sheet .1) .1)
+
+  pub sides-before : noneNegative (take 3 before) ≡ true
+  unfolding isSheet
+  sides-before =
+      and-true-parts (noneNegative (take 3 before)) (allFrom (λ k. isLayer (placeNumbers before k)) 0 16)
+      (and-true-parts (eqb (length before) 291) (noneNegative (take 3 before) && allFrom (λ k. isLayer (placeNumbers before k)) 0 16) sheet .1) .0
+
+  pub still-sheet : length after ≡ 291 → noneNegative (take 3 after) ≡ true → ((j : ℕ) → j < 16 → isLayer (placeNumbers after j) ≡ true)
+      → isSheet after ≡ true
+  unfolding isSheet
+  still-sheet long sides places =
+      rw (eq-eqb (length after) 291 long, sides) (all-of-each (λ k. isLayer (placeNumbers after k)) 16 0 (λ j within. places j within))
+
+-- ---- A next row.
+module _ (numbers : List ℤ) (long : length numbers ≡ 291) (i : ℕ) (place : i < 16) (row : ℤ) where
+  abbrev written : List ℤ
+  written = set numbers (placeAt i + 17) row
+
+  abbrev old : Layer
+  old = getD (sheetOf numbers .layers) i blankLayer
+
+  abbrev new : Layer
+  new = record { figure = old .figure; style = old .style; «next_row» = row }
+
+  same-place : (j : ℕ) → j ≢ i → placeNumbers written j ≡ placeNumbers numbers j
+  same-place j other =
+      apart i j other (leb i j) refl (placeNumbers written j ≡ placeNumbers numbers j)
+      (λ after. part-before 18 (placeAt j) (placeAt i + 17) numbers (row ∷ []) (omega arith))
+      (λ before. part-behind 18 (placeAt j) (placeAt i + 17) numbers (row ∷ []) (omega arith))
+
+  this-place : placeNumbers written i ≡ set (placeNumbers numbers i) 17 row
+  this-place =
+      ap (take 18) (drop-set-add (placeAt i) numbers 17 row) ∙ take-set-lt 18 (drop (placeAt i) numbers) 17 row (omega arith)
+
+  place-length : length (placeNumbers numbers i) ≡ 18
+  place-length = simp (length-take, length-drop) (omega arith)
+
+  old-is : old ≡ layerOf (placeNumbers numbers i)
+  unfolding sheetOf
+  old-is =
+      let here : 0 + i ≡ i = omega arith in
+      get-list-from (λ j. layerOf (placeNumbers numbers j)) blankLayer 16 0 i place ∙ ap (λ (j : ℕ). layerOf (placeNumbers numbers j)) here
+
+  this-layer : layerOf (placeNumbers written i) ≡ new
+  this-layer =
+      let p = placeNumbers numbers i in
+      let style = ap (take 4) (drop-set-add 13 p 4 row) ∙ take-set-le 4 (drop 13 p) 4 row (omega arith) in
+      ap layerOf this-place
+      ∙ (λ k. record { figure = figureOf (take-set-le 13 p 17 row (omega arith) k); style = styleOf (style k); «next_row» = getD-set-same p 17 row (pos 0) (omega (arith, place-length)) k })
+      ∙ ap (λ (l : Layer). record { figure = l .figure; style = l .style; «next_row» = row }) (sym old-is)
+
+  other-number : (k : ℕ) → k < 20 → numberAt written k ≡ numberAt numbers k
+  other-number k small = getD-set-other numbers (placeAt i + 17) k row (pos 0) (omega arith)
+
+  pub row-kept : isSheet numbers ≡ true → isSheet written ≡ true
+  row-kept sheet =
+      still-sheet numbers written sheet (length-set numbers (placeAt i + 17) row ∙ long)
+      (ap noneNegative (take-set-le 3 numbers (placeAt i + 17) row (omega arith)) ∙ sides-before numbers written sheet)
+      (λ j within. by-place j within (eqb j i) refl)
+    where
+      by-place : (j : ℕ) → j < 16 → (t : Bool) → eqb j i ≡ t → isLayer (placeNumbers written j) ≡ true
+      by-place j within false order = ap (λ (p : List ℤ). isLayer p) (same-place j (eqb-false j i order)) ∙ places-before numbers written sheet j within
+      by-place j within true order =
+          let p = placeNumbers numbers i in
+          let style = ap (take 4) (drop-set-add 13 p 4 row) ∙ take-set-le 4 (drop 13 p) 4 row (omega arith) in
+          ap (λ (k : ℕ). isLayer (placeNumbers written k)) (eqb-true j i order)
+          ∙ ap (λ (q : List ℤ). isLayer q) this-place
+          ∙ ap₂ (λ (f s : List ℤ). isFigure f && isStyle s) (take-set-le 13 p 17 row (omega arith)) style
+          ∙ places-before numbers written sheet i place
+
+  pub row-read-back : sheetOf written ≡ withLayer (sheetOf numbers) (sheetOf numbers .count) i new
+  unfolding sheetOf
+  row-read-back k =
+      record {
+        width = floor0 (other-number 0 (omega arith) k);
+        height = floor0 (other-number 1 (omega arith) k);
+        count = floor0 (other-number 2 (omega arith) k);
+        layers = (but-one (λ j. layerOf (placeNumbers numbers j)) (λ j. layerOf (placeNumbers written j)) i (λ j other. ap layerOf (same-place j other)) 16 0 i (omega arith)
+            ∙ ap (set (sheetOf numbers .layers) i) this-layer) k;
+      }
+
+-- ---- A layer and the count.
+module _ (numbers : List ℤ) (long : length numbers ≡ 291) (i : ℕ) (place : i < 16) (figure style : List ℤ) (row : ℤ) (count : ℕ)
+    (figure-long : length figure ≡ 13) (style-long : length style ≡ 4) where
+  abbrev at : ℕ
+  at = placeAt i
+
+  abbrev added : List ℤ
+  added = set (layerPut numbers i figure style row) 2 (pos count)
+
+  abbrev put : Layer
+  put = record { figure = figureOf figure; style = styleOf style; «next_row» = row }
+
+  added-elsewhere : (j : ℕ) → j ≢ i → placeNumbers added j ≡ placeNumbers numbers j
+  added-elsewhere j other =
+      part-before 18 (placeAt j) 2 (layerPut numbers i figure style row) (pos count ∷ []) (omega arith)
+      ∙ apart i j other (leb i j) refl (placeNumbers (layerPut numbers i figure style row) j ≡ placeNumbers numbers j)
+      (λ after.
+      part-before 18 (placeAt j) (at + 17) (sets (sets numbers at figure) (at + 13) style) (row ∷ []) (omega arith)
+      ∙ part-before 18 (placeAt j) (at + 13) (sets numbers at figure) style (omega arith)
+      ∙ part-before 18 (placeAt j) at numbers figure (omega arith))
+      (λ before.
+      part-behind 18 (placeAt j) (at + 17) (sets (sets numbers at figure) (at + 13) style) (row ∷ []) (omega arith)
+      ∙ part-behind 18 (placeAt j) (at + 13) (sets numbers at figure) style (omega arith)
+      ∙ part-behind 18 (placeAt j) at numbers figure (omega arith))
+
+  -- the place's own numbers, before they are cut off behind
+  abbrev rest : List ℤ
+  rest = drop at numbers
+
+  abbrev own : List ℤ
+  own = set (sets (sets rest 0 figure) 13 style) 17 row
+
+  rest-long : 18 ≤ length rest
+  rest-long = omega (arith, length-drop at numbers)
+
+  own-numbers : placeNumbers added i ≡ take 18 own
+  own-numbers =
+      let from : at ≡ at + 0 = omega arith in
+      ap (take 18)
+      (drop-sets-before at 2 (layerPut numbers i figure style row) (pos count ∷ []) (omega arith)
+      ∙ drop-sets-add at 17 (sets (sets numbers at figure) (at + 13) style) (row ∷ [])
+      ∙ ap (λ (l : List ℤ). set l 17 row)
+      (drop-sets-add at 13 (sets numbers at figure) style
+      ∙ ap (λ (l : List ℤ). sets l 13 style) (ap (λ (k : ℕ). drop at (sets numbers k figure)) from ∙ drop-sets-add at 0 numbers figure)))
+
+  -- what was put at a list's start stands there
+  starts : (l vs : List ℤ) (n : ℕ) → length vs ≡ n → n ≤ length l → take n (sets l 0 vs) ≡ vs
+  starts l vs n many fits =
+      ap (take n) (sets-eq vs l 0 (omega arith)) ∙ ap (λ (k : ℕ). take k (vs ++ drop (0 + length vs) l)) (sym many) ∙ take-append-seam vs (drop (0 + length vs) l)
+
+  own-figure : take 13 (take 18 own) ≡ figure
+  own-figure =
+      take-take 13 18 own (omega arith)
+      ∙ take-set-le 13 (sets (sets rest 0 figure) 13 style) 17 row (omega arith)
+      ∙ take-sets-behind 13 13 (sets rest 0 figure) style (omega arith)
+      ∙ starts rest figure 13 figure-long (omega (arith, rest-long))
+
+  own-long : length own ≡ length rest
+  own-long = simp length-set (length-sets (sets rest 0 figure) 13 style ∙ length-sets rest 0 figure)
+
+  own-style : take 4 (drop 13 (take 18 own)) ≡ style
+  own-style =
+      let split = take-add 13 5 own in
+      let first = length-take-le 13 own (omega (arith, own-long, rest-long)) in
+      let five : take 5 (drop 13 own) ≡ drop 13 (take 13 own ++ take 5 (drop 13 own)) =
+      sym (ap (λ (k : ℕ). drop k (take 13 own ++ take 5 (drop 13 own))) (sym first) ∙ drop-append-seam (take 13 own) (take 5 (drop 13 own))) in
+      ap (λ (l : List ℤ). take 4 (drop 13 l)) split
+      ∙ ap (take 4) (sym five)
+      ∙ take-take 4 5 (drop 13 own) (omega arith)
+      ∙ ap (take 4) (drop-set-add 13 (sets (sets rest 0 figure) 13 style) 4 row)
+      ∙ take-set-le 4 (drop 13 (sets (sets rest 0 figure) 13 style)) 4 row (omega arith)
+      ∙ ap (take 4) (drop-sets-add 13 0 (sets rest 0 figure) style)
+      ∙ starts (drop 13 (sets rest 0 figure)) style 4 style-long (omega (arith, length-drop 13 (sets rest 0 figure), length-sets rest 0 figure, rest-long))
+
+  own-row : numberAt (take 18 own) 17 ≡ row
+  own-row =
+      getD-take 18 own 17 (pos 0) (omega arith)
+      ∙ getD-set-same (sets (sets rest 0 figure) 13 style) 17 row (pos 0)
+      (omega (arith, length-sets (sets rest 0 figure) 13 style, length-sets rest 0 figure, rest-long))
+
+  added-here : layerOf (placeNumbers added i) ≡ put
+  added-here =
+      ap layerOf own-numbers ∙ (λ k. record { figure = figureOf (own-figure k); style = styleOf (own-style k); «next_row» = own-row k })
+
+  first-numbers : (k : ℕ) → k < 2 → numberAt added k ≡ numberAt numbers k
+  first-numbers k small =
+      getD-set-other (layerPut numbers i figure style row) 2 k (pos count) (pos 0) (omega arith)
+      ∙ sym (getD-take at (layerPut numbers i figure style row) k (pos 0) (omega arith))
+      ∙ ap (λ (l : List ℤ). numberAt l k)
+      (take-sets-behind at (at + 17) (sets (sets numbers at figure) (at + 13) style) (row ∷ []) (omega arith)
+      ∙ take-sets-behind at (at + 13) (sets numbers at figure) style (omega arith)
+      ∙ take-sets-behind at at numbers figure (omega arith))
+      ∙ getD-take at numbers k (pos 0) (omega arith)
+
+  put-long : length (layerPut numbers i figure style row) ≡ 291
+  put-long = simp length-set (length-sets (sets numbers at figure) (at + 13) style ∙ length-sets numbers at figure ∙ long)
+
+  pub layer-kept : isSheet numbers ≡ true → isFigure figure ≡ true → isStyle style ≡ true → isSheet added ≡ true
+  layer-kept sheet is-figure is-style =
+      still-sheet numbers added sheet (length-set (layerPut numbers i figure style row) 2 (pos count) ∙ put-long) sides
+      (λ j within. by-place j within (eqb j i) refl)
+    where
+      sides : noneNegative (take 3 added) ≡ true
+      sides =
+          ap noneNegative
+          (take-set-lt 3 (layerPut numbers i figure style row) 2 (pos count) (omega arith)
+          ∙ ap (λ (l : List ℤ). set l 2 (pos count))
+          (take-set-le 3 (sets (sets numbers at figure) (at + 13) style) (at + 17) row (omega arith)
+          ∙ take-sets-behind 3 (at + 13) (sets numbers at figure) style (omega arith)
+          ∙ take-sets-behind 3 at numbers figure (omega arith)))
+          ∙ none-negative-set (take 3 numbers) 2 count (sides-before numbers added sheet)
+
+      by-place : (j : ℕ) → j < 16 → (t : Bool) → eqb j i ≡ t → isLayer (placeNumbers added j) ≡ true
+      by-place j within false order =
+          ap (λ (p : List ℤ). isLayer p) (added-elsewhere j (eqb-false j i order)) ∙ places-before numbers added sheet j within
+      by-place j within true order =
+          ap (λ (k : ℕ). isLayer (placeNumbers added k)) (eqb-true j i order)
+          ∙ ap (λ (q : List ℤ). isLayer q) own-numbers
+          ∙ ap₂ (λ (f s : List ℤ). isFigure f && isStyle s) own-figure own-style
+          ∙ rw (is-figure, is-style)
+
+  pub layer-read-back : sheetOf added ≡ withLayer (sheetOf numbers) count i put
+  unfolding sheetOf
+  layer-read-back k =
+      record {
+        width = floor0 (first-numbers 0 (omega arith) k);
+        height = floor0 (first-numbers 1 (omega arith) k);
+        count = (ap (λ (z : ℤ). floor0 z) (getD-set-same (layerPut numbers i figure style row) 2 (pos count) (pos 0) (omega (arith, put-long))) ∙ count-read) k;
+        layers = (but-one (λ j. layerOf (placeNumbers numbers j)) (λ j. layerOf (placeNumbers added j)) i (λ j other. ap layerOf (added-elsewhere j other)) 16 0 i (omega arith)
+            ∙ ap (set (sheetOf numbers .layers) i) added-here) k;
+      }
+    where
+      count-read : floor0 (pos count) ≡ count
+      count-read = omega arith
