@@ -1,3 +1,4 @@
--- What an accepted call says of the sheet given.
+-- What an accepted call says of the sheet given, and what the numbers are after a call.
 -- Assumes nothing.
 mod Accepted
+pub mod NumbersAfter

@@ -1,6 +1,7 @@
 -- What the calls on a sheet say to a host that keeps it as numbers (`SheetRecord`), and what they leave of the numbers and the canvas.
 -- Assumes nothing.
-use mathlib.Core.Bool.{Bool, cond, _&&_}
+use mathlib.Core.Path.{_≡_}
+use mathlib.Core.Bool.{Bool, true, cond, _&&_}
 use mathlib.Core.List.{List, [], _∷_, _++_}
 use Prim.Native.Nat.{ℕ, zero, suc, _+_}
 use lib.IntN.{ℤ, pos, negsuc}
@@ -12,7 +13,7 @@ use Rattle.book.specs.Book.{Answer, ifAccepted, Call, add, paint}
 use Rattle.drawing.specs.Drawing.{StyledFigure, styledFigure}
 use Rattle.layers.specs.Layers.{blankLayer}
 use Rattle.sheet.specs.declared.Sheet.{Sheet}
-use Rattle.sheet.specs.Sheet.{sheetAnswer, sheetAfter, canvasAfter}
+use Rattle.sheet.specs.Sheet.{openedSheet, sheetAnswer, sheetAfter, canvasAfter}
 use Rattle.sheet_calls.specs.SheetCalls.{answerNumber}
 use Rattle.record_numbers.specs.RecordNumbers.{isFigure, isStyle, figureOf, styleOf}
 use Rattle.sheet_record.specs.SheetRecord.{isSheet, sheetOf, placeAt, layerPut}
@@ -80,3 +81,20 @@ paintNumbers sheet i canvas =
 
 unfoldable pub paintCanvas : List ℤ → ℕ → List ℕ → List ℕ
 paintCanvas sheet i canvas = ifRecord (isSheet sheet) canvas (canvasAfter (sheetOf sheet) canvas (paint i))
+
+-- ---- What the numbers are afterwards: a sheet's again, and of the sheet after the call. So a list of these calls on numbers that
+-- were opened is a list of `Sheet`'s own calls, for which the third demand holds (proofs/NumbersAfter.antt).
+abbrev pub OpenReadsBack : Type 0
+OpenReadsBack = (W H : ℕ) → (isSheet (openedNumbers W H) ≡ true) × (sheetOf (openedNumbers W H) ≡ openedSheet W H)
+
+abbrev pub AddReadsBack : Type 0
+AddReadsBack =
+    (sheet figure style : List ℤ) → areAll sheet figure style ≡ true
+    → (isSheet (addNumbers sheet figure style) ≡ true)
+    × (sheetOf (addNumbers sheet figure style) ≡ sheetAfter (sheetOf sheet) [] (addOf figure style))
+
+abbrev pub PaintReadsBack : Type 0
+PaintReadsBack =
+    (sheet : List ℤ) (i : ℕ) (canvas : List ℕ) → isSheet sheet ≡ true
+    → (isSheet (paintNumbers sheet i canvas) ≡ true)
+    × (sheetOf (paintNumbers sheet i canvas) ≡ sheetAfter (sheetOf sheet) canvas (paint i))

@@ -1,0 +1,89 @@
+-- The numbers after a call are a sheet's again, and of the sheet after it.
+-- Assumes nothing.
+use mathlib.Core.Path.{_≡_, refl, ap, ap₂, _∙_}
+use mathlib.Core.Bool.{true, _&&_}
+use mathlib.Core.List.{List, []}
+use Prim.Native.Nat.{ℕ}
+use native.Mathlib.Omega.{arith}
+use lib.IntN.{ℤ, pos}
+use lib.ListN.{getD}
+use lib.Seq.{getD-set-same}
+use lib.Signed.{leZ}
+use Rattle.signed.specs.Signed.{floor0}
+use Rattle.signed.proofs.Laws.{int}
+use Rattle.book.specs.Book.{Answer, accepted, refused, paint}
+use Rattle.book.proofs.Tests.{and-true-parts}
+use Rattle.drawing.specs.Drawing.{styledFigure}
+use Rattle.layers.specs.declared.Layer.{Layer}
+use Rattle.layers.specs.Layers.{blankLayer}
+use Rattle.sheet.specs.declared.Sheet.{Sheet}
+use Rattle.sheet.specs.Sheet.{openedSheet, sheetAnswer, withLayer, addedLayer, paintedLayer, carriedOutSheet, sheetAfter}
+use Rattle.record_numbers.specs.RecordNumbers.{isFigure, isStyle, listFrom, allFrom, noneNegative, figureOf, styleOf, paintOf, alignmentOf}
+use Rattle.record_numbers.proofs.Records.{figure-length, style-length}
+use Rattle.sheet_record.specs.SheetRecord.{isSheet, sheetOf}
+use Rattle.sheet_record.proofs.Parts.{sheet-length, sixteen}
+use Rattle.sheet_record.proofs.ReadBack.{row-kept, row-read-back, layer-kept, layer-read-back}
+use Rattle.host_sheets.specs.Sheets.{unusedPlaces, openedNumbers, nextRow, addOf, areAll, addNumbers, paintNumbers, OpenReadsBack, AddReadsBack, PaintReadsBack}
+use Rattle.host_sheets.proofs.Accepted.{added-place, painted-place}
+
+pub paint-reads-back : PaintReadsBack
+unfolding paintNumbers carriedOutSheet
+paint-reads-back numbers i canvas is = by (sheetAnswer (sheetOf numbers) canvas (paint i)) refl
+  where
+    by : (a : Answer) → sheetAnswer (sheetOf numbers) canvas (paint i) ≡ a
+        → (isSheet (paintNumbers numbers i canvas) ≡ true) × (sheetOf (paintNumbers numbers i canvas) ≡ sheetAfter (sheetOf numbers) canvas (paint i))
+    by (refused n) e = rw (is, e) (is, refl)
+    by accepted e =
+        let place = painted-place numbers i canvas e in
+        let long = sheet-length numbers is in
+        let row : nextRow (carriedOutSheet (sheetOf numbers) (paint i)) i ≡ paintedLayer (getD (sheetOf numbers .layers) i blankLayer) .«next_row» =
+        ap (λ (l : Layer). l .«next_row»)
+        (getD-set-same (sheetOf numbers .layers) i (paintedLayer (getD (sheetOf numbers .layers) i blankLayer)) blankLayer (omega (arith, sixteen numbers))) in
+        rw (is, e) (
+          row-kept numbers long i place _ is,
+          row-read-back numbers long i place _
+              ∙ ap (λ (z : ℤ).
+              withLayer (sheetOf numbers) (sheetOf numbers .count) i
+              (record { figure = getD (sheetOf numbers .layers) i blankLayer .figure; style = getD (sheetOf numbers .layers) i blankLayer .style; «next_row» = z })) row,
+        )
+
+pub add-reads-back : AddReadsBack
+unfolding addNumbers carriedOutSheet
+add-reads-back numbers figure style all = by (sheetAnswer (sheetOf numbers) [] (addOf figure style)) refl
+  where
+    is : isSheet numbers ≡ true
+    is = and-true-parts (isSheet numbers) (isFigure figure && isStyle style) all .0
+
+    is-figure : isFigure figure ≡ true
+    is-figure = and-true-parts (isFigure figure) (isStyle style) (and-true-parts (isSheet numbers) (isFigure figure && isStyle style) all .1) .0
+
+    is-style : isStyle style ≡ true
+    is-style = and-true-parts (isFigure figure) (isStyle style) (and-true-parts (isSheet numbers) (isFigure figure && isStyle style) all .1) .1
+
+    by : (a : Answer) → sheetAnswer (sheetOf numbers) [] (addOf figure style) ≡ a
+        → (isSheet (addNumbers numbers figure style) ≡ true) × (sheetOf (addNumbers numbers figure style) ≡ sheetAfter (sheetOf numbers) [] (addOf figure style))
+    by (refused n) e = rw (is, is-figure, is-style, e) (is, refl)
+    by accepted e =
+        let place = added-place numbers figure style e in
+        let long = sheet-length numbers is in
+        let new : Layer = addedLayer (styledFigure (figureOf figure) (styleOf style)) in
+        let row : nextRow (carriedOutSheet (sheetOf numbers) (addOf figure style)) (sheetOf numbers .count)
+        ≡ addedLayer (styledFigure (figureOf figure) (styleOf style)) .«next_row» =
+        ap (λ (l : Layer). l .«next_row»)
+        (getD-set-same (sheetOf numbers .layers) (sheetOf numbers .count) (addedLayer (styledFigure (figureOf figure) (styleOf style))) blankLayer (omega (arith, sixteen numbers, place))) in
+        rw (is, is-figure, is-style, e) (
+          layer-kept numbers long (sheetOf numbers .count) place figure style _ _ (figure-length figure is-figure) (style-length style is-style) is is-figure is-style,
+          layer-read-back numbers long (sheetOf numbers .count) place figure style _ _ (figure-length figure is-figure) (style-length style is-style)
+              ∙ ap (λ (z : ℤ).
+              withLayer (sheetOf numbers) (carriedOutSheet (sheetOf numbers) (addOf figure style) .count) (sheetOf numbers .count)
+              (record { figure = figureOf figure; style = styleOf style; «next_row» = z })) row,
+        )
+
+pub open-reads-back : OpenReadsBack
+unfolding unusedPlaces isSheet sheetOf listFrom allFrom noneNegative isFigure isStyle figureOf styleOf paintOf alignmentOf
+open-reads-back W H =
+    let w : leZ (pos 0) (pos W) ≡ true = omega (arith, int) in
+    let h : leZ (pos 0) (pos H) ≡ true = omega (arith, int) in
+    let width : floor0 (pos W) ≡ W = omega arith in
+    let height : floor0 (pos H) ≡ H = omega arith in
+    (rw (w, h), λ k. record { width = width k; height = height k; count = 0; layers = openedSheet W H .layers })
