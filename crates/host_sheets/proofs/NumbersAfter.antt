@@ -1,9 +1,8 @@
 -- The numbers after a call are a sheet's again, and of the sheet after it.
 -- Assumes nothing.
-use mathlib.Core.Path.{_≡_, refl, ap, ap₂, _∙_}
+use mathlib.Core.Path.{_≡_, refl, ap, _∙_}
 use mathlib.Core.Bool.{true, _&&_}
-use mathlib.Core.List.{List, []}
-use Prim.Native.Nat.{ℕ}
+use mathlib.Core.List.{[]}
 use native.Mathlib.Omega.{arith}
 use lib.IntN.{ℤ, pos}
 use lib.ListN.{getD}
@@ -16,14 +15,13 @@ use Rattle.book.proofs.Tests.{and-true-parts}
 use Rattle.drawing.specs.Drawing.{styledFigure}
 use Rattle.layers.specs.declared.Layer.{Layer}
 use Rattle.layers.specs.Layers.{blankLayer}
-use Rattle.sheet.specs.declared.Sheet.{Sheet}
 use Rattle.sheet.specs.Sheet.{openedSheet, sheetAnswer, withLayer, addedLayer, paintedLayer, carriedOutSheet, sheetAfter}
 use Rattle.record_numbers.specs.RecordNumbers.{isFigure, isStyle, listFrom, allFrom, noneNegative, figureOf, styleOf, paintOf, alignmentOf}
 use Rattle.record_numbers.proofs.Records.{figure-length, style-length}
 use Rattle.sheet_record.specs.SheetRecord.{isSheet, sheetOf}
 use Rattle.sheet_record.proofs.Parts.{sheet-length, sixteen}
 use Rattle.sheet_record.proofs.ReadBack.{row-kept, row-read-back, layer-kept, layer-read-back}
-use Rattle.host_sheets.specs.Sheets.{unusedPlaces, openedNumbers, nextRow, addOf, areAll, addNumbers, paintNumbers, OpenReadsBack, AddReadsBack, PaintReadsBack}
+use Rattle.host_sheets.specs.Sheets.{unusedPlaces, nextRow, addOf, addNumbers, paintNumbers, OpenReadsBack, AddReadsBack, PaintReadsBack}
 use Rattle.host_sheets.proofs.Accepted.{added-place, painted-place}
 
 pub paint-reads-back : PaintReadsBack

@@ -18,7 +18,6 @@ use Rattle.record_numbers.specs.RecordNumbers.{numberAt, listFrom, allFrom, non
 use Rattle.book.proofs.Tests.{and-true-parts}
 use Rattle.layers.specs.declared.Layer.{Layer}
 use Rattle.layers.specs.Layers.{blankLayer}
-use Rattle.sheet.specs.declared.Sheet.{Sheet}
 use Rattle.sheet.specs.Sheet.{withLayer}
 use Rattle.sheet_record.specs.SheetRecord.{placeAt, placeNumbers, isLayer, isSheet, layerOf, sheetOf, layerPut}
 use Rattle.sheet_record.proofs.Windows.{drop-sets-before, drop-sets-add, take-sets-behind, part-before, part-behind}

@@ -8,8 +8,8 @@ use mathlib.Core.Bool.{Bool, _&&_}
 use mathlib.Core.List.{List}
 use Prim.Native.Nat.{ℕ, _+_, _*_}
 use lib.Dec.{eqb}
-use lib.IntN.{ℤ, pos}
-use lib.ListN.{length, take, drop, set, getD}
+use lib.IntN.{ℤ}
+use lib.ListN.{length, take, drop, set}
 use lib.Seq.{sets}
 use Rattle.signed.specs.Signed.{floor0}
 use Rattle.geometry.specs.Limits.{maxLayers}

@@ -1,18 +1,16 @@
 -- `call_numbers::is_call` meets its contract: the first number says which of the two it may be.
 -- Assumes nothing.
 use mathlib.Core.Path.{_≡_, sym, ap, _∙_}
-use mathlib.Core.Bool.{Bool, true, _&&_}
+use mathlib.Core.Bool.{Bool, true}
 use borrow.Author.Tests.{not-true, not-false}
 use lib.IntN.{pos}
 use lib.ListN.{take, drop}
 use lib.Signed.{leZ}
 use mir.Syntax.{w32}
 use mir.Val.{toZ, ofZ}
-use Rattle.record_numbers.specs.RecordNumbers.{numberAt, within, isFigure, isStyle}
+use Rattle.record_numbers.specs.RecordNumbers.{numberAt, within, isFigure}
 use Rattle.record_numbers.proofs.Walks.{read-back}
 use Rattle.call_numbers.specs.CallNumbers.{isCall}
-use native.Mathlib.Omega.{arith}
-use Rattle.signed.proofs.Laws.{int}
 use borrow.Author.Needs.{needs}
 use Rattle.call_numbers.proofs.is_call.Statement.{statement}
 use Rattle.call_numbers.proofs.is_call.Tie as tie

@@ -1,11 +1,10 @@
 -- `host_answers::held` meets its contract: below 2 .before .before .before .before .before .before .before .before .before .before .before .before .before .before .before .before .before .before .before .before .before .before .before .before .before .before .before .before .before .before .before the number itself, from there on less 2 .before .before .before .before .before .before .before .before .before .before .before .before .before .before .before .before .before .before .before .before .before .before .before .before .before .before .before .before .before .before .before .before, in steps that 32 bits hold.
 -- Assumes nothing.
-use mathlib.Core.Path.{_≡_, _∙_}
+use mathlib.Core.Path.{_≡_}
 use mathlib.Core.Bool.{true, false}
 use Prim.Native.Nat.{ℕ, _<_, _≤_}
 use lib.IntN.{pos, _-ℤ_}
 use lib.Signed.{ltZ}
-use Rattle.signed.specs.Signed.{Is}
 use Rattle.signed.proofs.Laws.{sub-law}
 use Rattle.host_answers.specs.HostAnswers.{heldBy32}
 use native.Mathlib.Omega.{arith}

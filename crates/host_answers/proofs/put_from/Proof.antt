@@ -11,7 +11,6 @@ use lib.Seq.{sets, drop-cons}
 use mir.Syntax.{w32}
 use mir.Facts.{toZ-ofZ}
 use native.Mathlib.Omega.{arith}
-use Rattle.signed.proofs.Laws.{int}
 use Rattle.host_answers.proofs.put_from.Statement.{statement}
 use Rattle.host_answers.proofs.put_from.Tie as tie
 

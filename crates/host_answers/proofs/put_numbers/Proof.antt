@@ -1,11 +1,10 @@
 -- `host_answers::put_numbers` meets its contract: the check made is the definition's, and passed it leaves room for the values.
 -- Assumes nothing.
-use mathlib.Core.Path.{_≡_, refl, sym, _∙_}
+use mathlib.Core.Path.{refl, sym, _∙_}
 use lib.ListN.{length}
 use Rattle.refusal.specs.declared.Refusal.the-variants.{BufferLength}
 use Rattle.refusal.proofs.Checks.{passed-above}
 use native.Mathlib.Omega.{arith}
-use Rattle.signed.proofs.Laws.{int}
 use borrow.Author.Needs.{needs}
 use Rattle.host_answers.proofs.put_numbers.Statement.{statement}
 use Rattle.host_answers.proofs.put_numbers.Tie as tie

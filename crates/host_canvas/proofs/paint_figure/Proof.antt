@@ -9,8 +9,6 @@ use Rattle.paint.specs.Paint.{paintOutcome, paintCall, canvasAfter}
 use Rattle.record_numbers.specs.RecordNumbers.{isFigure, isStyle, figureOf, styleOf}
 use Rattle.record_numbers.proofs.Records.{figure-length, style-length}
 use Rattle.host_answers.specs.HostAnswers.{outcomeNumber}
-use native.Mathlib.Omega.{arith}
-use Rattle.signed.proofs.Laws.{int}
 use borrow.Author.Needs.{needs}
 use Rattle.host_canvas.proofs.paint_figure.Statement.{statement}
 use Rattle.host_canvas.proofs.paint_figure.Tie as tie

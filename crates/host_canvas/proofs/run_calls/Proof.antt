@@ -6,8 +6,6 @@ use Rattle.sheet_calls.specs.declared.RunAnswer.{RunAnswer}
 use Rattle.sheet_calls.specs.SheetCalls.{RunSays, runSaid, runAnswer, RunLeaves}
 use Rattle.call_numbers.specs.CallNumbers.{callsOf}
 use Rattle.host_canvas.specs.Canvas.{runNumber, RunTold}
-use native.Mathlib.Omega.{arith}
-use Rattle.signed.proofs.Laws.{int}
 use borrow.Author.Needs.{needs}
 use Rattle.host_canvas.proofs.run_calls.Statement.{statement}
 use Rattle.host_canvas.proofs.run_calls.Tie as tie

@@ -5,12 +5,10 @@ use mathlib.Core.Path.{_≡_, refl, sym, ap, ap₂, _∙_}
 use lib.ListN.{length}
 use Rattle.refusal.specs.Refusal.{orElse}
 use Rattle.netpbm.specs.declared.WriteAnswer.{WriteAnswer}
-use Rattle.netpbm.specs.Netpbm.{writeOutcome, writeCall, fileAfter}
+use Rattle.netpbm.specs.Netpbm.{writeOutcome, writeCall}
 use Rattle.host_answers.proofs.Telling.{tells-as, tells-refusal}
 use Rattle.host_canvas.specs.Canvas.{writeRoom}
 use Rattle.host_canvas.proofs.FileLength.{written-length-fits}
-use native.Mathlib.Omega.{arith}
-use Rattle.signed.proofs.Laws.{int}
 use borrow.Author.Needs.{needs}
 use Rattle.host_canvas.proofs.write_p5.Statement.{statement}
 use Rattle.host_canvas.proofs.write_p5.Tie as tie

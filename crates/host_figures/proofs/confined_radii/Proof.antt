@@ -1,11 +1,7 @@
 -- `host_figures::confined_radii` meets its contract: the call is made on the figure that the numbers are, and its answer told.
 -- Assumes nothing.
-use mathlib.Core.Path.{_≡_, sym, ap, ap₂, _∙_}
+use mathlib.Core.Path.{_≡_, sym, ap, _∙_}
 use mathlib.Core.Bool.{true}
-use lib.IntN.{ℤ}
-use mir.Syntax.{w32}
-use mir.Val.{SFits}
-use mir.Facts.{toZ-ofZ}
 use borrow.Author.Tests.{not-true, not-false}
 use Rattle.figure.specs.declared.Figure.{Figure}
 use Rattle.figure.specs.declared.calls.RadiiAnswer.{RadiiAnswer}
@@ -15,8 +11,6 @@ use Rattle.record_numbers.proofs.Records.{figure-length}
 use Rattle.host_answers.specs.HostAnswers.{noRecord}
 use Rattle.host_answers.proofs.Telling.{tells-as, tells-refused, tells-refusal, tells-nothing}
 use mathlib.Core.Path.{_≡_, sym, ap, _∙_}
-use native.Mathlib.Omega.{arith}
-use Rattle.signed.proofs.Laws.{int}
 use borrow.Author.Needs.{needs}
 use Rattle.host_figures.proofs.confined_radii.Statement.{statement}
 use Rattle.host_figures.proofs.confined_radii.Tie as tie

@@ -1,22 +1,18 @@
 -- `host_figures::contains` meets its contract: the call is made on the figure that the numbers are, and its answer told.
 -- Assumes nothing.
-use mathlib.Core.Path.{_≡_, sym, ap, ap₂, _∙_}
+use mathlib.Core.Path.{_≡_, sym, ap, _∙_}
 use mathlib.Core.Bool.{true}
-use lib.IntN.{ℤ}
 use mir.Syntax.{w32}
 use mir.Val.{SFits}
 use mir.Facts.{toZ-ofZ}
 use borrow.Author.Tests.{not-true, not-false}
-use Rattle.figure.specs.declared.Figure.{Figure}
 use Rattle.figure.specs.declared.calls.ContainsAnswer.{ContainsAnswer}
 use Rattle.figure.specs.Calls.{containsOutcome, containsCall}
 use Rattle.record_numbers.specs.RecordNumbers.{isFigure, figureOf}
 use Rattle.record_numbers.proofs.Records.{figure-length}
 use Rattle.host_answers.specs.HostAnswers.{noRecord}
-use Rattle.host_answers.proofs.Telling.{tells-as, tells-refused, tells-refusal, tells-nothing}
+use Rattle.host_answers.proofs.Telling.{tells-as, tells-refused, tells-refusal}
 use mathlib.Core.Path.{_≡_, sym, ap, _∙_}
-use native.Mathlib.Omega.{arith}
-use Rattle.signed.proofs.Laws.{int}
 use borrow.Author.Needs.{needs}
 use Rattle.host_figures.proofs.contains.Statement.{statement}
 use Rattle.host_figures.proofs.contains.Tie as tie

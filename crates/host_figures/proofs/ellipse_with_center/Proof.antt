@@ -10,8 +10,6 @@ use Rattle.host_figures.specs.Figures.{ellipseWithCenterSaid}
 use Rattle.host_answers.proofs.Telling.{tells-as, tells-refusal}
 use mathlib.Core.Path.{sym, ap, _∙_}
 use Rattle.figure.specs.Calls.{figureOutcome}
-use native.Mathlib.Omega.{arith}
-use Rattle.signed.proofs.Laws.{int}
 use borrow.Author.Needs.{needs}
 use Rattle.host_figures.proofs.ellipse_with_center.Statement.{statement}
 use Rattle.host_figures.proofs.ellipse_with_center.Tie as tie

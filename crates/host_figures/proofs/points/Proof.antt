@@ -4,7 +4,6 @@
 use mathlib.Core.Path.{_≡_, refl, sym, ap, ap₂, _∙_}
 use mathlib.Core.Bool.{true}
 use borrow.Author.Tests.{not-true, not-false}
-use lib.IntN.{ℤ}
 use lib.ListN.{length}
 use Rattle.refusal.specs.Refusal.{orElse}
 use Rattle.figure.specs.declared.Figure.{Figure}
@@ -16,8 +15,6 @@ use Rattle.record_numbers.proofs.Records.{figure-length}
 use Rattle.host_answers.specs.HostAnswers.{noRecord}
 use Rattle.host_answers.proofs.Telling.{tells-as, tells-refused, tells-refusal}
 use Rattle.host_figures.specs.Figures.{pointsRoom}
-use native.Mathlib.Omega.{arith}
-use Rattle.signed.proofs.Laws.{int}
 use borrow.Author.Needs.{needs}
 use Rattle.host_figures.proofs.points.Statement.{statement}
 use Rattle.host_figures.proofs.points.Tie as tie

@@ -4,19 +4,17 @@
 use mathlib.Core.Path.{_≡_, refl, sym, ap, ap₂, _∙_}
 use mathlib.Core.Bool.{true}
 use mathlib.Core.List.{List, []}
-use Prim.Native.Nat.{ℕ, _+_, _<_}
+use Prim.Native.Nat.{ℕ, _<_}
 use borrow.Author.Tests.{not-true, not-false}
 use lib.IntN.{ℤ, pos}
 use lib.ListN.{length-set, set}
 use mir.Facts.{toZ-ofZ}
-use Rattle.book.specs.Book.{Answer, accepted}
-use Rattle.layers.specs.Layers.{blankLayer}
+use Rattle.book.specs.Book.{accepted, add as Call·add}
 use Rattle.sheet.specs.declared.Sheet.{Sheet}
 use Rattle.sheet.specs.declared.SheetAnswer.{SheetAnswer}
 use Rattle.sheet.specs.Sheet.{said, sheetAnswer, carriedOutSheet, sheetAfter}
 use Rattle.sheet.proofs.Records.{added-record}
 use Rattle.drawing.specs.Drawing.{styledFigure}
-use Rattle.book.specs.Book.{add as Call·add}
 use Rattle.record_numbers.specs.RecordNumbers.{isFigure, isStyle, figureOf, styleOf}
 use Rattle.record_numbers.proofs.Records.{figure-length, style-length}
 use Rattle.sheet_record.specs.SheetRecord.{isSheet, sheetOf, layerPut}
@@ -24,7 +22,6 @@ use Rattle.sheet_record.proofs.Parts.{sheet-length, sixteen}
 use Rattle.host_sheets.specs.Sheets.{nextRow, addOf, addTold, addNumbers}
 use Rattle.host_sheets.proofs.Accepted.{added-place, added-count}
 use native.Mathlib.Omega.{arith}
-use Rattle.signed.proofs.Laws.{int}
 use borrow.Author.Needs.{needs}
 use Rattle.host_sheets.proofs.add.Statement.{statement}
 use Rattle.host_sheets.proofs.add.Tie as tie

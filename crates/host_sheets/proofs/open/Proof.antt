@@ -1,16 +1,14 @@
 -- `host_sheets::open` meets its contract: the numbers of a sheet without layers, with the width and height given.
 -- Assumes nothing.
-use mathlib.Core.Path.{_≡_, refl, sym, ap, _∙_}
-use mathlib.Core.List.{List, [], _∷_}
-use lib.IntN.{ℤ, pos}
+use mathlib.Core.Path.{refl, sym, _∙_}
+use mathlib.Core.List.{_∷_}
+use lib.IntN.{pos}
 use mir.Syntax.{w32}
 use mir.Val.{toZ, ofZ}
 use Rattle.geometry.specs.Limits.{maxLayers}
 use Rattle.host_answers.specs.HostAnswers.{heldBy32}
 use Rattle.host_answers.proofs.Telling.{held-read, tells-refusal, tells-put}
 use Rattle.host_sheets.specs.Sheets.{unusedPlaces}
-use native.Mathlib.Omega.{arith}
-use Rattle.signed.proofs.Laws.{int}
 use borrow.Author.Needs.{needs}
 use Rattle.host_sheets.proofs.open.Statement.{statement}
 use Rattle.host_sheets.proofs.open.Tie as tie

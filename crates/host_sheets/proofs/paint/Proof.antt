@@ -1,26 +1,22 @@
 -- `host_sheets::paint` meets its contract: the sheet that the numbers are is painted, and its new next row written back.
 -- Assumes nothing.
-use mathlib.Core.Path.{_≡_, refl, sym, ap, ap₂, _∙_}
+use mathlib.Core.Path.{_≡_, refl, sym, ap, _∙_}
 use mathlib.Core.Bool.{true}
-use mathlib.Core.List.{List}
-use Prim.Native.Nat.{ℕ, _+_, _<_}
+use Prim.Native.Nat.{_+_, _<_}
 use borrow.Author.Tests.{not-true, not-false}
 use lib.IntN.{ℤ}
 use lib.ListN.{length-set, set}
 use mir.Facts.{toZ-ofZ}
-use Rattle.book.specs.Book.{Answer, accepted, paint as Call·paint}
-use Rattle.layers.specs.Layers.{blankLayer}
+use Rattle.book.specs.Book.{accepted, paint as Call·paint}
 use Rattle.sheet.specs.declared.Sheet.{Sheet}
 use Rattle.sheet.specs.declared.SheetAnswer.{SheetAnswer}
 use Rattle.sheet.specs.Sheet.{said, sheetAnswer, carriedOutSheet, sheetAfter, canvasAfter}
 use Rattle.sheet.proofs.Records.{painted-record}
-use Rattle.sheet_calls.specs.SheetCalls.{answerNumber}
 use Rattle.sheet_record.specs.SheetRecord.{isSheet, sheetOf, placeAt}
 use Rattle.sheet_record.proofs.Parts.{sheet-length, sixteen}
 use Rattle.host_sheets.specs.Sheets.{nextRow, paintTold, paintNumbers, paintCanvas}
 use Rattle.host_sheets.proofs.Accepted.{painted-place}
 use native.Mathlib.Omega.{arith}
-use Rattle.signed.proofs.Laws.{int}
 use borrow.Author.Needs.{needs}
 use Rattle.host_sheets.proofs.paint.Statement.{statement}
 use Rattle.host_sheets.proofs.paint.Tie as tie

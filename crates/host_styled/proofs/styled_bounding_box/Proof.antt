@@ -10,8 +10,6 @@ use Rattle.record_numbers.specs.RecordNumbers.{isFigure, isStyle, figureOf, sty
 use Rattle.record_numbers.proofs.Records.{figure-length, style-length}
 use Rattle.host_answers.specs.HostAnswers.{noRecord}
 use Rattle.host_answers.proofs.Telling.{tells-as, tells-refused, tells-refusal}
-use native.Mathlib.Omega.{arith}
-use Rattle.signed.proofs.Laws.{int}
 use borrow.Author.Needs.{needs}
 use Rattle.host_styled.proofs.styled_bounding_box.Statement.{statement}
 use Rattle.host_styled.proofs.styled_bounding_box.Tie as tie

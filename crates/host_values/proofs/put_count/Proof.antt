@@ -4,9 +4,7 @@ use mathlib.Core.List.{[], _∷_}
 use lib.IntN.{pos}
 use mir.Syntax.{w32}
 use mir.Val.{toZ, ofZ}
-use Rattle.host_answers.proofs.Telling.{read-held, held-read, tells-nothing, tells-put}
-use native.Mathlib.Omega.{arith}
-use Rattle.signed.proofs.Laws.{int}
+use Rattle.host_answers.proofs.Telling.{held-read, tells-put}
 use borrow.Author.Needs.{needs}
 use Rattle.host_values.proofs.put_count.Statement.{statement}
 use Rattle.host_values.proofs.put_count.Tie as tie

@@ -1,7 +1,5 @@
 -- `host_values::put_figure` meets its contract: each kind by its own.
 -- Assumes nothing.
-use native.Mathlib.Omega.{arith}
-use Rattle.signed.proofs.Laws.{int}
 use borrow.Author.Needs.{needs}
 use Rattle.host_values.proofs.put_figure.Statement.{statement}
 use Rattle.host_values.proofs.put_figure.Tie as tie

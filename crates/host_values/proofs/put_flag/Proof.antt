@@ -1,7 +1,5 @@
 -- `host_values::put_flag` meets its contract: 1 or 0, by the flag.
 -- Assumes nothing.
-use native.Mathlib.Omega.{arith}
-use Rattle.signed.proofs.Laws.{int}
 use borrow.Author.Needs.{needs}
 use Rattle.host_values.proofs.put_flag.Statement.{statement}
 use Rattle.host_values.proofs.put_flag.Tie as tie

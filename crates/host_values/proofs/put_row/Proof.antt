@@ -1,14 +1,10 @@
 -- `host_values::put_row` meets its contract: the ends are put as they are.
 -- Assumes nothing.
-use mathlib.Core.Path.{_≡_, refl, sym, ap, ap₂, _∙_}
-use mathlib.Core.List.{List, [], _∷_}
-use lib.IntN.{ℤ}
+use mathlib.Core.List.{[], _∷_}
 use mir.Syntax.{w32}
 use mir.Val.{toZ, ofZ}
 use Rattle.host_answers.proofs.Telling.{read-held, tells-nothing, tells-put}
-use Rattle.host_answers.proofs.Telling.{held-signed, tells-nothing, tells-put}
-use native.Mathlib.Omega.{arith}
-use Rattle.signed.proofs.Laws.{int}
+use Rattle.host_answers.proofs.Telling.{tells-nothing, tells-put}
 use borrow.Author.Needs.{needs}
 use Rattle.host_values.proofs.put_row.Statement.{statement}
 use Rattle.host_values.proofs.put_row.Tie as tie

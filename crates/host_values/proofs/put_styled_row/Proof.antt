@@ -1,12 +1,9 @@
 -- `host_values::put_styled_row` meets its contract: the ends are put as they are.
 -- Assumes nothing.
 use mathlib.Core.List.{[], _∷_}
-use lib.IntN.{pos}
 use mir.Syntax.{w32}
 use mir.Val.{toZ, ofZ}
-use Rattle.host_answers.proofs.Telling.{read-held, held-read, tells-nothing, tells-put}
-use native.Mathlib.Omega.{arith}
-use Rattle.signed.proofs.Laws.{int}
+use Rattle.host_answers.proofs.Telling.{read-held, tells-nothing, tells-put}
 use borrow.Author.Needs.{needs}
 use Rattle.host_values.proofs.put_styled_row.Statement.{statement}
 use Rattle.host_values.proofs.put_styled_row.Tie as tie

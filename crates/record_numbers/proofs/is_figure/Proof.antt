@@ -8,8 +8,6 @@ use lib.IntN.{pos}
 use lib.ListN.{length}
 use Rattle.record_numbers.proofs.Walks.{read-back}
 use Rattle.record_numbers.specs.RecordNumbers.{numberAt, within, isFigure}
-use native.Mathlib.Omega.{arith}
-use Rattle.signed.proofs.Laws.{int}
 use borrow.Author.Needs.{needs}
 use Rattle.record_numbers.proofs.is_figure.Statement.{statement}
 use Rattle.record_numbers.proofs.is_figure.Tie as tie

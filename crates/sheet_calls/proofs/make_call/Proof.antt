@@ -3,7 +3,7 @@
 use mathlib.Core.Path.{_≡_, sym, ap, ap₂, _∙_}
 use mathlib.Core.Bool.{Bool}
 use lib.IntN.{ℤ, pos}
-use lib.ListN.{length, length-take, length-drop}
+use lib.ListN.{length}
 use lib.Signed.{leZ}
 use mir.Syntax.{w32}
 use mir.Val.{toZ, ofZ}
@@ -17,8 +17,6 @@ use Rattle.sheet.proofs.Records.{add-any-canvas, add-keeps-canvas}
 use Rattle.record_numbers.specs.RecordNumbers.{numberAt}
 use Rattle.record_numbers.proofs.Walks.{read-back}
 use Rattle.call_numbers.specs.CallNumbers.{callOf}
-use native.Mathlib.Omega.{arith}
-use Rattle.signed.proofs.Laws.{int}
 use borrow.Author.Needs.{needs}
 use Rattle.sheet_calls.proofs.make_call.Statement.{statement}
 use Rattle.sheet_calls.proofs.make_call.Tie as tie

@@ -1,12 +1,9 @@
 -- `sheet_record::is_layer` meets its contract: the figure's numbers and then the style's.
 -- Assumes nothing.
 use mathlib.Core.Path.{_≡_, sym, _∙_}
-use mathlib.Core.Bool.{true}
 use borrow.Author.Tests.{not-true, not-false}
 use lib.ListN.{take}
 use Rattle.record_numbers.specs.RecordNumbers.{isFigure}
-use native.Mathlib.Omega.{arith}
-use Rattle.signed.proofs.Laws.{int}
 use borrow.Author.Needs.{needs}
 use Rattle.sheet_record.proofs.is_layer.Statement.{statement}
 use Rattle.sheet_record.proofs.is_layer.Tie as tie

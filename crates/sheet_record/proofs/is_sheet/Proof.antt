@@ -15,7 +15,6 @@ use Rattle.record_numbers.proofs.Walks.{all-from-here, all-from-past}
 use Rattle.sheet_record.specs.SheetRecord.{placeNumbers, isLayer, isSheet}
 use Rattle.sheet_record.proofs.Parts.{place-part, place-part-length}
 use native.Mathlib.Omega.{arith}
-use Rattle.signed.proofs.Laws.{int}
 use Rattle.sheet_record.proofs.is_sheet.Statement.{statement}
 use Rattle.sheet_record.proofs.is_sheet.Tie as tie
 

@@ -1,8 +1,6 @@
 -- `sheet_record::layer_of` meets its contract: each part is read from its own numbers.
 -- Assumes nothing.
 use Rattle.record_numbers.proofs.Walks.{read-back}
-use native.Mathlib.Omega.{arith}
-use Rattle.signed.proofs.Laws.{int}
 use borrow.Author.Needs.{needs}
 use Rattle.sheet_record.proofs.layer_of.Statement.{statement}
 use Rattle.sheet_record.proofs.layer_of.Tie as tie

@@ -1,6 +1,6 @@
 -- `sheet_record::put_layer` meets its contract: three writes one after another, none beyond the sheet's numbers.
 -- Assumes nothing.
-use mathlib.Core.Path.{_≡_, ap, ap₂, _∙_}
+use mathlib.Core.Path.{ap, ap₂, _∙_}
 use mathlib.Core.List.{List}
 use Prim.Native.Nat.{_+_}
 use lib.IntN.{ℤ}
@@ -10,8 +10,6 @@ use mir.Syntax.{w32}
 use mir.Val.{SFits}
 use mir.Facts.{toZ-ofZ}
 use Rattle.sheet_record.specs.SheetRecord.{placeAt}
-use native.Mathlib.Omega.{arith}
-use Rattle.signed.proofs.Laws.{int}
 use borrow.Author.Needs.{needs}
 use Rattle.sheet_record.proofs.put_layer.Statement.{statement}
 use Rattle.sheet_record.proofs.put_layer.Tie as tie
