@@ -1,12 +1,12 @@
--- `canvas_answers::fill` ends and stays within the canvas, whose length it keeps.
+-- `answer_buffers::fill` ends and stays within the canvas, whose length it keeps.
 -- Assumes nothing.
 use lib.ListN.{length, length-set}
 use mathlib.Core.Path.{_≡_}
 use Prim.Native.Nat.{_+_, _*_, _-_, _≤_, _<_}
 use native.Mathlib.Omega.{arith}
 use borrow.Author.Needs.{needs}
-use Rattle.canvas_answers.proofs.fill.Statement.{statement}
-use Rattle.canvas_answers.proofs.fill.Tie as tie
+use Rattle.answer_buffers.proofs.fill.Statement.{statement}
+use Rattle.answer_buffers.proofs.fill.Tie as tie
 
 abbrev Inv-loop : tie.InvT-loop
 Inv-loop canvas₀ seed value₀ i₀ canvas value i = (i ≤ length canvas₀) × (length canvas ≡ length canvas₀)

@@ -1,12 +1,12 @@
--- `canvas_answers::put_list` ends and stays within the list.
+-- `points_answers::put_list` ends and stays within the list.
 -- Assumes nothing.
 use mathlib.Core.Path.{_≡_}
 use Prim.Native.Nat.{_+_, _*_, _-_, _≤_, _<_}
 use lib.ListN.{length}
 use native.Mathlib.Omega.{arith}
 use borrow.Author.Needs.{needs}
-use Rattle.canvas_answers.proofs.put_list.Statement.{statement}
-use Rattle.canvas_answers.proofs.put_list.Tie as tie
+use Rattle.points_answers.proofs.put_list.Statement.{statement}
+use Rattle.points_answers.proofs.put_list.Tie as tie
 
 abbrev Inv-loop : tie.InvT-loop
 Inv-loop list out₀ at place₀ i₀ out place i = (i ≤ length list) × (length out ≡ length out₀)

@@ -1,12 +1,12 @@
--- `canvas_answers::put_sheet` ends and stays within the sheet's 16 places.
+-- `sheet_answers::put_sheet` ends and stays within the sheet's 16 places.
 -- Assumes nothing.
 use mathlib.Core.Path.{_≡_}
 use Prim.Native.Nat.{_+_, _*_, _-_, _≤_, _<_}
 use lib.ListN.{length}
 use native.Mathlib.Omega.{arith}
 use borrow.Author.Needs.{needs}
-use Rattle.canvas_answers.proofs.put_sheet.Statement.{statement}
-use Rattle.canvas_answers.proofs.put_sheet.Tie as tie
+use Rattle.sheet_answers.proofs.put_sheet.Statement.{statement}
+use Rattle.sheet_answers.proofs.put_sheet.Tie as tie
 
 abbrev Inv-loop : tie.InvT-loop
 Inv-loop out₀ at sheet at-place₀ count place₀ out at-place place = (place ≤ 16) × (length out ≡ length out₀)

@@ -1,12 +1,12 @@
--- `query_records::sheet_end` ends: the layers looked at grow to those listed.
+-- `sheet_answers::sheet_end` ends: the layers looked at grow to those listed.
 -- Assumes nothing.
 use mathlib.Core.Path.{_≡_}
 use Prim.Native.Nat.{_+_, _*_, _-_, _≤_, _<_}
 use lib.ListN.{length}
 use native.Mathlib.Omega.{arith}
 use borrow.Author.Needs.{needs}
-use Rattle.query_records.proofs.sheet_end.Statement.{statement}
-use Rattle.query_records.proofs.sheet_end.Tie as tie
+use Rattle.sheet_answers.proofs.sheet_end.Statement.{statement}
+use Rattle.sheet_answers.proofs.sheet_end.Tie as tie
 
 abbrev Inv-loop : tie.InvT-loop
 Inv-loop tokens from first listed at₀ k₀ t8 at k = k ≤ listed

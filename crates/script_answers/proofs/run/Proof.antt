@@ -1,12 +1,12 @@
--- `canvas_answers::run` ends, since its turns count down, and keeps the lengths of both buffers.
+-- `script_answers::run` ends, since its turns count down, and keeps the lengths of both buffers.
 -- Assumes nothing.
 use mathlib.Core.Path.{_≡_}
 use Prim.Native.Nat.{_+_, _*_, _-_, _≤_, _<_}
 use lib.ListN.{length}
 use native.Mathlib.Omega.{arith}
 use borrow.Author.Needs.{needs}
-use Rattle.canvas_answers.proofs.run.Statement.{statement}
-use Rattle.canvas_answers.proofs.run.Tie as tie
+use Rattle.script_answers.proofs.run.Statement.{statement}
+use Rattle.script_answers.proofs.run.Tie as tie
 
 abbrev Inv-loop : tie.InvT-loop
 Inv-loop tokens from canvas₀ out₀ at current₀ next₀ place₀ turns₀ canvas out current next place turns = (length canvas ≡ length canvas₀) × (length out ≡ length out₀)

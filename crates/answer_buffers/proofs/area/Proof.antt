@@ -1,10 +1,10 @@
--- `canvas_answers::area` is safe: the product of two numbers of 32 bits fits 64.
+-- `answer_buffers::area` is safe: the product of two numbers of 32 bits fits 64.
 -- Assumes nothing.
 use native.Mathlib.Nat.{mul-le-mul}
 use native.Mathlib.Omega.{arith}
 use borrow.Author.Needs.{needs}
-use Rattle.canvas_answers.proofs.area.Statement.{statement}
-use Rattle.canvas_answers.proofs.area.Tie as tie
+use Rattle.answer_buffers.proofs.area.Statement.{statement}
+use Rattle.answer_buffers.proofs.area.Tie as tie
 
 returns : tie.Need-returns
 returns c = search needs

@@ -1,12 +1,12 @@
--- `query_records::sheet_at` ends and stays within the sheet's 16 places.
+-- `sheet_answers::sheet_at` ends and stays within the sheet's 16 places.
 -- Assumes nothing.
 use mathlib.Core.Path.{_≡_}
 use Prim.Native.Nat.{_+_, _*_, _-_, _≤_, _<_}
 use lib.ListN.{length}
 use native.Mathlib.Omega.{arith}
 use borrow.Author.Needs.{needs}
-use Rattle.query_records.proofs.sheet_at.Statement.{statement}
-use Rattle.query_records.proofs.sheet_at.Tie as tie
+use Rattle.sheet_answers.proofs.sheet_at.Statement.{statement}
+use Rattle.sheet_answers.proofs.sheet_at.Tie as tie
 
 abbrev Inv-loop : tie.InvT-loop
 Inv-loop tokens from sheet₀ listed at₀ place₀ t9 sheet at place = place ≤ 16

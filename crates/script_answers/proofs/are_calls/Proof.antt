@@ -1,12 +1,12 @@
--- `canvas_answers::are_calls` ends: its turns count down.
+-- `script_answers::are_calls` ends: its turns count down.
 -- Assumes nothing.
 use mathlib.Core.Path.{_≡_}
 use Prim.Native.Nat.{_+_, _*_, _-_, _≤_, _<_}
 use lib.ListN.{length}
 use native.Mathlib.Omega.{arith}
 use borrow.Author.Needs.{needs}
-use Rattle.canvas_answers.proofs.are_calls.Statement.{statement}
-use Rattle.canvas_answers.proofs.are_calls.Tie as tie
+use Rattle.script_answers.proofs.are_calls.Statement.{statement}
+use Rattle.script_answers.proofs.are_calls.Tie as tie
 
 abbrev Inv-loop : tie.InvT-loop
 Inv-loop tokens from at₀ turns₀ at turns = turns ≤ turns₀
