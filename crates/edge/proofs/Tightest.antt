@@ -7,9 +7,9 @@ use native.Mathlib.Nat.{le-refl, le-of-lt, mul-comm, mul-le-mul-left, mul-le-mul
 use native.Mathlib.Decide.{decLe}
 use native.Mathlib.Omega.{arith}
 use borrow.Author.Tests.{lt-ltb, le-ltb, ltb-false, eq-eqb, ne-eqb}
-use Rattle.corner.specs.declared.Edge.{Edge}
-use Rattle.corner.specs.declared.Edges.{Edges}
-use Rattle.corner.specs.Corner.{S, L, over, tighter, tightest, someOver, FitsEdges}
+use Rattle.edge.specs.declared.Edge.{Edge}
+use Rattle.edge.specs.declared.Edges.{Edges}
+use Rattle.edge.specs.Edge.{S, L, over, tighter, tightest, someOver, FitsEdges}
 
 -- ---- the arms of `tighter`
 module _ (first next : Edge) where

@@ -1,10 +1,10 @@
--- `corner::overlap` meets its contract: the test says whether the difference is cut off at 0.
+-- `edge::overlap` meets its contract: the test says whether the difference is cut off at 0.
 -- Assumes nothing.
-use Rattle.corner.specs.Corner.{overlap}
+use Rattle.edge.specs.Edge.{overlap}
 use borrow.Author.Needs.{needs}
 use native.Mathlib.Omega.{arith}
-use Rattle.corner.proofs.overlap.Statement.{statement}
-use Rattle.corner.proofs.overlap.Tie as tie
+use Rattle.edge.proofs.overlap.Statement.{statement}
+use Rattle.edge.proofs.overlap.Tie as tie
 
 sub-result : tie.Need-sub-result
 sub-result c = search needs

@@ -1,10 +1,10 @@
--- `corner::further_over` meets its contract: the test on the overlaps says which arm of `furtherOver` holds.
+-- `edge::further_over` meets its contract: the test on the overlaps says which arm of `furtherOver` holds.
 -- Assumes nothing.
-use Rattle.corner.proofs.MostOver.{further-over-next, further-over-first}
+use Rattle.edge.proofs.MostOver.{further-over-next, further-over-first}
 use borrow.Author.Needs.{needs}
 use native.Mathlib.Omega.{arith}
-use Rattle.corner.proofs.further_over.Statement.{statement}
-use Rattle.corner.proofs.further_over.Tie as tie
+use Rattle.edge.proofs.further_over.Statement.{statement}
+use Rattle.edge.proofs.further_over.Tie as tie
 
 overlap-requires : tie.Need-overlap-requires
 overlap-requires c κs = search needs

@@ -1,10 +1,10 @@
--- `corner::Edges::tightest` meets its contract: the three choices, chained, are `Corner.tightest`.
+-- `edge::Edges::tightest` meets its contract: the three choices, chained, are `Corner.tightest`.
 -- Assumes nothing.
 use mathlib.Core.Path.{refl, ap₂, _∙_}
-use Rattle.corner.specs.Corner.{tighter}
+use Rattle.edge.specs.Edge.{tighter}
 use borrow.Author.Needs.{needs}
-use Rattle.corner.proofs.Edges.tightest.Statement.{statement}
-use Rattle.corner.proofs.Edges.tightest.Tie as tie
+use Rattle.edge.proofs.Edges.tightest.Statement.{statement}
+use Rattle.edge.proofs.Edges.tightest.Tie as tie
 
 tighter-requires : tie.Need-tighter-requires
 tighter-requires c κs = search needs

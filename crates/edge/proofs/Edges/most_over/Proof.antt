@@ -1,10 +1,10 @@
--- `corner::Edges::most_over` meets its contract: the three choices, chained, are `mostOver`.
+-- `edge::Edges::most_over` meets its contract: the three choices, chained, are `mostOver`.
 -- Assumes nothing.
 use mathlib.Core.Path.{refl, ap₂, _∙_}
-use Rattle.corner.specs.Corner.{furtherOver}
+use Rattle.edge.specs.Edge.{furtherOver}
 use borrow.Author.Needs.{needs}
-use Rattle.corner.proofs.Edges.most_over.Statement.{statement}
-use Rattle.corner.proofs.Edges.most_over.Tie as tie
+use Rattle.edge.proofs.Edges.most_over.Statement.{statement}
+use Rattle.edge.proofs.Edges.most_over.Tie as tie
 
 further-over-requires : tie.Need-further-over-requires
 further-over-requires c κs = search needs

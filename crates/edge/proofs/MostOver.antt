@@ -6,9 +6,9 @@ use native.Mathlib.Nat.{le-refl, le-trans}
 use native.Mathlib.Decide.{decLe}
 use native.Mathlib.Omega.{arith}
 use borrow.Author.Tests.{lt-ltb, le-ltb}
-use Rattle.corner.specs.declared.Edge.{Edge}
-use Rattle.corner.specs.declared.Edges.{Edges}
-use Rattle.corner.specs.Corner.{S, L, overlap, furtherOver, mostOver, FitsEdges}
+use Rattle.edge.specs.declared.Edge.{Edge}
+use Rattle.edge.specs.declared.Edges.{Edges}
+use Rattle.edge.specs.Edge.{S, L, overlap, furtherOver, mostOver, FitsEdges}
 
 module _ (first next : Edge) where
   -- the arms of `furtherOver`

@@ -1,12 +1,12 @@
--- `corner::tighter` meets its contract: the tests say which arm of `Corner.tighter` holds. The cross products
+-- `edge::tighter` meets its contract: the tests say which arm of `Corner.tighter` holds. The cross products
 -- fit 32 bits, as twice the widest radius times the widest side does.
 -- Assumes nothing.
 use native.Mathlib.Nat.{mul-le-mul}
-use Rattle.corner.proofs.Tightest.{tighter-no-radii, tighter-only-radii, tighter-next, tighter-first}
+use Rattle.edge.proofs.Tightest.{tighter-no-radii, tighter-only-radii, tighter-next, tighter-first}
 use borrow.Author.Needs.{needs}
 use native.Mathlib.Omega.{arith}
-use Rattle.corner.proofs.tighter.Statement.{statement}
-use Rattle.corner.proofs.tighter.Tie as tie
+use Rattle.edge.proofs.tighter.Statement.{statement}
+use Rattle.edge.proofs.tighter.Tie as tie
 
 -- no radii along the next edge, or along the first alone
 returns : tie.Need-returns
