@@ -1,11 +1,11 @@
--- `figure::check_box` meets its contract: the checks called are those of the definition, in its order.
+-- `box_rules::check_box` meets its contract: the checks called are those of the definition, in its order.
 -- Assumes nothing.
 use mathlib.Core.Path.{ap₂, _∙_}
 use Rattle.refusal.specs.Refusal.{orElse}
-use Rattle.figure.specs.Calls.{boxCheck}
+use Rattle.box_rules.specs.BoxRules.{boxCheck}
 use borrow.Author.Needs.{needs}
-use Rattle.figure.proofs.check_box.Statement.{statement}
-use Rattle.figure.proofs.check_box.Tie as tie
+use Rattle.box_rules.proofs.check_box.Statement.{statement}
+use Rattle.box_rules.proofs.check_box.Tie as tie
 
 check-size-requires : tie.Need-check-size-requires
 check-size-requires c κs = search needs

@@ -1,11 +1,11 @@
--- `figure::confined_w3c` meets its contract: the rectangle stays and the radii are the rule's.
+-- `box_rules::confined_w3c` meets its contract: the rectangle stays and the radii are the rule's.
 -- Assumes nothing.
 use mathlib.Core.Path.{refl}
-use Rattle.figure.specs.Figure.{confinedW3c}
-use Rattle.figure.proofs.Fields.{box-by-fields}
+use Rattle.box_rules.specs.BoxRules.{confinedW3c}
+use Rattle.box_rules.proofs.Fields.{box-by-fields}
 use borrow.Author.Needs.{needs}
-use Rattle.figure.proofs.confined_w3c.Statement.{statement}
-use Rattle.figure.proofs.confined_w3c.Tie as tie
+use Rattle.box_rules.proofs.confined_w3c.Statement.{statement}
+use Rattle.box_rules.proofs.confined_w3c.Tie as tie
 
 confine-w3c-requires : tie.Need-confine-w3c-requires
 confine-w3c-requires c κs = search needs

@@ -1,11 +1,11 @@
--- `figure::confined` meets its contract: the rectangle stays and the radii are the rule's.
+-- `box_rules::confined` meets its contract: the rectangle stays and the radii are the rule's.
 -- Assumes nothing.
 use mathlib.Core.Path.{refl}
-use Rattle.figure.specs.Figure.{confined}
-use Rattle.figure.proofs.Fields.{box-by-fields}
+use Rattle.box_rules.specs.BoxRules.{confined}
+use Rattle.box_rules.proofs.Fields.{box-by-fields}
 use borrow.Author.Needs.{needs}
-use Rattle.figure.proofs.confined.Statement.{statement}
-use Rattle.figure.proofs.confined.Tie as tie
+use Rattle.box_rules.proofs.confined.Statement.{statement}
+use Rattle.box_rules.proofs.confined.Tie as tie
 
 confine-requires : tie.Need-confine-requires
 confine-requires c κs = search needs

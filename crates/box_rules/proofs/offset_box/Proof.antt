@@ -1,4 +1,4 @@
--- `figure::offset_box` meets its contract: rectangle and radii are offset by the same number.
+-- `box_rules::offset_box` meets its contract: rectangle and radii are offset by the same number.
 -- Assumes nothing.
 use mathlib.Core.Path.{ap, _∙_}
 use mir.Facts.{toZ-ofZ}
@@ -6,14 +6,14 @@ use Rattle.rectangle.specs.Rectangle.{offset as Rectangle·offset}
 use Rattle.corner_radii.specs.CornerRadii.{offset as CornerRadii·offset}
 use Rattle.corner.specs.Bounds.{wideRadius}
 use Rattle.corner_radii.proofs.Bounds.{radii-up-to-wider}
-use Rattle.figure.specs.Bounds.{wideOwnSide}
-use Rattle.figure.specs.Figure.{offsetBox}
-use Rattle.figure.proofs.Fields.{box-by-fields}
-use Rattle.figure.proofs.Within.{own-area, area-bounded}
+use Rattle.box_rules.specs.Bounds.{wideOwnSide}
+use Rattle.box_rules.specs.BoxRules.{offsetBox}
+use Rattle.box_rules.proofs.Fields.{box-by-fields}
+use Rattle.box_rules.proofs.Within.{own-area, area-bounded}
 use native.Mathlib.Omega.{arith}
 use Rattle.signed.proofs.Laws.{int}
-use Rattle.figure.proofs.offset_box.Statement.{statement}
-use Rattle.figure.proofs.offset_box.Tie as tie
+use Rattle.box_rules.proofs.offset_box.Statement.{statement}
+use Rattle.box_rules.proofs.offset_box.Tie as tie
 
 offset-requires : tie.Need-offset-requires
 offset-requires c κs =
