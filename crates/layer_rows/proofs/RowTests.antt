@@ -15,8 +15,8 @@ use mir.Syntax.{w32}
 use mir.Val.{SFits, toZ, ofZ}
 use mir.Facts.{toZ-ofZ}
 use Rattle.signed.proofs.Laws.{int}
-use Rattle.layers.specs.declared.LayerRows.{LayerRows}
-use Rattle.layers.specs.Layers.{rowsOwe, someRowsOwe, rowsOvertake, noRowsOvertake}
+use Rattle.layer_rows.specs.declared.LayerRows.{LayerRows}
+use Rattle.layer_rows.specs.LayerRows.{rowsOwe, someRowsOwe, rowsOvertake, noRowsOvertake}
 
 -- ---- a test of two numbers as they are held is one of the numbers
 module _ {a b : ℤ} {t : Bool} (a-fits : SFits w32 a) (b-fits : SFits w32 b) where

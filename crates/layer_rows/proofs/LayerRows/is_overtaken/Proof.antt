@@ -1,14 +1,14 @@
--- `layers::LayerRows::is_overtaken` meets its contract: the tests made, in order, decide the definition.
+-- `layer_rows::LayerRows::is_overtaken` meets its contract: the tests made, in order, decide the definition.
 -- Assumes nothing.
 use mathlib.Core.Path.{_≡_, ap₂, _∙_}
 use mathlib.Core.Bool.{false}
 use borrow.Author.Needs.{needs}
 use lib.Signed.{leZ, ltZ}
 use mir.Facts.{toZ-ofZ}
-use Rattle.layers.proofs.RowTests.{le-held, RowsFit, overtakes-none-painted, overtakes-none-reached, overtakes-none-left}
-use Rattle.layers.proofs.RowTests.{overtakes-by-left}
-use Rattle.layers.proofs.LayerRows.is_overtaken.Statement.{statement}
-use Rattle.layers.proofs.LayerRows.is_overtaken.Tie as tie
+use Rattle.layer_rows.proofs.RowTests.{le-held, RowsFit, overtakes-none-painted, overtakes-none-reached, overtakes-none-left}
+use Rattle.layer_rows.proofs.RowTests.{overtakes-by-left}
+use Rattle.layer_rows.proofs.LayerRows.is_overtaken.Statement.{statement}
+use Rattle.layer_rows.proofs.LayerRows.is_overtaken.Tie as tie
 
 earlier-fits : (c : tie.Start) → RowsFit (c .args .self)
 earlier-fits c = record { first = search needs; next = search needs; end = search needs }

@@ -1,4 +1,4 @@
--- `layers::none_overtakes` meets its contract: whether a layer that is left overtakes the earlier one is whether one of all does.
+-- `layer_rows::none_overtakes` meets its contract: whether a layer that is left overtakes the earlier one is whether one of all does.
 -- Assumes nothing.
 use mathlib.Core.Path.{_≡_, refl, sym, ap, _∙_}
 use mathlib.Core.Bool.{Bool, not, _&&_}
@@ -6,10 +6,10 @@ use Prim.Native.Nat.{_+_, _-_, _≤_}
 use native.Mathlib.Omega.{arith}
 use borrow.Author.Needs.{needs}
 use lib.ListN.{length, take, drop}
-use Rattle.layers.specs.Layers.{noRowsOvertake}
-use Rattle.layers.proofs.RowTests.{overtake-here, overtake-past}
-use Rattle.layers.proofs.none_overtakes.Statement.{statement}
-use Rattle.layers.proofs.none_overtakes.Tie as tie
+use Rattle.layer_rows.specs.LayerRows.{noRowsOvertake}
+use Rattle.layer_rows.proofs.RowTests.{overtake-here, overtake-past}
+use Rattle.layer_rows.proofs.none_overtakes.Statement.{statement}
+use Rattle.layer_rows.proofs.none_overtakes.Tie as tie
 
 abbrev Inv-loop : tie.InvT-loop
 Inv-loop earlier from count rows i₀ i =

@@ -1,4 +1,4 @@
--- `layers::LayerRows::owes` meets its contract: the tests made, in order, decide the definition.
+-- `layer_rows::LayerRows::owes` meets its contract: the tests made, in order, decide the definition.
 -- Assumes nothing.
 use mathlib.Core.Path.{_≡_, ap₂, _∙_}
 use mathlib.Core.Bool.{false}
@@ -7,9 +7,9 @@ use lib.Signed.{leZ, ltZ}
 use mir.Syntax.{w32}
 use mir.Val.{SFits}
 use mir.Facts.{toZ-ofZ}
-use Rattle.layers.proofs.RowTests.{lt-held, le-held, RowsFit, owes-none-above, owes-none-below, owes-by-next}
-use Rattle.layers.proofs.LayerRows.owes.Statement.{statement}
-use Rattle.layers.proofs.LayerRows.owes.Tie as tie
+use Rattle.layer_rows.proofs.RowTests.{lt-held, le-held, RowsFit, owes-none-above, owes-none-below, owes-by-next}
+use Rattle.layer_rows.proofs.LayerRows.owes.Statement.{statement}
+use Rattle.layer_rows.proofs.LayerRows.owes.Tie as tie
 
 rows-fit : (c : tie.Start) → RowsFit (c .args .self)
 rows-fit c = record { first = search needs; next = search needs; end = search needs }

@@ -1,4 +1,4 @@
--- `layers::some_owes` meets its contract: whether a layer that is left owes the row is whether one of all does.
+-- `layer_rows::some_owes` meets its contract: whether a layer that is left owes the row is whether one of all does.
 -- Assumes nothing.
 use mathlib.Core.Path.{_≡_, refl, sym, ap, _∙_}
 use mathlib.Core.Bool.{Bool, true, false, _||_}
@@ -9,10 +9,10 @@ use lib.ListN.{length, take, drop}
 use mir.Syntax.{w32}
 use mir.Val.{SFits, toZ, ofZ}
 use mir.Facts.{toZ-ofZ}
-use Rattle.layers.specs.Layers.{someRowsOwe}
-use Rattle.layers.proofs.RowTests.{owe-here, owe-past}
-use Rattle.layers.proofs.some_owes.Statement.{statement}
-use Rattle.layers.proofs.some_owes.Tie as tie
+use Rattle.layer_rows.specs.LayerRows.{someRowsOwe}
+use Rattle.layer_rows.proofs.RowTests.{owe-here, owe-past}
+use Rattle.layer_rows.proofs.some_owes.Statement.{statement}
+use Rattle.layer_rows.proofs.some_owes.Tie as tie
 
 abbrev Inv-loop : tie.InvT-loop
 Inv-loop layers y rows i₀ i =
