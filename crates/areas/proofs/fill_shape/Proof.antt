@@ -1,4 +1,4 @@
--- `styled::fill_shape` meets its contract: the inside width is at most the stroke's.
+-- `areas::fill_shape` meets its contract: the inside width is at most the stroke's.
 -- Assumes nothing.
 use mathlib.Core.Path.{_≡_, ap, _∙_}
 use Prim.Native.Nat.{ℕ}
@@ -9,8 +9,8 @@ use Rattle.style.proofs.StrokeWidths.{inside-within-stroke}
 use Rattle.signed.proofs.Laws.{int, positive-of-opposite, negative-of-opposite}
 use borrow.Author.Needs.{needs}
 use native.Mathlib.Omega.{arith}
-use Rattle.styled.proofs.fill_shape.Statement.{statement}
-use Rattle.styled.proofs.fill_shape.Tie as tie
+use Rattle.areas.proofs.fill_shape.Statement.{statement}
+use Rattle.areas.proofs.fill_shape.Tie as tie
 
 -- 0 less the inside width is its opposite
 opposite : (c : tie.After-sub) → c .sub .result ≡ negℤ (pos (c .before .before .inside-stroke-width .result))

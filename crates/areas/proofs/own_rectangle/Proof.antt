@@ -1,8 +1,8 @@
--- `styled::own_rectangle` meets its contract.
+-- `areas::own_rectangle` meets its contract.
 -- Assumes nothing.
 use borrow.Author.Needs.{needs}
-use Rattle.styled.proofs.own_rectangle.Statement.{statement}
-use Rattle.styled.proofs.own_rectangle.Tie as tie
+use Rattle.areas.proofs.own_rectangle.Statement.{statement}
+use Rattle.areas.proofs.own_rectangle.Tie as tie
 
 enum-known-figure : tie.Need-enum-known-figure
 enum-known-figure c = search needs

@@ -1,4 +1,4 @@
--- `styled::stroke_shape` meets its contract: the outside width is at most the stroke's.
+-- `areas::stroke_shape` meets its contract: the outside width is at most the stroke's.
 -- Assumes nothing.
 use mathlib.Core.Path.{ap, _∙_}
 use lib.IntN.{pos}
@@ -8,8 +8,8 @@ use Rattle.style.proofs.StrokeWidths.{outside-within-stroke}
 use borrow.Author.Needs.{needs}
 use native.Mathlib.Omega.{arith}
 use Rattle.signed.proofs.Laws.{int}
-use Rattle.styled.proofs.stroke_shape.Statement.{statement}
-use Rattle.styled.proofs.stroke_shape.Tie as tie
+use Rattle.areas.proofs.stroke_shape.Statement.{statement}
+use Rattle.areas.proofs.stroke_shape.Tie as tie
 
 outside-stroke-width-requires : tie.Need-outside-stroke-width-requires
 outside-stroke-width-requires c κs = search needs
