@@ -1,11 +1,11 @@
--- `rectangle::bounded::offset_side` meets its contract: k + k is 2k, and the sum is cut off at 0.
+-- `side::offset_side` meets its contract: k + k is 2k, and the sum is cut off at 0.
 -- Assumes nothing.
-use Rattle.rectangle.proofs.Offset.{offset-side-by-parts}
+use Rattle.side.proofs.Parts.{offset-side-by-parts}
 use borrow.Author.Needs.{needs}
 use native.Mathlib.Omega.{arith}
 use Rattle.signed.proofs.Laws.{int}
-use Rattle.rectangle.proofs.bounded.offset_side.Statement.{statement}
-use Rattle.rectangle.proofs.bounded.offset_side.Tie as tie
+use Rattle.side.proofs.offset_side.Statement.{statement}
+use Rattle.side.proofs.offset_side.Tie as tie
 
 from-u32-requires : tie.Need-from-u32-requires
 from-u32-requires c κs = search needs
