@@ -1,4 +1,4 @@
--- `drawing::paint_row_on` meets its contract: by where the row lies, and by whether there is one.
+-- `canvas_row::paint_row_on` meets its contract: by where the row lies, and by whether there is one.
 -- Assumes nothing.
 use native.Mathlib.Omega.{arith}
 use borrow.Author.Needs.{needs}
@@ -13,9 +13,9 @@ use mir.Val.{toZ, ofZ}
 use Rattle.signed.specs.Signed.{floor0}
 use Rattle.book.proofs.CanvasRows.{row-within}
 use Rattle.canvas.specs.Canvas.{overpaintAt}
-use Rattle.drawing.proofs.PaintRow.{paint-by-above, paint-by-below, paint-by-runs, paint-by-lacking}
-use Rattle.drawing.proofs.paint_row_on.Statement.{statement}
-use Rattle.drawing.proofs.paint_row_on.Tie as tie
+use Rattle.canvas_row.proofs.PaintBy.{paint-by-above, paint-by-below, paint-by-runs, paint-by-lacking}
+use Rattle.canvas_row.proofs.paint_row_on.Statement.{statement}
+use Rattle.canvas_row.proofs.paint_row_on.Tie as tie
 
 -- the asked row as it is held is the asked row
 row-held : (c : tie.Start) → toZ w32 (ofZ w32 (c .args .y)) ≡ c .args .y
