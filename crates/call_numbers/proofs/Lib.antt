@@ -1,3 +1,3 @@
--- A walk over a list of numbers and over a list of calls.
+-- The part of a list that is lent for a call.
 -- Assumes nothing.
 pub mod Walks

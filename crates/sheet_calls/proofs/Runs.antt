@@ -24,6 +24,8 @@ use Rattle.sheet.specs.declared.SheetOutcome.{SheetOutcome}
 use Rattle.sheet.specs.Sheet.{said, stateOf, openedSheet}
 use Rattle.sheet.proofs.Records.{state-after, SameFrame, same-frame-after}
 use Rattle.sheet.proofs.Figures.{figures-demand3}
+use Rattle.record_numbers.specs.RecordNumbers.{listFrom}
+use Rattle.record_numbers.proofs.Walks.{list-from-here}
 use Rattle.call_numbers.specs.CallNumbers.{callOf, callNumbers, callsFrom, encodesCalls}
 use Rattle.call_numbers.proofs.Walks.{call-part}
 use Rattle.sheet_calls.specs.SheetCalls.{answerNumber, allRan, notCalls, refusedBy, lentCheck, runAnswer, Called, answersAfter, stateAfter, Ran}
@@ -83,10 +85,7 @@ module _ (numbers : List ℤ) (count : ℕ) (s₀ : Sheet) (canvas₀ list : Lis
     answer-is = sym (called .answer ∙ ap₂ (λ (w h : ℕ). answer drawing w h (stateOf s canvas) call) (l .width) (l .height))
 
     calls-left : left j ≡ call ∷ left (j + 1)
-    unfolding callsFrom
-    calls-left =
-        let one : count - j ≡ suc (count - (j + 1)) = omega arith in
-        ap (callsFrom numbers j) one ∙ ap {B = List (Call StyledFigure)} (λ k. call ∷ callsFrom numbers k (count - (j + 1))) (sym (add-one j))
+    calls-left = list-from-here (λ k. callOf (callNumbers numbers k)) count j here
 
     answered-next : sets told j (map answerNumber (answers drawing W H (stateOf s canvas) (call ∷ left (j + 1))))
         ≡ sets (set told j (answerNumber (said (r .answer)))) (j + 1) (map answerNumber (answers drawing W H (stateOf (r .sheet) canvas′) (left (j + 1))))
@@ -113,7 +112,7 @@ module _ (numbers : List ℤ) (count : ℕ) (s₀ : Sheet) (canvas₀ list : Lis
   -- none left
   pub none-left : (j : ℕ) (s : Sheet) (canvas told : List ℕ) → CallsLeft j s canvas told → count ≤ j
       → (told ≡ allAnswered) × (stateOf s canvas ≡ allReached)
-  unfolding answers afterAll callsFrom
+  unfolding answers afterAll listFrom
   none-left j s canvas told l done =
       let none : count - j ≡ 0 = omega arith in (
         sym (l .answered ∙ ap (λ (n : ℕ). sets told j (map answerNumber (answers drawing W H (stateOf s canvas) (callsFrom numbers j n)))) none),

@@ -45,8 +45,8 @@ fn make_call(sheet: Sheet, numbers: &[i32], canvas: &mut [u8]) -> SheetOutcome
         return sheet.paint(signed::floor0(numbers[1]), canvas);
     }
     sheet.add(
-        call_numbers::figure_of(numbers),
-        call_numbers::style_of(numbers),
+        record_numbers::figure_of(&numbers[1..14]),
+        record_numbers::style_of(&numbers[14..18]),
     )
 }
 

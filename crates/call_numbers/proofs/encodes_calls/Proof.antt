@@ -10,8 +10,9 @@ use borrow.Author.Needs.{needs}
 use borrow.Author.Tests.{not-true, not-false, eq-eqb, ne-eqb}
 use lib.IntN.{ℤ}
 use lib.ListN.{length}
-use Rattle.call_numbers.specs.CallNumbers.{isCall, areCalls, callCount, encodesCalls}
-use Rattle.call_numbers.proofs.Walks.{are-calls-here, are-calls-past, call-part, call-part-length}
+use Rattle.call_numbers.specs.CallNumbers.{isCall, callNumbers, areCalls, callCount, encodesCalls}
+use Rattle.call_numbers.proofs.Walks.{call-part, call-part-length}
+use Rattle.record_numbers.proofs.Walks.{all-from-here, all-from-past}
 use Rattle.call_numbers.proofs.encodes_calls.Statement.{statement}
 use Rattle.call_numbers.proofs.encodes_calls.Tie as tie
 
@@ -35,7 +36,7 @@ step : (c : tie.After-is-call Inv-loop μ-loop) (t : Bool) → c .is-call .resul
     ≡ (t && areCalls (numbers c) (c .before .before .before .loop .j + 1) (callCount (numbers c) - (c .before .before .before .loop .j + 1)))
 step c t found =
     let j = c .before .before .before .loop .j in
-    are-calls-here (numbers c) (callCount (numbers c)) j (c .before .before .loop-test .taken)
+    all-from-here (λ k. isCall (callNumbers (numbers c) k)) (callCount (numbers c)) j (c .before .before .loop-test .taken)
     ∙ ap (λ (t : Bool). t && areCalls (numbers c) (j + 1) (callCount (numbers c) - (j + 1)))
     (sym (c .is-call .ensures ∙ ap isCall (call-part (numbers c) j)) ∙ found)
 
@@ -93,7 +94,7 @@ returns-3 : tie.Need-returns-3 Inv-loop μ-loop
 returns-3 c =
     let walk = c .before in
     let numbers = walk .before .before .args .numbers .now in
-    sym (encodes (walk .before) ∙ sym (walk .loop .inv .1) ∙ are-calls-past numbers (callCount numbers) (walk .loop .j) (c .loop-test .left))
+    sym (encodes (walk .before) ∙ sym (walk .loop .inv .1) ∙ all-from-past (λ k. isCall (callNumbers numbers k)) (callCount numbers) (walk .loop .j) (c .loop-test .left))
 
 pub encodes-calls-spec : {M : Type 1} → statement M
 encodes-calls-spec =

@@ -1,15 +1,19 @@
 -- `call_numbers::is_call` meets its contract: the first number says which of the two it may be.
 -- Assumes nothing.
-use borrow.Author.Needs.{needs}
 use mathlib.Core.Path.{_≡_, sym, ap, _∙_}
-use mathlib.Core.Bool.{Bool, true}
+use mathlib.Core.Bool.{Bool, true, _&&_}
 use borrow.Author.Tests.{not-true, not-false}
 use lib.IntN.{pos}
+use lib.ListN.{take, drop}
 use lib.Signed.{leZ}
 use mir.Syntax.{w32}
 use mir.Val.{toZ, ofZ}
-use Rattle.call_numbers.proofs.Walks.{read-back}
-use Rattle.call_numbers.specs.CallNumbers.{numberAt, within, isCall}
+use Rattle.record_numbers.specs.RecordNumbers.{numberAt, within, isFigure, isStyle}
+use Rattle.record_numbers.proofs.Walks.{read-back}
+use Rattle.call_numbers.specs.CallNumbers.{isCall}
+use native.Mathlib.Omega.{arith}
+use Rattle.signed.proofs.Laws.{int}
+use borrow.Author.Needs.{needs}
 use Rattle.call_numbers.proofs.is_call.Statement.{statement}
 use Rattle.call_numbers.proofs.is_call.Tie as tie
 
@@ -23,6 +27,9 @@ after-kind c = kind (c .before) ∙ not-false _ (c .if1 .left)
 by-kind : (c : tie.After-if22) {t : Bool} → leZ (pos 1) (toZ w32 (ofZ w32 (numberAt (c .before .before .before .before .args .numbers .now) 0))) ≡ t
     → leZ (pos 1) (numberAt (c .before .before .before .before .args .numbers .now) 0) ≡ t
 by-kind c test = sym (ap (leZ (pos 1)) (read-back (c .before .before .before .before .args .numbers .now) 0 (c .if22 .given))) ∙ test
+
+figure : (c : tie.After-is-figure) → isFigure (take 13 (drop 1 (c .before .before .before .before .before .before .before .args .numbers .now))) ≡ c .is-figure .result
+figure c = sym (c .is-figure .ensures)
 
 shared-slice-copy-out-is-within : tie.Need-shared-slice-copy-out-is-within
 shared-slice-copy-out-is-within c = search needs
@@ -42,18 +49,39 @@ shared-slice-copy-out-result c = search needs
 
 returns-2 : tie.Need-returns-2
 unfolding isCall
-returns-2 c =
-    let paints = c .before in
-    rw (after-kind (paints .before .before), by-kind (paints .before) (paints .if2 .taken)) (ap (leZ (pos 0)) (read-back (c .before .before .before .before .before .before .args .numbers .now) 1 (c .result .given)))
+returns-2 c = rw (after-kind (c .before .before .before), by-kind (c .before .before) (c .before .if2 .taken)) (ap (leZ (pos 0)) (read-back (c .before .before .before .before .before .before .args .numbers .now) 1 (c .result .given)))
+
+sub-is-figure : tie.Need-sub-is-figure
+sub-is-figure c = search needs
+
+part-is-figure-start : tie.Need-part-is-figure-start
+part-is-figure-start c = search needs
+
+part-is-figure-end : tie.Need-part-is-figure-end
+part-is-figure-end c = search needs
 
 is-figure-requires : tie.Need-is-figure-requires
 is-figure-requires c κs = search needs
 
 returns-3 : tie.Need-returns-3
 unfolding isCall
-returns-3 c =
-    let adds = c .before in
-    rw (after-kind (adds .before .before), by-kind (adds .before) (adds .if2 .left)) (c .is-figure .ensures)
+returns-3 c = rw (after-kind (c .before .before .before .before .before), by-kind (c .before .before .before .before) (c .before .before .before .if2 .left), figure (c .before) ∙ not-true _ (c .if3 .taken))
+
+sub-is-style : tie.Need-sub-is-style
+sub-is-style c = search needs
+
+part-is-style-start : tie.Need-part-is-style-start
+part-is-style-start c = search needs
+
+part-is-style-end : tie.Need-part-is-style-end
+part-is-style-end c = search needs
+
+is-style-requires : tie.Need-is-style-requires
+is-style-requires c κs = search needs
+
+returns-4 : tie.Need-returns-4
+unfolding isCall
+returns-4 c = rw (after-kind (c .before .before .before .before .before .before .before), by-kind (c .before .before .before .before .before .before) (c .before .before .before .before .before .if2 .left), figure (c .before .before .before) ∙ not-false _ (c .before .before .if3 .left)) (c .is-style .ensures)
 
 pub is-call-spec : {M : Type 1} → statement M
 is-call-spec =
@@ -65,5 +93,13 @@ is-call-spec =
     shared-slice-copy-out-if2
     shared-slice-copy-out-result
     returns-2
+    sub-is-figure
+    part-is-figure-start
+    part-is-figure-end
     is-figure-requires
-    returns-3)
+    returns-3
+    sub-is-style
+    part-is-style-start
+    part-is-style-end
+    is-style-requires
+    returns-4)

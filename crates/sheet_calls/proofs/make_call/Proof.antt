@@ -1,10 +1,9 @@
 -- `sheet_calls::make_call` meets its contract: the first number says which call it is, and the sheet's own promise the rest.
 -- Assumes nothing.
-use borrow.Author.Needs.{needs}
 use mathlib.Core.Path.{_≡_, sym, ap, ap₂, _∙_}
 use mathlib.Core.Bool.{Bool}
 use lib.IntN.{ℤ, pos}
-use lib.ListN.{length}
+use lib.ListN.{length, length-take, length-drop}
 use lib.Signed.{leZ}
 use mir.Syntax.{w32}
 use mir.Val.{toZ, ofZ}
@@ -15,8 +14,12 @@ use Rattle.drawing.specs.Drawing.{styledFigure}
 use Rattle.sheet_checks.proofs.Places.{sixteen-places}
 use Rattle.sheet.specs.Sheet.{carriedOutSheet}
 use Rattle.sheet.proofs.Records.{add-any-canvas, add-keeps-canvas}
-use Rattle.call_numbers.specs.CallNumbers.{numberAt, callOf}
-use Rattle.call_numbers.proofs.Walks.{read-back}
+use Rattle.record_numbers.specs.RecordNumbers.{numberAt}
+use Rattle.record_numbers.proofs.Walks.{read-back}
+use Rattle.call_numbers.specs.CallNumbers.{callOf}
+use native.Mathlib.Omega.{arith}
+use Rattle.signed.proofs.Laws.{int}
+use borrow.Author.Needs.{needs}
 use Rattle.sheet_calls.proofs.make_call.Statement.{statement}
 use Rattle.sheet_calls.proofs.make_call.Tie as tie
 
@@ -35,12 +38,10 @@ paints c =
     rw (by-kind (c .before .before .before) (c .before .before .if1 .taken))
     (ap Call·paint (sym (c .floor0 .ensures ∙ ap (λ (z : ℤ). floor0 z) (read-back numbers 1 (c .before .floor0-arg .given)))))
 
-adds : (c : tie.After-style-of)
-    → callOf (c .before .before .before .before .before .args .numbers .now) ≡ Call·add (styledFigure (c .before .figure-of .result) (c .style-of .result))
+adds : (c : tie.After-style-of) → callOf (c .before .before .before .before .before .before .before .args .numbers .now) ≡ Call·add (styledFigure (c .before .before .figure-of .result) (c .style-of .result))
 unfolding callOf
 adds c =
-    rw (by-kind (c .before .before .before) (c .before .before .if1 .left))
-    (ap Call·add (sym (ap₂ styledFigure (c .before .figure-of .ensures) (c .style-of .ensures))))
+    rw (by-kind (c .before .before .before .before .before) (c .before .before .before .before .if1 .left)) (ap Call·add (sym (ap₂ styledFigure (c .before .before .figure-of .ensures) (c .style-of .ensures))))
 
 shared-slice-copy-out-if1 : tie.Need-shared-slice-copy-out-if1
 shared-slice-copy-out-if1 c = search needs
@@ -63,8 +64,26 @@ returns c =
     rw (paints (c .before .before .before .before))
     (record { answer = done .0; sheet = done .1 .0; bytes = done .1 .1 })
 
+sub-figure-of : tie.Need-sub-figure-of
+sub-figure-of c = search needs
+
+part-figure-of-start : tie.Need-part-figure-of-start
+part-figure-of-start c = search needs
+
+part-figure-of-end : tie.Need-part-figure-of-end
+part-figure-of-end c = search needs
+
 figure-of-requires : tie.Need-figure-of-requires
 figure-of-requires c κs = search needs
+
+sub-style-of : tie.Need-sub-style-of
+sub-style-of c = search needs
+
+part-style-of-start : tie.Need-part-style-of-start
+part-style-of-start c = search needs
+
+part-style-of-end : tie.Need-part-style-of-end
+part-style-of-end c = search needs
 
 style-of-requires : tie.Need-style-of-requires
 style-of-requires c κs = search needs
@@ -74,10 +93,10 @@ add-requires c κs = search needs
 
 returns-2 : tie.Need-returns-2
 returns-2 c =
-    let start = c .before .before .before .before .before .before in
+    let start = c .before .before .before .before .before .before .before .before in
     let s = start .args .sheet in
     let canvas = start .args .canvas .now in
-    let item = styledFigure (c .before .before .figure-of .result) (c .before .style-of .result) in
+    let item = styledFigure (c .before .before .before .figure-of .result) (c .before .style-of .result) in
     let same = add-any-canvas s (sixteen start) canvas item in
     rw (adds (c .before))
     (record {
@@ -96,7 +115,13 @@ make-call-spec =
     paint-requires
     same-length
     returns
+    sub-figure-of
+    part-figure-of-start
+    part-figure-of-end
     figure-of-requires
+    sub-style-of
+    part-style-of-start
+    part-style-of-end
     style-of-requires
     add-requires
     returns-2)

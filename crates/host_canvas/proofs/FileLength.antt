@@ -1,0 +1,46 @@
+-- The length of a file that was written fits 32 bits: a canvas has at most 1024 by 1024 bytes, and a header at most 29.
+-- Assumes nothing.
+use mathlib.Core.Path.{_≡_, sym, ap, _∙_}
+use mathlib.Core.Bool.{Bool, true, false}
+use mathlib.Core.List.{List, [], _∷_}
+use Prim.Native.Nat.{ℕ, _*_, _+_, _<_, _≤_, _^_}
+use native.Mathlib.Omega.{arith}
+use native.Mathlib.Nat.{mul-le-mul}
+use lib.IntN.{ℤ, pos, natAbs}
+use lib.ListN.{length}
+use Rattle.refusal.specs.declared.Checked.{Checked}
+use Rattle.refusal.specs.declared.Checked.the-variants.{Passed, Refused}
+use Rattle.refusal.specs.Refusal.{orElse, Outcome, refused, answered, unless, roomCheck}
+use Rattle.refusal.proofs.Checks.{passed-first, passed-next}
+use Rattle.canvas_size.specs.CanvasSize.{canvasSizeCheck, canvasLengthCheck}
+use Rattle.canvas_size.proofs.Sides.{canvas-size-passed, canvas-length-passed}
+use Rattle.p5_header.proofs.Header.{length-header-u32}
+use Rattle.netpbm.specs.Netpbm.{p5, writeCheck, writeCall}
+use Rattle.netpbm.proofs.File.{length-p5}
+use Rattle.host_canvas.specs.Canvas.{writeRoom}
+
+-- the value of an answer that has one
+valueOf : Outcome → ℕ
+valueOf (refused n) = 0
+valueOf (answered []) = 0
+valueOf (answered (v ∷ rest)) = natAbs v
+
+at-most : (check : Checked) (n m : ℕ) → answered (pos n ∷ []) ≡ unless check (pos m ∷ []) → n ≤ m
+unfolding valueOf
+at-most Passed n m same =
+    let equal : n ≡ m = ap valueOf same in
+    omega arith
+at-most (Refused refusal) n m same =
+    let none : n ≡ 0 = ap valueOf same in
+    omega arith
+
+pub written-length-fits : (W H : ℕ) (canvas file : List ℕ) (room n : ℕ) → writeRoom W H canvas room ≡ Passed
+    → answered (pos n ∷ []) ≡ writeCall W H canvas file → n < 2 ^ 32
+written-length-fits W H canvas file room n passed same =
+    let lent = passed-first (orElse (canvasSizeCheck W H) (canvasLengthCheck W H (length canvas))) (roomCheck 1 room) passed in
+    let sides = canvas-size-passed W H (passed-first (canvasSizeCheck W H) (canvasLengthCheck W H (length canvas)) lent) in
+    let long = canvas-length-passed W H (length canvas) (passed-next (canvasSizeCheck W H) (canvasLengthCheck W H (length canvas)) lent) in
+    let few = at-most (writeCheck W H canvas file) n (length (p5 W H canvas)) same in
+    let area : W * H ≤ 1024 * 1024 = mul-le-mul (sides .width-most) (sides .height-most) in
+    let head = length-header-u32 W H (omega arith) (omega arith) in
+    omega (arith, length-p5 W H canvas)

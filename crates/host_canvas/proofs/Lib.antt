@@ -1,0 +1,3 @@
+-- How long a file may be.
+-- Assumes nothing.
+mod FileLength

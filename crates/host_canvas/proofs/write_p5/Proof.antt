@@ -1,0 +1,123 @@
+-- `host_canvas::write_p5` meets its contract: once the canvas and the place for the length are checked the file is written, and the
+-- answer told. The length of a file fits 32 bits.
+-- Assumes nothing.
+use mathlib.Core.Path.{_≡_, refl, sym, ap, ap₂, _∙_}
+use lib.ListN.{length}
+use Rattle.refusal.specs.Refusal.{orElse}
+use Rattle.netpbm.specs.declared.WriteAnswer.{WriteAnswer}
+use Rattle.netpbm.specs.Netpbm.{writeOutcome, writeCall, fileAfter}
+use Rattle.host_answers.proofs.Telling.{tells-as, tells-refusal}
+use Rattle.host_canvas.specs.Canvas.{writeRoom}
+use Rattle.host_canvas.proofs.FileLength.{written-length-fits}
+use native.Mathlib.Omega.{arith}
+use Rattle.signed.proofs.Laws.{int}
+use borrow.Author.Needs.{needs}
+use Rattle.host_canvas.proofs.write_p5.Statement.{statement}
+use Rattle.host_canvas.proofs.write_p5.Tie as tie
+
+-- the check made is the definition's
+checked : (c : tie.After-or-else2)
+    → c .or-else2 .result ≡ writeRoom (c .before .before .before .before .before .before .before .args .width) (c .before .before .before .before .before .before .before .args .height) (c .before .before .before .before .before .before .before .args .canvas .now) (length (c .before .before .before .before .before .before .before .args .out .now))
+checked c =
+    c .or-else2 .ensures ∙ ap₂ orElse (c .before .before .or-else .ensures ∙ ap₂ orElse (c .before .before .before .before .check .ensures) (c .before .before .before .check-length .ensures)) (c .before .check-room .ensures)
+
+-- what the call says, and the file after it
+says : (c : tie.After-write-p5)
+    → writeOutcome (c .write-p5 .result) ≡ writeCall (c .before .before .before .before .before .before .before .before .before .before .before .args .width) (c .before .before .before .before .before .before .before .before .before .before .before .args .height) (c .before .before .before .before .before .before .before .before .before .before .before .args .canvas .now) (c .before .before .before .before .before .before .before .before .before .before .before .args .file .now)
+says c = c .write-p5 .ensures .0
+
+check-requires : tie.Need-check-requires
+check-requires c κs = search needs
+
+check-length-requires : tie.Need-check-length-requires
+check-length-requires c κs = search needs
+
+or-else-requires : tie.Need-or-else-requires
+or-else-requires c κs = search needs
+
+check-room-requires : tie.Need-check-room-requires
+check-room-requires c κs = search needs
+
+or-else-requires-2 : tie.Need-or-else-requires-2
+or-else-requires-2 c κs = search needs
+
+enum-known-refusal : tie.Need-enum-known-refusal
+enum-known-refusal c = search needs
+
+enum-told : tie.Need-enum-told
+enum-told c = search needs
+
+write-p5-requires : tie.Need-write-p5-requires
+write-p5-requires c κs = search needs
+
+enum-known-short : tie.Need-enum-known-short
+enum-known-short c = search needs
+
+number-requires : tie.Need-number-requires
+number-requires c κs = search needs
+
+same-length : tie.Need-same-length
+same-length c = search needs
+
+returns : tie.Need-returns
+returns c =
+    rw (sym (checked (c .before .before .before .before .before .before .before .before .before .before)) ∙ c .before .before .before .before .before .before .before .before .enum-told .given .1)
+    (tells-refusal (c .before .before .before .before .before .before .before .before .before .before .before .before .before .before .before .before .before .args .out .now) (sym (ap (λ (a : WriteAnswer). writeOutcome a) (c .before .before .short .given .1)) ∙ says (c .before .before .before .before .before .before)) (c .number .ensures), c .before .before .before .before .before .before .write-p5 .ensures .1)
+
+enum-known-n : tie.Need-enum-known-n
+enum-known-n c = search needs
+
+cast-put-count : tie.Need-cast-put-count
+cast-put-count c =
+    let a = c .before .before .before .before .before .before .before .before .before .before .before .before .before .before .before .before .args in
+    record {
+      fits = written-length-fits (a .width) (a .height) (a .canvas .now) (a .file .now) (length (a .out .now)) _
+          (sym (checked (c .before .before .before .before .before .before .before .before .before)) ∙ c .before .before .before .before .before .before .before .enum-told .given .1) (sym (ap (λ (a : WriteAnswer). writeOutcome a) (c .before .n .given .1)) ∙ says (c .before .before .before .before .before));
+    }
+
+put-count-requires : tie.Need-put-count-requires
+put-count-requires c κs = search needs
+
+same-length-2 : tie.Need-same-length-2
+same-length-2 c = search needs
+
+same-length-3 : tie.Need-same-length-3
+same-length-3 c = search needs
+
+returns-2 : tie.Need-returns-2
+returns-2 c =
+    rw (sym (checked (c .before .before .before .before .before .before .before .before .before .before .before .before)) ∙ c .before .before .before .before .before .before .before .before .before .before .enum-told .given .1)
+    (tells-as (sym (ap (λ (a : WriteAnswer). writeOutcome a) (c .before .before .before .before .n .given .1)) ∙ says (c .before .before .before .before .before .before .before .before)) (c .before .put-count .ensures), c .before .before .before .before .before .before .before .before .write-p5 .ensures .1)
+
+number-requires-2 : tie.Need-number-requires-2
+number-requires-2 c κs = search needs
+
+returns-3 : tie.Need-returns-3
+returns-3 c =
+    rw (sym (checked (c .before .before .before .before)) ∙ c .before .before .refusal .given .1)
+    (tells-refusal (c .before .before .before .before .before .before .before .before .before .before .before .args .out .now) refl (c .number2 .ensures), refl)
+
+pub write-p5-spec : {M : Type 1} → statement M
+write-p5-spec =
+    tie.close
+    (tie.spec
+    check-requires
+    check-length-requires
+    or-else-requires
+    check-room-requires
+    or-else-requires-2
+    enum-known-refusal
+    enum-told
+    write-p5-requires
+    enum-known-short
+    number-requires
+    same-length
+    returns
+    enum-known-n
+    cast-put-count
+    put-count-requires
+    same-length-2
+    same-length-3
+    returns-2
+    number-requires-2
+    returns-3)

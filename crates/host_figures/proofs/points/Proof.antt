@@ -1,0 +1,131 @@
+-- `host_figures::points` meets its contract: once the figure and the place for the number are checked the points are listed, and
+-- the answer told.
+-- Assumes nothing.
+use mathlib.Core.Path.{_≡_, refl, sym, ap, ap₂, _∙_}
+use mathlib.Core.Bool.{true}
+use borrow.Author.Tests.{not-true, not-false}
+use lib.IntN.{ℤ}
+use lib.ListN.{length}
+use Rattle.refusal.specs.Refusal.{orElse}
+use Rattle.figure.specs.declared.Figure.{Figure}
+use Rattle.figure.specs.Calls.{figureCheck}
+use Rattle.points.specs.declared.PointsAnswer.{PointsAnswer}
+use Rattle.points.specs.Points.{pointsOutcome, pointsCall, listAfter}
+use Rattle.record_numbers.specs.RecordNumbers.{isFigure, figureOf}
+use Rattle.record_numbers.proofs.Records.{figure-length}
+use Rattle.host_answers.specs.HostAnswers.{noRecord}
+use Rattle.host_answers.proofs.Telling.{tells-as, tells-refused, tells-refusal}
+use Rattle.host_figures.specs.Figures.{pointsRoom}
+use native.Mathlib.Omega.{arith}
+use Rattle.signed.proofs.Laws.{int}
+use borrow.Author.Needs.{needs}
+use Rattle.host_figures.proofs.points.Statement.{statement}
+use Rattle.host_figures.proofs.points.Tie as tie
+
+-- the numbers are a figure
+is-one : (c : tie.Else1) → isFigure (c .before .before .args .figure .now) ≡ true
+is-one c = sym (c .before .is-figure .ensures) ∙ not-false _ (c .if1 .left)
+
+-- the check made is the definition's
+checked : (c : tie.After-or-else) → c .or-else .result ≡ pointsRoom (c .before .before .before .before .before .before .args .figure .now) (length (c .before .before .before .before .before .before .args .out .now))
+checked c =
+    c .or-else .ensures
+    ∙ ap₂ orElse (c .before .before .check .ensures ∙ ap (λ (f : Figure). figureCheck f) (c .before .before .before .figure-of .ensures)) (c .before .check-room .ensures)
+
+-- what the call says, and the list after it
+says : (c : tie.After-points) → pointsOutcome (c .points .result) ≡ pointsCall (figureOf (c .before .before .before .before .before .before .before .before .before .before .args .figure .now)) (c .before .before .before .before .before .before .before .before .before .before .args .list .now)
+says c = c .points .ensures .0 ∙ ap (λ (f : Figure). pointsCall f (c .before .before .before .before .before .before .before .before .before .before .args .list .now)) (c .before .before .before .before .before .before .before .figure-of .ensures)
+
+lists : (c : tie.After-points) → c .points .last .1 .0 ≡ listAfter (figureOf (c .before .before .before .before .before .before .before .before .before .before .args .figure .now)) (c .before .before .before .before .before .before .before .before .before .before .args .list .now)
+lists c = c .points .ensures .1 ∙ ap (λ (f : Figure). listAfter f (c .before .before .before .before .before .before .before .before .before .before .args .list .now)) (c .before .before .before .before .before .before .before .figure-of .ensures)
+
+is-figure-requires : tie.Need-is-figure-requires
+is-figure-requires c κs = search needs
+
+returns : tie.Need-returns
+returns c = rw (sym (c .before .is-figure .ensures) ∙ not-true _ (c .if1 .taken)) (tells-refused noRecord (c .before .before .args .out .now), refl)
+
+figure-of-requires : tie.Need-figure-of-requires
+figure-of-requires c κs = figure-length (c .before .before .args .figure .now) (is-one c)
+
+check-requires : tie.Need-check-requires
+check-requires c κs = search needs
+
+check-room-requires : tie.Need-check-room-requires
+check-room-requires c κs = search needs
+
+or-else-requires : tie.Need-or-else-requires
+or-else-requires c κs = search needs
+
+enum-known-refusal : tie.Need-enum-known-refusal
+enum-known-refusal c = search needs
+
+enum-told : tie.Need-enum-told
+enum-told c = search needs
+
+points-requires : tie.Need-points-requires
+points-requires c κs = search needs
+
+enum-known-short : tie.Need-enum-known-short
+enum-known-short c = search needs
+
+number-requires : tie.Need-number-requires
+number-requires c κs = search needs
+
+same-length : tie.Need-same-length
+same-length c = search needs
+
+returns-2 : tie.Need-returns-2
+returns-2 c =
+    rw (is-one (c .before .before .before .before .before .before .before .before .before .before .before .before .before), sym (checked (c .before .before .before .before .before .before .before .before .before)) ∙ c .before .before .before .before .before .before .before .enum-told .given .1)
+    (tells-refusal (c .before .before .before .before .before .before .before .before .before .before .before .before .before .before .before .args .out .now) (sym (ap (λ (a : PointsAnswer). pointsOutcome a) (c .before .before .short .given .1)) ∙ says (c .before .before .before .before .before)) (c .number .ensures), lists (c .before .before .before .before .before))
+
+enum-known-n : tie.Need-enum-known-n
+enum-known-n c = search needs
+
+put-count-requires : tie.Need-put-count-requires
+put-count-requires c κs = search needs
+
+same-length-2 : tie.Need-same-length-2
+same-length-2 c = search needs
+
+same-length-3 : tie.Need-same-length-3
+same-length-3 c = search needs
+
+returns-3 : tie.Need-returns-3
+returns-3 c =
+    rw (is-one (c .before .before .before .before .before .before .before .before .before .before .before .before .before .before .before), sym (checked (c .before .before .before .before .before .before .before .before .before .before .before)) ∙ c .before .before .before .before .before .before .before .before .before .enum-told .given .1)
+    (tells-as (sym (ap (λ (a : PointsAnswer). pointsOutcome a) (c .before .before .before .before .n .given .1)) ∙ says (c .before .before .before .before .before .before .before)) (c .before .put-count .ensures), lists (c .before .before .before .before .before .before .before))
+
+number-requires-2 : tie.Need-number-requires-2
+number-requires-2 c κs = search needs
+
+returns-4 : tie.Need-returns-4
+returns-4 c =
+    rw (is-one (c .before .before .before .before .before .before .before .before), sym (checked (c .before .before .before .before)) ∙ c .before .before .refusal .given .1)
+    (tells-refusal (c .before .before .before .before .before .before .before .before .before .before .args .out .now) refl (c .number2 .ensures), refl)
+
+pub points-spec : {M : Type 1} → statement M
+points-spec =
+    tie.close
+    (tie.spec
+    is-figure-requires
+    returns
+    figure-of-requires
+    check-requires
+    check-room-requires
+    or-else-requires
+    enum-known-refusal
+    enum-told
+    points-requires
+    enum-known-short
+    number-requires
+    same-length
+    returns-2
+    enum-known-n
+    put-count-requires
+    same-length-2
+    same-length-3
+    returns-3
+    number-requires-2
+    returns-4)

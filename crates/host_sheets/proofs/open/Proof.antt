@@ -1,0 +1,80 @@
+-- `host_sheets::open` meets its contract: the numbers of a sheet without layers, with the width and height given.
+-- Assumes nothing.
+use mathlib.Core.Path.{_≡_, refl, sym, ap, _∙_}
+use mathlib.Core.List.{List, [], _∷_}
+use lib.IntN.{ℤ, pos}
+use mir.Syntax.{w32}
+use mir.Val.{toZ, ofZ}
+use Rattle.geometry.specs.Limits.{maxLayers}
+use Rattle.host_answers.specs.HostAnswers.{heldBy32}
+use Rattle.host_answers.proofs.Telling.{held-read, tells-refusal, tells-put}
+use Rattle.host_sheets.specs.Sheets.{unusedPlaces}
+use native.Mathlib.Omega.{arith}
+use Rattle.signed.proofs.Laws.{int}
+use borrow.Author.Needs.{needs}
+use Rattle.host_sheets.proofs.open.Statement.{statement}
+use Rattle.host_sheets.proofs.open.Tie as tie
+
+check-requires : tie.Need-check-requires
+check-requires c κs = search needs
+
+enum-known-refusal : tie.Need-enum-known-refusal
+enum-known-refusal c = search needs
+
+enum-told : tie.Need-enum-told
+enum-told c = search needs
+
+held-requires : tie.Need-held-requires
+held-requires c κs = search needs
+
+array-set-from-numbers : tie.Need-array-set-from-numbers
+array-set-from-numbers c = search needs
+
+held-requires-2 : tie.Need-held-requires-2
+held-requires-2 c κs = search needs
+
+array-set-from-numbers-2 : tie.Need-array-set-from-numbers-2
+array-set-from-numbers-2 c = search needs
+
+slice-aggregate-put-numbers : tie.Need-slice-aggregate-put-numbers
+slice-aggregate-put-numbers c = search needs
+
+put-numbers-requires : tie.Need-put-numbers-requires
+put-numbers-requires c κs = search needs
+
+same-length : tie.Need-same-length
+same-length c = search needs
+
+returns : tie.Need-returns
+unfolding heldBy32 unusedPlaces
+returns c =
+    rw (sym (c .before .before .before .before .before .before .before .before .check .ensures) ∙ c .before .before .before .before .before .before .enum-told .given .1)
+    (tells-put (pos (c .before .before .before .before .before .before .before .before .before .args .width)) (pos (c .before .before .before .before .before .before .before .before .before .args .height) ∷ pos 0 ∷ unusedPlaces maxLayers) _
+    (toZ w32 (ofZ w32 (c .before .before .before .before .before .held .result)) ∷ toZ w32 (ofZ w32 (c .before .before .before .before .held2 .result)) ∷ pos 0 ∷ unusedPlaces maxLayers)
+    (λ i. held-read (c .before .before .before .before .before .before .before .before .before .args .width) (c .before .before .before .before .before .held .ensures) i ∷ held-read (c .before .before .before .before .before .before .before .before .before .args .height) (c .before .before .before .before .held2 .ensures) i ∷ pos 0 ∷ unusedPlaces maxLayers) _ _ (c .before .put-numbers .ensures .0) (c .before .put-numbers .ensures .1))
+
+number-requires : tie.Need-number-requires
+number-requires c κs = search needs
+
+returns-2 : tie.Need-returns-2
+returns-2 c =
+    rw (sym (c .before .before .before .before .check .ensures) ∙ c .before .before .refusal .given .1)
+    (tells-refusal (c .before .before .before .before .before .args .sheet .now) refl (c .number .ensures))
+
+pub open-spec : {M : Type 1} → statement M
+open-spec =
+    tie.close
+    (tie.spec
+    check-requires
+    enum-known-refusal
+    enum-told
+    held-requires
+    array-set-from-numbers
+    held-requires-2
+    array-set-from-numbers-2
+    slice-aggregate-put-numbers
+    put-numbers-requires
+    same-length
+    returns
+    number-requires
+    returns-2)

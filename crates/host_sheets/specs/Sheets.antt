@@ -1,0 +1,82 @@
+-- What the calls on a sheet say to a host that keeps it as numbers (`SheetRecord`), and what they leave of the numbers and the canvas.
+-- Assumes nothing.
+use mathlib.Core.Bool.{Bool, cond, _&&_}
+use mathlib.Core.List.{List, [], _∷_, _++_}
+use Prim.Native.Nat.{ℕ, zero, suc, _+_}
+use lib.IntN.{ℤ, pos, negsuc}
+use lib.ListN.{set, getD, replicate}
+use Rattle.geometry.specs.Limits.{maxLayers}
+use Rattle.refusal.specs.Refusal.{Outcome, unless}
+use Rattle.canvas_size.specs.CanvasSize.{canvasSizeCheck}
+use Rattle.book.specs.Book.{Answer, ifAccepted, Call, add, paint}
+use Rattle.drawing.specs.Drawing.{StyledFigure, styledFigure}
+use Rattle.layers.specs.Layers.{blankLayer}
+use Rattle.sheet.specs.declared.Sheet.{Sheet}
+use Rattle.sheet.specs.Sheet.{sheetAnswer, sheetAfter, canvasAfter}
+use Rattle.sheet_calls.specs.SheetCalls.{answerNumber}
+use Rattle.record_numbers.specs.RecordNumbers.{isFigure, isStyle, figureOf, styleOf}
+use Rattle.sheet_record.specs.SheetRecord.{isSheet, sheetOf, placeAt, layerPut}
+use Rattle.host_answers.specs.HostAnswers.{noRecord, ifRecord}
+
+-- ---- Opening: 6, else the numbers of a sheet without layers.
+
+-- an unused place: an ellipse 0 by 0 at (0, 0) without paint, next row 0
+abbrev pub unusedPlace : List ℤ
+unusedPlace = replicate 13 (pos 0) ++ negsuc 0 ∷ negsuc 0 ∷ replicate 3 (pos 0)
+
+unfoldable pub unusedPlaces : ℕ → List ℤ
+unusedPlaces zero = []
+unusedPlaces (suc n) = unusedPlace ++ unusedPlaces n
+
+abbrev pub openedNumbers : ℕ → ℕ → List ℤ
+openedNumbers W H = pos W ∷ pos H ∷ pos 0 ∷ unusedPlaces maxLayers
+
+abbrev pub openSaid : ℕ → ℕ → Outcome
+openSaid W H = unless (canvasSizeCheck W H) (openedNumbers W H)
+
+-- ---- Adding and painting: what the host is told; of numbers that are no sheet, figure or style, that they are no record.
+abbrev pub toldOf : Bool → Answer → ℕ
+toldOf are answer = cond are (answerNumber answer) noRecord
+
+-- the numbers after a call: as they were, unless it was accepted
+abbrev pub numbersAfter : Bool → Answer → List ℤ → List ℤ → List ℤ
+numbersAfter are answer before after = ifRecord are before (ifAccepted answer after before)
+
+-- the next row of a layer
+abbrev pub nextRow : Sheet → ℕ → ℤ
+nextRow s i = getD (s .layers) i blankLayer .«next_row»
+
+-- the call that adds the figure and the style that the numbers are
+abbrev pub addOf : List ℤ → List ℤ → Call StyledFigure
+addOf figure style = add (styledFigure (figureOf figure) (styleOf style))
+
+abbrev pub areAll : List ℤ → List ℤ → List ℤ → Bool
+areAll sheet figure style = isSheet sheet && (isFigure figure && isStyle style)
+
+-- `Sheet::add`: the layer's numbers as given and its next row in the first unused place, and the new count
+abbrev pub withAdded : List ℤ → List ℤ → List ℤ → Sheet → List ℤ
+withAdded numbers figure style after =
+    set (layerPut numbers (sheetOf numbers .count) figure style (nextRow after (sheetOf numbers .count))) 2 (pos (after .count))
+
+unfoldable pub addTold : List ℤ → List ℤ → List ℤ → ℕ
+addTold sheet figure style = toldOf (areAll sheet figure style) (sheetAnswer (sheetOf sheet) [] (addOf figure style))
+
+unfoldable pub addNumbers : List ℤ → List ℤ → List ℤ → List ℤ
+addNumbers sheet figure style =
+    numbersAfter (areAll sheet figure style) (sheetAnswer (sheetOf sheet) [] (addOf figure style)) sheet
+    (withAdded sheet figure style (sheetAfter (sheetOf sheet) [] (addOf figure style)))
+
+-- `Sheet::paint`: the layer's new next row, and the canvas
+abbrev pub withPainted : List ℤ → ℕ → Sheet → List ℤ
+withPainted numbers i after = set numbers (placeAt i + 17) (nextRow after i)
+
+unfoldable pub paintTold : List ℤ → ℕ → List ℕ → ℕ
+paintTold sheet i canvas = toldOf (isSheet sheet) (sheetAnswer (sheetOf sheet) canvas (paint i))
+
+unfoldable pub paintNumbers : List ℤ → ℕ → List ℕ → List ℤ
+paintNumbers sheet i canvas =
+    numbersAfter (isSheet sheet) (sheetAnswer (sheetOf sheet) canvas (paint i)) sheet
+    (withPainted sheet i (sheetAfter (sheetOf sheet) canvas (paint i)))
+
+unfoldable pub paintCanvas : List ℤ → ℕ → List ℕ → List ℕ
+paintCanvas sheet i canvas = ifRecord (isSheet sheet) canvas (canvasAfter (sheetOf sheet) canvas (paint i))

@@ -1,0 +1,388 @@
+// The calls on a sheet for a host that keeps it as numbers: it is read from them, the call made, and
+// what the call changed is written back. Answers are one number; only where it is 0 has anything been
+// written.
+use canvas_size::CanvasSize;
+use host_answers::DONE;
+use host_answers::NO_RECORD;
+use host_answers::held;
+use host_answers::put_numbers;
+use record_numbers::figure_of;
+use record_numbers::is_figure;
+use record_numbers::is_style;
+use record_numbers::style_of;
+use refusal::Checked;
+use sheet::SheetAnswer;
+use sheet_record::is_sheet;
+use sheet_record::put_layer;
+use sheet_record::sheet_of;
+ghost use mathlib.Core.Path.{_≡_};
+ghost use Rattle.host_answers.specs.HostAnswers.{Tells};
+ghost use Rattle.host_sheets.specs.Sheets.{openSaid, addTold, addNumbers, paintTold, paintNumbers, paintCanvas};
+
+// A sheet without layers, its width and height left 0: 16 unused places, a line each.
+const UNUSED: [i32; 291] = [
+    0,
+    0,
+    0,
+    0,
+    0,
+    0,
+    0,
+    0,
+    0,
+    0,
+    0,
+    0,
+    0,
+    0,
+    0,
+    0,
+    -1,
+    -1,
+    0,
+    0,
+    0,
+    0,
+    0,
+    0,
+    0,
+    0,
+    0,
+    0,
+    0,
+    0,
+    0,
+    0,
+    0,
+    0,
+    -1,
+    -1,
+    0,
+    0,
+    0,
+    0,
+    0,
+    0,
+    0,
+    0,
+    0,
+    0,
+    0,
+    0,
+    0,
+    0,
+    0,
+    0,
+    -1,
+    -1,
+    0,
+    0,
+    0,
+    0,
+    0,
+    0,
+    0,
+    0,
+    0,
+    0,
+    0,
+    0,
+    0,
+    0,
+    0,
+    0,
+    -1,
+    -1,
+    0,
+    0,
+    0,
+    0,
+    0,
+    0,
+    0,
+    0,
+    0,
+    0,
+    0,
+    0,
+    0,
+    0,
+    0,
+    0,
+    -1,
+    -1,
+    0,
+    0,
+    0,
+    0,
+    0,
+    0,
+    0,
+    0,
+    0,
+    0,
+    0,
+    0,
+    0,
+    0,
+    0,
+    0,
+    -1,
+    -1,
+    0,
+    0,
+    0,
+    0,
+    0,
+    0,
+    0,
+    0,
+    0,
+    0,
+    0,
+    0,
+    0,
+    0,
+    0,
+    0,
+    -1,
+    -1,
+    0,
+    0,
+    0,
+    0,
+    0,
+    0,
+    0,
+    0,
+    0,
+    0,
+    0,
+    0,
+    0,
+    0,
+    0,
+    0,
+    -1,
+    -1,
+    0,
+    0,
+    0,
+    0,
+    0,
+    0,
+    0,
+    0,
+    0,
+    0,
+    0,
+    0,
+    0,
+    0,
+    0,
+    0,
+    -1,
+    -1,
+    0,
+    0,
+    0,
+    0,
+    0,
+    0,
+    0,
+    0,
+    0,
+    0,
+    0,
+    0,
+    0,
+    0,
+    0,
+    0,
+    -1,
+    -1,
+    0,
+    0,
+    0,
+    0,
+    0,
+    0,
+    0,
+    0,
+    0,
+    0,
+    0,
+    0,
+    0,
+    0,
+    0,
+    0,
+    -1,
+    -1,
+    0,
+    0,
+    0,
+    0,
+    0,
+    0,
+    0,
+    0,
+    0,
+    0,
+    0,
+    0,
+    0,
+    0,
+    0,
+    0,
+    -1,
+    -1,
+    0,
+    0,
+    0,
+    0,
+    0,
+    0,
+    0,
+    0,
+    0,
+    0,
+    0,
+    0,
+    0,
+    0,
+    0,
+    0,
+    -1,
+    -1,
+    0,
+    0,
+    0,
+    0,
+    0,
+    0,
+    0,
+    0,
+    0,
+    0,
+    0,
+    0,
+    0,
+    0,
+    0,
+    0,
+    -1,
+    -1,
+    0,
+    0,
+    0,
+    0,
+    0,
+    0,
+    0,
+    0,
+    0,
+    0,
+    0,
+    0,
+    0,
+    0,
+    0,
+    0,
+    -1,
+    -1,
+    0,
+    0,
+    0,
+    0,
+    0,
+    0,
+    0,
+    0,
+    0,
+    0,
+    0,
+    0,
+    0,
+    0,
+    0,
+    0,
+    -1,
+    -1,
+    0,
+    0,
+    0,
+];
+
+// The numbers of a sheet without layers. Refused by 6, and by 13 where they have no room.
+pub fn open(width: u32, height: u32, sheet: &mut [i32]) -> u32
+    ensures { λ r. ⌜ Tells (openSaid width height) (now (sheet .entry)) r (now (sheet .exit)) ⌝ }
+{
+    let size = CanvasSize {
+        width: width,
+        height: height,
+    };
+    let Checked::Refused(refusal) = size.check() else {
+        let mut numbers = UNUSED;
+        numbers[0] = held(width);
+        numbers[1] = held(height);
+        return put_numbers(sheet, &numbers);
+    };
+    refusal.number()
+}
+
+// A figure more on top. Refused by 1, 2, 3, 5, 7 and 9.
+pub fn add(sheet: &mut [i32], figure: &[i32], style: &[i32]) -> u32
+    ensures { λ r. ⌜ r ≡ addTold (now (sheet .entry)) (now (figure .entry)) (now (style .entry)) ⌝ }
+    ensures { λ _. ⌜ now (sheet .exit) ≡ addNumbers (now (sheet .entry)) (now (figure .entry)) (now (style .entry)) ⌝ }
+{
+    if !is_sheet(sheet) {
+        return NO_RECORD;
+    }
+    if !is_figure(figure) {
+        return NO_RECORD;
+    }
+    if !is_style(style) {
+        return NO_RECORD;
+    }
+    let before = sheet_of(sheet);
+    let made = before.add(figure_of(figure), style_of(style));
+    let answer = made.answer;
+    match answer {
+        SheetAnswer::Refused(refusal) => refusal.number(),
+        SheetAnswer::Accepted => {
+            let after = made.sheet;
+            let places = after.layers;
+            let place = before.count as usize;
+            let added = places[place];
+            put_layer(sheet, place, figure, style, added.next_row);
+            sheet[2] = signed::from_u32(after.count);
+            DONE
+        }
+    }
+}
+
+// The next row of a layer painted. Refused by 7, 8, 10, 11 and 12.
+pub fn paint(sheet: &mut [i32], layer: u32, canvas: &mut [u8]) -> u32
+    ensures { λ r. ⌜ r ≡ paintTold (now (sheet .entry)) layer (now (canvas .entry)) ⌝ }
+    ensures { λ _. ⌜ now (sheet .exit) ≡ paintNumbers (now (sheet .entry)) layer (now (canvas .entry)) ⌝ }
+    ensures { λ _. ⌜ now (canvas .exit) ≡ paintCanvas (now (sheet .entry)) layer (now (canvas .entry)) ⌝ }
+{
+    if !is_sheet(sheet) {
+        return NO_RECORD;
+    }
+    let made = sheet_of(sheet).paint(layer, canvas);
+    let answer = made.answer;
+    match answer {
+        SheetAnswer::Refused(refusal) => refusal.number(),
+        SheetAnswer::Accepted => {
+            let after = made.sheet;
+            let places = after.layers;
+            let place = layer as usize;
+            let painted = places[place];
+            let row = painted.next_row;
+            sheet[3 + sheet_record::LAYER_LENGTH * place + 17] = row;
+            DONE
+        }
+    }
+}

@@ -1,0 +1,105 @@
+-- `record_numbers::is_style` meets its contract: its tests are the definition's, in order.
+-- Assumes nothing.
+use mathlib.Core.Path.{_≡_, sym, ap, _∙_}
+use mathlib.Core.Bool.{true, false}
+use borrow.Author.Tests.{not-true, not-false, eq-eqb, ne-eqb}
+use lib.Dec.{eqb}
+use lib.IntN.{ℤ, pos, negsuc}
+use lib.ListN.{length}
+use lib.Signed.{leZ, ltZ}
+use mir.Syntax.{w32}
+use mir.Val.{toZ, ofZ}
+use Rattle.record_numbers.proofs.Walks.{read-back}
+use Rattle.record_numbers.specs.RecordNumbers.{numberAt, within, isStyle}
+use native.Mathlib.Omega.{arith}
+use Rattle.signed.proofs.Laws.{int}
+use borrow.Author.Needs.{needs}
+use Rattle.record_numbers.proofs.is_style.Statement.{statement}
+use Rattle.record_numbers.proofs.is_style.Tie as tie
+
+-- the tests made are the definition's
+long : (c : tie.Else1) → eqb (length (c .before .args .numbers .now)) 4 ≡ true
+long c = eq-eqb (length (c .before .args .numbers .now)) 4 (c .if1 .left)
+
+stroke : (c : tie.After-is-within) → within (negsuc 0) (pos 255) (numberAt (c .before .before .before .args .numbers .now) 0) ≡ c .is-within .result
+stroke c = sym (c .is-within .ensures ∙ ap (within (negsuc 0) (pos 255)) (read-back (c .before .before .before .args .numbers .now) 0 (c .before .is-within-arg .given)))
+
+fill : (c : tie.After-is-within2) → within (negsuc 0) (pos 255) (numberAt (c .before .before .before .before .before .before .args .numbers .now) 1) ≡ c .is-within2 .result
+fill c = sym (c .is-within2 .ensures ∙ ap (within (negsuc 0) (pos 255)) (read-back (c .before .before .before .before .before .before .args .numbers .now) 1 (c .before .is-within-arg2 .given)))
+
+-- the stroke width
+abbrev width : tie.After-if42 → ℤ
+width c = numberAt (c .before .before .before .before .before .before .before .before .args .numbers .now) 2
+
+by-sign : (c : tie.After-if42)
+    → (ltZ (toZ w32 (ofZ w32 (width c))) (pos 0) ≡ true → leZ (pos 0) (width c) ≡ false)
+    × (ltZ (toZ w32 (ofZ w32 (width c))) (pos 0) ≡ false → leZ (pos 0) (width c) ≡ true)
+by-sign c = rw (read-back (c .before .before .before .before .before .before .before .before .args .numbers .now) 2 (c .if42 .given)) (λ e. omega (arith, int), λ e. omega (arith, int))
+
+alignment : (c : tie.After-is-within3) → within (pos 0) (pos 2) (numberAt (c .before .before .before .before .before .before .before .before .before .before .before .args .numbers .now) 3) ≡ c .is-within3 .result
+alignment c = sym (c .is-within3 .ensures ∙ ap (within (pos 0) (pos 2)) (read-back (c .before .before .before .before .before .before .before .before .before .before .before .args .numbers .now) 3 (c .before .is-within-arg3 .given)))
+
+-- what holds after the first tests
+after-stroke : (c : tie.Else2) → within (negsuc 0) (pos 255) (numberAt (c .before .before .before .before .args .numbers .now) 0) ≡ true
+after-stroke c = stroke (c .before) ∙ not-false _ (c .if2 .left)
+
+after-fill : (c : tie.Else3) → within (negsuc 0) (pos 255) (numberAt (c .before .before .before .before .before .before .before .args .numbers .now) 1) ≡ true
+after-fill c = fill (c .before) ∙ not-false _ (c .if3 .left)
+
+returns : tie.Need-returns
+unfolding isStyle
+returns c = rw (ne-eqb (length (c .before .args .numbers .now)) 4 (c .if1 .taken))
+
+shared-slice-copy-out-is-within : tie.Need-shared-slice-copy-out-is-within
+shared-slice-copy-out-is-within c = search needs
+
+is-within-requires : tie.Need-is-within-requires
+is-within-requires c κs = search needs
+
+returns-2 : tie.Need-returns-2
+unfolding isStyle
+returns-2 c = rw (long (c .before .before .before), stroke (c .before) ∙ not-true _ (c .if2 .taken))
+
+shared-slice-copy-out-is-within-2 : tie.Need-shared-slice-copy-out-is-within-2
+shared-slice-copy-out-is-within-2 c = search needs
+
+is-within-requires-2 : tie.Need-is-within-requires-2
+is-within-requires-2 c κs = search needs
+
+returns-3 : tie.Need-returns-3
+unfolding isStyle
+returns-3 c = rw (long (c .before .before .before .before .before .before), after-stroke (c .before .before .before), fill (c .before) ∙ not-true _ (c .if3 .taken))
+
+shared-slice-copy-out-if4 : tie.Need-shared-slice-copy-out-if4
+shared-slice-copy-out-if4 c = search needs
+
+returns-4 : tie.Need-returns-4
+unfolding isStyle
+returns-4 c = rw (long (c .before .before .before .before .before .before .before .before), after-stroke (c .before .before .before .before .before), after-fill (c .before .before), by-sign (c .before) .0 (c .if4 .taken))
+
+shared-slice-copy-out-is-within-3 : tie.Need-shared-slice-copy-out-is-within-3
+shared-slice-copy-out-is-within-3 c = search needs
+
+is-within-requires-3 : tie.Need-is-within-requires-3
+is-within-requires-3 c κs = search needs
+
+returns-5 : tie.Need-returns-5
+unfolding isStyle
+returns-5 c = rw (long (c .before .before .before .before .before .before .before .before .before .before), after-stroke (c .before .before .before .before .before .before .before), after-fill (c .before .before .before .before), by-sign (c .before .before .before) .1 (c .before .before .if4 .left), alignment c)
+
+pub is-style-spec : {M : Type 1} → statement M
+is-style-spec =
+    tie.close
+    (tie.spec
+    returns
+    shared-slice-copy-out-is-within
+    is-within-requires
+    returns-2
+    shared-slice-copy-out-is-within-2
+    is-within-requires-2
+    returns-3
+    shared-slice-copy-out-if4
+    returns-4
+    shared-slice-copy-out-is-within-3
+    is-within-requires-3
+    returns-5)

@@ -1,0 +1,3 @@
+-- The part of a list that is lent for a place.
+-- Assumes nothing.
+pub mod Parts

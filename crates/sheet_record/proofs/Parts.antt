@@ -1,0 +1,49 @@
+-- The part of a list that is lent for a place, and what all places make.
+-- Assumes nothing.
+use mathlib.Core.Path.{_≡_, refl, ap}
+use mathlib.Core.Bool.{true}
+use mathlib.Core.List.{List}
+use Prim.Native.Nat.{ℕ, _+_, _*_, _-_, _<_, _≤_}
+use native.Mathlib.Omega.{arith}
+use native.Mathlib.Numerals.{add-one}
+use borrow.Author.Tests.{eqb-true}
+use lib.IntN.{ℤ}
+use lib.ListN.{length, take, drop, set, replicate, length-take, length-drop}
+use lib.Seq.{sets}
+use Rattle.record_numbers.specs.RecordNumbers.{listFrom}
+use Rattle.record_numbers.proofs.Records.{first-true}
+use Rattle.record_numbers.proofs.Walks.{list-from-here, list-from-past}
+use Rattle.layers.specs.declared.Layer.{Layer}
+use Rattle.sheet_record.specs.SheetRecord.{layerLength, sheetLength, placeNumbers, isSheet, sheetOf}
+
+module _ (numbers : List ℤ) (j : ℕ) where
+  pub place-part : take (3 + 18 * j + 18 - (3 + 18 * j)) (drop (3 + 18 * j) numbers) ≡ placeNumbers numbers j
+  place-part =
+      let long : 3 + 18 * j + 18 - (3 + 18 * j) ≡ 18 = omega arith in
+      ap (λ (n : ℕ). take n (drop (3 + 18 * j) numbers)) long
+
+  pub place-part-length : length numbers ≡ 291 → j < 16
+      → length (take (3 + 18 * j + 18 - (3 + 18 * j)) (drop (3 + 18 * j) numbers)) ≡ layerLength
+  place-part-length long within = simp (length-take, length-drop) (omega arith)
+
+-- ---- 16 places, put one after another: those that are left make the whole
+module _ (f : ℕ → Layer) where
+  pub put-place : (places : List Layer) (j : ℕ) → j < 16
+      → sets places j (listFrom f j (16 - j)) ≡ sets (set places j (f j)) (j + 1) (listFrom f (j + 1) (16 - (j + 1)))
+  put-place places j within = rw (list-from-here f 16 j within, add-one j)
+
+  pub all-put : (places : List Layer) (j : ℕ) → 16 ≤ j → sets places j (listFrom f j (16 - j)) ≡ places
+  all-put places j past = rw (list-from-past f 16 j past)
+
+  pub whole : (blank : Layer) → sets (replicate 16 blank) 0 (listFrom f 0 16) ≡ listFrom f 0 16
+  unfolding listFrom
+  whole blank = refl
+
+-- ---- numbers that are a sheet have its length, and what they are has 16 places
+pub sheet-length : (numbers : List ℤ) → isSheet numbers ≡ true → length numbers ≡ sheetLength
+unfolding isSheet
+sheet-length numbers is = eqb-true (length numbers) sheetLength (first-true _ _ is)
+
+pub sixteen : (numbers : List ℤ) → length (sheetOf numbers .layers) ≡ 16
+unfolding sheetOf listFrom
+sixteen numbers = refl

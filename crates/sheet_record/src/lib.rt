@@ -1,0 +1,99 @@
+// A sheet written as numbers, as a host keeps it in its own memory (specs/SheetRecord.antt lists the
+// places).
+use host_answers::put_from;
+use layers::Layer;
+use record_numbers::figure_of;
+use record_numbers::is_figure;
+use record_numbers::is_style;
+use record_numbers::none_negative;
+use record_numbers::style_of;
+use sheet::Sheet;
+ghost use mathlib.Core.Path.{_≡_};
+ghost use Prim.Native.Nat.{_<_};
+ghost use lib.ListN.{length};
+ghost use Rattle.record_numbers.specs.RecordNumbers.{figureLength, styleLength};
+ghost use Rattle.sheet_record.specs.SheetRecord.{layerLength, sheetLength, isLayer, isSheet, layerOf, sheetOf, layerPut};
+
+// How many numbers a layer has, and a sheet.
+pub const LAYER_LENGTH: usize = 18;
+
+pub const SHEET_LENGTH: usize = 291;
+
+// Whether the numbers are a layer's.
+fn is_layer(numbers: &[i32]) -> bool
+    requires { ⌜ length (now numbers) ≡ layerLength ⌝ }
+    ensures { λ r. ⌜ r ≡ isLayer (now (numbers .entry)) ⌝ }
+{
+    if !is_figure(&numbers[0..13]) {
+        return false;
+    }
+    is_style(&numbers[13..17])
+}
+
+// Whether the numbers are a sheet's.
+pub fn is_sheet(numbers: &[i32]) -> bool
+    ensures { λ r. ⌜ r ≡ isSheet (now (numbers .entry)) ⌝ }
+{
+    if numbers.len() != SHEET_LENGTH {
+        return false;
+    }
+    if !none_negative(&numbers[0..3]) {
+        return false;
+    }
+    let mut j: usize = 0;
+    while j < 16 {
+        let at = 3 + LAYER_LENGTH * j;
+        let end = at + LAYER_LENGTH;
+        if !is_layer(&numbers[at..end]) {
+            return false;
+        }
+        j += 1;
+    }
+    true
+}
+
+// The layer that the numbers are.
+fn layer_of(numbers: &[i32]) -> Layer
+    requires { ⌜ length (now numbers) ≡ layerLength ⌝ }
+    ensures { λ r. ⌜ r ≡ layerOf (now (numbers .entry)) ⌝ }
+{
+    Layer {
+        figure: figure_of(&numbers[0..13]),
+        style: style_of(&numbers[13..17]),
+        next_row: numbers[17],
+    }
+}
+
+// The sheet that the numbers are.
+pub fn sheet_of(numbers: &[i32]) -> Sheet
+    requires { ⌜ length (now numbers) ≡ sheetLength ⌝ }
+    ensures { λ r. ⌜ r ≡ sheetOf (now (numbers .entry)) ⌝ }
+{
+    let blank = Layer::blank();
+    let mut places = [blank; 16];
+    let mut j: usize = 0;
+    while j < 16 {
+        let at = 3 + LAYER_LENGTH * j;
+        let end = at + LAYER_LENGTH;
+        places[j] = layer_of(&numbers[at..end]);
+        j += 1;
+    }
+    Sheet {
+        width: signed::floor0(numbers[0]),
+        height: signed::floor0(numbers[1]),
+        count: signed::floor0(numbers[2]),
+        layers: places,
+    }
+}
+
+// Puts a layer's numbers in a place.
+pub fn put_layer(numbers: &mut [i32], place: usize, figure: &[i32], style: &[i32], row: i32)
+    requires { ⌜ (length (now numbers) ≡ sheetLength) × (place < 16) ⌝ }
+    requires { ⌜ (length (now figure) ≡ figureLength) × (length (now style) ≡ styleLength) ⌝ }
+    ensures { λ _. ⌜ now (numbers .exit) ≡ layerPut (now (numbers .entry)) place (now (figure .entry)) (now (style .entry)) row ⌝ }
+{
+    let at = 3 + LAYER_LENGTH * place;
+    put_from(numbers, at, figure);
+    put_from(numbers, at + 13, style);
+    numbers[at + 17] = row;
+}
