@@ -7,12 +7,14 @@
 #   SOURCE  the folder that holds src/primitives; else $EG_SOURCE; else ../shared/docs/src, taken
 #           from the root of the repository (the folder above this one)
 #   BUILD   where to build; else $ORACLE_BUILD; else the folder `build` beside this file
+#   LIBRARY=FILE         the library that hosts link (libexports.a), for `oracle scale`
 #   OVERFLOW_CHECKS=off  for a wrapping build, for speed measurements only: it is NO oracle
 set -eu
 here=$(cd "$(dirname "$0")" && pwd)
 source=${1:-${EG_SOURCE:-$here/../../shared/docs/src}}
 build=${2:-${ORACLE_BUILD:-$here/build}}
 checks=${OVERFLOW_CHECKS:-on}
+library=${LIBRARY:-}
 
 [ -f "$source/src/primitives/mod.rs" ] || {
     echo "build.sh: no src/primitives/mod.rs under '$source' (give the folder as first argument)" >&2
@@ -79,10 +81,24 @@ mod findings;
 mod compare;
 #[path = "$here/query.rs"]
 mod query;
+#[cfg(library)]
+#[path = "$here/../hosts/wunqaber.rs"]
+mod wunqaber;
+#[cfg(library)]
+#[path = "$here/numbers.rs"]
+mod numbers;
+#[cfg(library)]
+#[path = "$here/held.rs"]
+mod held;
+#[cfg(library)]
+#[path = "$here/scale.rs"]
+mod scale;
 fn main() {
     query::main()
 }
 END
+set --
+[ -z "$library" ] || set -- --cfg library -C "link-arg=$(cd "$(dirname "$library")" && pwd)/$(basename "$library")"
 
 flags="--edition 2021 -C opt-level=3 -C overflow-checks=$checks -C codegen-units=1"
 rustc $flags --crate-type rlib --crate-name az --out-dir "$build" "$here/stand_in/az.rs"
@@ -90,7 +106,7 @@ rustc $flags --crate-type rlib --crate-name embedded_graphics_core --out-dir "$b
     "$here/stand_in/core.rs"
 # Lints about names that the original offers and nobody calls here are switched off.
 rustc $flags -A dead_code -A unused_imports -A unexpected_cfgs -A private_interfaces \
-    --crate-type bin --crate-name oracle \
+    --crate-type bin --crate-name oracle "$@" \
     --extern az="$build/libaz.rlib" \
     --extern embedded_graphics_core="$build/libembedded_graphics_core.rlib" \
     -o "$build/oracle" "$build/oracle.rs"

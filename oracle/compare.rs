@@ -13,9 +13,9 @@ use std::{collections::BTreeMap, fmt::Debug, time::Instant};
 // ---- counting ----
 
 #[derive(Default)]
-struct Tally {
+pub struct Tally {
     equal: u64,
-    panics: u64,
+    pub panics: u64,
     different: u64,
 }
 
@@ -33,8 +33,8 @@ struct Forecast {
 }
 
 #[derive(Default)]
-struct Report {
-    tallies: BTreeMap<&'static str, Tally>,
+pub struct Report {
+    pub tallies: BTreeMap<&'static str, Tally>,
     /// per query, figure kind and place: how often, and the smallest input
     panics: BTreeMap<(&'static str, &'static str, String), Class>,
     /// per query: the smallest inputs with different answers
@@ -73,7 +73,7 @@ impl Report {
         list.truncate(5);
     }
 
-    fn panicked(&mut self, query: &'static str, f: &Figure, extra: i64, place: String, text: impl Fn() -> String) {
+    pub fn panicked(&mut self, query: &'static str, f: &Figure, extra: i64, place: String, text: impl Fn() -> String) {
         self.tallies.entry(query).or_default().panics += 1;
         let size = size_of(f) + 64 * extra;
         let class = self.panics.entry((query, name(f), place)).or_insert(Class {
@@ -328,12 +328,7 @@ impl Report {
                 println!("DIFFERENT {query}: {text}");
             }
         }
-        println!("panics by query, figure and place, with the smallest input met and what it shrinks to:");
-        for ((query, kind, place), class) in &self.panics {
-            println!("  {query}, {kind}, {place}: {}", class.count);
-            println!("    met {}", class.text);
-            println!("    shrunk {}", shrink(&class.text, place));
-        }
+        self.print_panics();
         println!("sentences of rust-findings.md held against the original:");
         for (what, f) in &self.forecasts {
             println!("  {what}: {} as said, {} not", f.right, f.wrong);
@@ -348,6 +343,15 @@ impl Report {
             self.draw_smallest.as_ref().map_or("none", |(_, t)| t)
         );
         sum.different == 0
+    }
+
+    pub fn print_panics(&self) {
+        println!("panics by query, figure and place, with the smallest input met and what it shrinks to:");
+        for ((query, kind, place), class) in &self.panics {
+            println!("  {query}, {kind}, {place}: {}", class.count);
+            println!("    met {}", class.text);
+            println!("    shrunk {}", shrink(&class.text, place));
+        }
     }
 }
 
@@ -415,7 +419,7 @@ fn foretold_contains(f: &Figure, a: &Area, px: i64, py: i64) -> bool {
 
 // ---- random numbers ----
 
-struct Rng(u64);
+pub struct Rng(pub u64);
 
 impl Rng {
     fn next(&mut self) -> u64 {
@@ -428,16 +432,16 @@ impl Rng {
     }
 
     /// a..=b
-    fn within(&mut self, a: i64, b: i64) -> i64 {
+    pub fn within(&mut self, a: i64, b: i64) -> i64 {
         a + (self.next() % (b - a + 1) as u64) as i64
     }
 
-    fn of(&mut self, list: &[i64]) -> i64 {
+    pub fn of(&mut self, list: &[i64]) -> i64 {
         list[self.within(0, list.len() as i64 - 1) as usize]
     }
 
     /// A side, biased to small ones and to the limit.
-    fn side(&mut self) -> i64 {
+    pub fn side(&mut self) -> i64 {
         match self.within(0, 9) {
             0 | 1 => self.within(0, 16),
             2 | 3 | 4 => self.within(0, 100),
@@ -473,7 +477,7 @@ impl Rng {
         r.clamp(0, 1024)
     }
 
-    fn figure(&mut self, boxes_of_ten: i64) -> Figure {
+    pub fn figure(&mut self, boxes_of_ten: i64) -> Figure {
         let (x, y) = (self.place(), self.place());
         let (mut w, mut h) = (self.side(), self.side());
         if self.within(0, 9) >= boxes_of_ten {
@@ -521,11 +525,11 @@ impl Rng {
         Figure { kind: Kind::Crate, x, y, w, h, radii }
     }
 
-    fn colour(&mut self) -> Option<u8> {
+    pub fn colour(&mut self) -> Option<u8> {
         (self.within(0, 3) > 0).then(|| self.within(0, 255) as u8)
     }
 
-    fn style(&mut self) -> Style {
+    pub fn style(&mut self) -> Style {
         let width = match self.within(0, 5) {
             0 => 0,
             1 | 2 => self.within(0, 4),
@@ -535,19 +539,137 @@ impl Rng {
         };
         Style { stroke: self.colour(), fill: self.colour(), width, align: self.within(0, 2) }
     }
+
+    /// A style with a stroke up to a small width.
+    pub fn small_style(&mut self, widest: i64) -> Style {
+        Style { stroke: self.colour(), fill: self.colour(), width: self.within(0, widest), align: self.within(0, 2) }
+    }
+
+    /// Sides 0..12 and all eight radii 0..6.
+    pub fn small_box(&mut self) -> Figure {
+        let radii = [(); 4].map(|_| (self.within(0, 6), self.within(0, 6)));
+        crate_box(self.within(-8, 8), self.within(-8, 8), self.within(0, 12), self.within(0, 12), radii)
+    }
+
+    /// A narrow box, upright or lying by n, whose corners still overlap after the crate's rule (case f).
+    pub fn narrow_box(&mut self, n: u64) -> Figure {
+        let (w, h) = (self.within(1, 16), self.within(8, 90));
+        let same = (self.within(0, w), self.within(h / 3, h));
+        let mut radii = [(); 4].map(|_| match n % 3 {
+            0 => same,
+            _ => (self.within(0, w + 2), self.within(0, h + 9)),
+        });
+        let (mut w, mut h) = (w, h);
+        if n % 2 == 0 {
+            core::mem::swap(&mut w, &mut h);
+            radii = radii.map(|(a, b)| (b, a));
+        }
+        crate_box(self.within(-9, 9), self.within(-9, 9), w, h, radii)
+    }
+
+    /// A coordinate that may be asked: near an end of the box, near the figure, and anywhere.
+    pub fn near(&mut self, at: i64, side: i64) -> i64 {
+        let v = match self.within(0, 4) {
+            0 => at + self.within(-3, 3),
+            1 => at + side + self.within(-3, 3),
+            2 | 3 => at + self.within(0, side.max(1)),
+            _ => self.within(-8192, 8192),
+        };
+        v.clamp(-8192, 8192)
+    }
+
+    /// A list of add and paint calls on a small canvas; every third has W3C boxes, by n.
+    pub fn script(&mut self, n: u64) -> Script {
+        let (w, h) = (self.within(1, 30), self.within(1, 30));
+        let with_w3c = n % 3 == 0;
+        let lent = first_lent(w, h, Some(self.within(0, 255)));
+        let mut calls = Vec::new();
+        let mut answers = Vec::new();
+        let mut book = Book::open();
+        let adds = if n % 10 == 0 { 20 } else { self.within(1, 6) };
+        let total = self.within(0, 160);
+        let mut added = 0;
+        for _ in 0..total {
+            let call = if added < adds && self.within(0, 3) == 0 {
+                added += 1;
+                let (f, s) = self.layer(with_w3c);
+                Call::Add(f, s)
+            } else {
+                Call::Paint(match self.within(0, 3) {
+                    0 => self.within(0, 16) as usize,
+                    1 => book.earliest().unwrap_or(0),
+                    _ => self.within(0, added.max(1)) as usize,
+                })
+            };
+            answers.push(book.call(&call));
+            calls.push(call);
+        }
+        Script { w, h, with_w3c, lent, calls, answers, book }
+    }
+
+    /// A small figure to be added. Some are to be refused, some for more than one reason.
+    pub fn layer(&mut self, with_w3c: bool) -> (Figure, Style) {
+        let mut f = Figure {
+            kind: match self.within(0, 2) {
+                0 => Kind::Ellipse,
+                1 if with_w3c => Kind::W3c,
+                _ => Kind::Crate,
+            },
+            x: self.within(-10, 30),
+            y: self.within(-10, 30),
+            w: self.within(0, 14),
+            h: self.within(0, 14),
+            radii: [(); 4].map(|_| (self.within(0, 8), self.within(0, 8))),
+        };
+        let mut s = self.small_style(4);
+        for _ in 0..2 {
+            match self.within(0, 40) {
+                0 => f.w = 1025,
+                1 => f.radii[2].1 = 1025,
+                2 => f.x = 4097,
+                3 => f.y = -4097,
+                4 => s.width = 257,
+                _ => {}
+            }
+        }
+        (f, s)
+    }
+}
+
+/// A list of calls with the book's answers to them.
+pub struct Script {
+    pub w: i64,
+    pub h: i64,
+    pub with_w3c: bool,
+    pub lent: Vec<u8>,
+    pub calls: Vec<Call>,
+    pub answers: Vec<u32>,
+    pub book: Book,
+}
+
+impl Script {
+    /// "While any figure has rows left, a paint call for the earliest such one is accepted": the call
+    /// for the earliest, noted, and its answer.
+    pub fn paint_earliest(&mut self) -> Option<u32> {
+        let call = Call::Paint(self.book.earliest()?);
+        let answer = self.book.call(&call);
+        self.answers.push(answer);
+        self.calls.push(call);
+        Some(answer)
+    }
 }
 
 // ---- the parts ----
 
-fn ellipse(x: i64, y: i64, w: i64, h: i64) -> Figure {
+pub fn ellipse(x: i64, y: i64, w: i64, h: i64) -> Figure {
     Figure { kind: Kind::Ellipse, x, y, w, h, radii: [(0, 0); 4] }
 }
 
-fn crate_box(x: i64, y: i64, w: i64, h: i64, radii: [(i64, i64); 4]) -> Figure {
+pub fn crate_box(x: i64, y: i64, w: i64, h: i64, radii: [(i64, i64); 4]) -> Figure {
     Figure { kind: Kind::Crate, x, y, w, h, radii }
 }
 
-fn styles() -> Vec<Style> {
+pub fn styles() -> Vec<Style> {
     let mut list = Vec::new();
     for width in 0..=4 {
         for align in 0..=2 {
@@ -558,7 +680,7 @@ fn styles() -> Vec<Style> {
 }
 
 /// Both paints there or absent.
-fn painted(s: &Style) -> [Style; 4] {
+pub fn painted(s: &Style) -> [Style; 4] {
     [(None, None), (Some(1), None), (None, Some(2)), (Some(1), Some(2))].map(|(stroke, fill)| Style { stroke, fill, ..*s })
 }
 
@@ -580,13 +702,12 @@ fn small_figure(r: &mut Report, f: &Figure) {
     }
 }
 
-/// Every ellipse with sides 0..12, at four places, every offset −8..8, every style.
-fn small_ellipses(r: &mut Report) {
+/// Every ellipse with sides 0..12, at four places.
+pub fn small_ellipses(mut each: impl FnMut(&Figure)) {
     for w in 0..=12 {
         for h in 0..=12 {
             for (x, y) in PLACES {
-                let f = ellipse(x, y, w, h);
-                small_figure(r, &f);
+                each(&ellipse(x, y, w, h));
             }
         }
     }
@@ -638,16 +759,14 @@ fn all_corners(r: &mut Report) {
     println!("top-left corners whose first row fails: {failing} of 1050625, smallest a + b: {least:?}");
 }
 
-/// Boxes with sides 0..12 and equal corners 0..6 by 0..6: every style, two places, paints too.
-fn small_equal_boxes(r: &mut Report) {
+/// Every box with sides 0..12 and equal corners 0..6 by 0..6, at two places.
+pub fn small_equal_boxes(mut each: impl FnMut(&Figure)) {
     for w in 0..=12 {
         for h in 0..=12 {
             for a in 0..=6 {
                 for b in 0..=6 {
                     for (x, y) in &PLACES[1..3] {
-                        let f = crate_box(*x, *y, w, h, [(a, b); 4]);
-                        r.confine(&f);
-                        small_figure(r, &f);
+                        each(&crate_box(*x, *y, w, h, [(a, b); 4]));
                     }
                 }
             }
@@ -655,10 +774,9 @@ fn small_equal_boxes(r: &mut Report) {
     }
 }
 
-/// Boxes with sides 0..12: any two corners 0..6 by 0..6 each, the other two sharp; one of the 15
-/// styles each in turn.
-fn small_pairs(r: &mut Report) {
-    let styles = styles();
+/// Every box with sides 0..12 and any two corners 0..6 by 0..6 each, the other two sharp; with the
+/// number of the box.
+pub fn small_pairs(mut each: impl FnMut(usize, &Figure)) {
     let mut at = 0;
     for w in 0..=12 {
         for h in 0..=12 {
@@ -669,22 +787,15 @@ fn small_pairs(r: &mut Report) {
                     radii[j] = (n / 49 % 7, n / 343);
                     at += 1;
                     let (x, y) = PLACES[at % 4];
-                    let f = crate_box(x, y, w, h, radii);
-                    r.rows(&f);
-                    r.confine(&f);
-                    r.styled(&f, &styles[at / 4 % 15]);
-                    if at % 8 == 0 {
-                        r.points(&f);
-                        r.contains_all(&f, 1);
-                    }
+                    each(at, &crate_box(x, y, w, h, radii));
                 }
             }
         }
     }
 }
 
-/// Boxes with sides 0..4 and all eight radii 0..2: everything, every style.
-fn tiny_boxes(r: &mut Report) {
+/// Every box with sides 0..4 and all eight radii 0..2.
+pub fn tiny_boxes(mut each: impl FnMut(&Figure)) {
     for w in 0..=4 {
         for h in 0..=4 {
             for n in 0..6561 {
@@ -695,17 +806,7 @@ fn tiny_boxes(r: &mut Report) {
                     d
                 };
                 let radii = [(); 4].map(|_| (digit(), digit()));
-                let f = crate_box(-2, 1, w, h, radii);
-                r.rows(&f);
-                r.points(&f);
-                r.confine(&f);
-                r.contains_all(&f, 1);
-                for k in [-3, -1, 1, 2] {
-                    r.offset(&f, k);
-                }
-                for s in styles() {
-                    r.styled(&f, &s);
-                }
+                each(&crate_box(-2, 1, w, h, radii));
             }
         }
     }
@@ -714,9 +815,8 @@ fn tiny_boxes(r: &mut Report) {
 /// Sides 0..12 and all eight radii 0..6 at random, with a random small style.
 fn random_small(r: &mut Report, rng: &mut Rng, count: u64) {
     for n in 0..count {
-        let radii = [(); 4].map(|_| (rng.within(0, 6), rng.within(0, 6)));
-        let f = crate_box(rng.within(-8, 8), rng.within(-8, 8), rng.within(0, 12), rng.within(0, 12), radii);
-        let s = Style { stroke: rng.colour(), fill: rng.colour(), width: rng.within(0, 4), align: rng.within(0, 2) };
+        let f = rng.small_box();
+        let s = rng.small_style(4);
         r.rows(&f);
         r.confine(&f);
         r.styled(&f, &s);
@@ -750,17 +850,7 @@ fn random_large(r: &mut Report, rng: &mut Rng, count: u64) {
         }
         r.styled(&f, &s);
         for _ in 0..24 {
-            // near an end of the box, near the figure, and anywhere that may be asked
-            let near = |rng: &mut Rng, at: i64, side: i64| {
-                let v = match rng.within(0, 4) {
-                    0 => at + rng.within(-3, 3),
-                    1 => at + side + rng.within(-3, 3),
-                    2 | 3 => at + rng.within(0, side.max(1)),
-                    _ => rng.within(-8192, 8192),
-                };
-                v.clamp(-8192, 8192)
-            };
-            let (px, py) = (near(rng, f.x, f.w), near(rng, f.y, f.h));
+            let (px, py) = (rng.near(f.x, f.w), rng.near(f.y, f.h));
             r.contains(&f, &a, px, py);
         }
         if f.kind == Kind::Crate && n % 2 == 0 {
@@ -783,19 +873,8 @@ fn random_large(r: &mut Report, rng: &mut Rng, count: u64) {
 /// rows that are reversed or empty, points that stop, corners that decide before others.
 fn random_narrow(r: &mut Report, rng: &mut Rng, count: u64) {
     for n in 0..count {
-        let (w, h) = (rng.within(1, 16), rng.within(8, 90));
-        let same = (rng.within(0, w), rng.within(h / 3, h));
-        let mut radii = [(); 4].map(|_| match n % 3 {
-            0 => same,
-            _ => (rng.within(0, w + 2), rng.within(0, h + 9)),
-        });
-        let (mut w, mut h) = (w, h);
-        if n % 2 == 0 {
-            core::mem::swap(&mut w, &mut h);
-            radii = radii.map(|(a, b)| (b, a));
-        }
-        let f = crate_box(rng.within(-9, 9), rng.within(-9, 9), w, h, radii);
-        let s = Style { stroke: rng.colour(), fill: rng.colour(), width: rng.within(0, 5), align: rng.within(0, 2) };
+        let f = rng.narrow_box(n);
+        let s = rng.small_style(5);
         r.rows(&f);
         r.points(&f);
         r.confine(&f);
@@ -826,57 +905,14 @@ fn scripts(r: &mut Report, rng: &mut Rng, count: u64) {
     let mut accepted = 0u64;
     let mut refused: BTreeMap<u32, u64> = BTreeMap::new();
     for n in 0..count {
-        let (w, h) = (rng.within(1, 30), rng.within(1, 30));
-        let with_w3c = n % 3 == 0;
-        let lent = first_lent(w, h, Some(rng.within(0, 255)));
-        let mut calls = Vec::new();
-        let mut book = Book::open();
-        let adds = if n % 10 == 0 { 20 } else { rng.within(1, 6) };
-        let total = rng.within(0, 160);
-        let mut added = 0;
-        for _ in 0..total {
-            let call = if added < adds && rng.within(0, 3) == 0 {
-                added += 1;
-                let mut f = Figure {
-                    kind: match rng.within(0, 2) {
-                        0 => Kind::Ellipse,
-                        1 if with_w3c => Kind::W3c,
-                        _ => Kind::Crate,
-                    },
-                    x: rng.within(-10, 30),
-                    y: rng.within(-10, 30),
-                    w: rng.within(0, 14),
-                    h: rng.within(0, 14),
-                    radii: [(); 4].map(|_| (rng.within(0, 8), rng.within(0, 8))),
-                };
-                let mut s = Style { stroke: rng.colour(), fill: rng.colour(), width: rng.within(0, 4), align: rng.within(0, 2) };
-                // some are to be refused, some for more than one reason
-                for _ in 0..2 {
-                    match rng.within(0, 40) {
-                        0 => f.w = 1025,
-                        1 => f.radii[2].1 = 1025,
-                        2 => f.x = 4097,
-                        3 => f.y = -4097,
-                        4 => s.width = 257,
-                        _ => {}
-                    }
-                }
-                Call::Add(f, s)
-            } else {
-                Call::Paint(match rng.within(0, 3) {
-                    0 => rng.within(0, 16) as usize,
-                    1 => book.earliest().unwrap_or(0),
-                    _ => rng.within(0, added.max(1)) as usize,
-                })
-            };
-            let answer = book.call(&call);
-            if answer == 0 {
-                accepted += 1;
-            } else {
-                *refused.entry(answer).or_default() += 1;
+        let mut script = rng.script(n);
+        for answer in &script.answers {
+            match answer {
+                0 => accepted += 1,
+                _ => *refused.entry(*answer).or_default() += 1,
             }
-            calls.push(call);
         }
+        let (w, h, with_w3c, lent) = (script.w, script.h, script.with_w3c, script.lent.clone());
         let compared = |r: &mut Report, calls: &[Call], done: bool| match reference::script(w, h, &lent, calls) {
             Err(what) => r.differs("script", &none, calls.len() as i64, format!("{what}: {calls:?}")),
             Ok((answers, canvas)) => {
@@ -904,18 +940,14 @@ fn scripts(r: &mut Report, rng: &mut Rng, count: u64) {
                 }
             }
         };
-        compared(r, &calls, false);
-        // "While any figure has rows left, a paint call for the earliest such one is accepted."
-        while let Some(i) = book.earliest() {
-            let call = Call::Paint(i);
-            let answer = book.call(&call);
+        compared(r, &script.calls, false);
+        while let Some(answer) = script.paint_earliest() {
             if answer != 0 {
-                r.differs("script", &none, 0, format!("the earliest, {i}, gets {answer}: {calls:?}"));
+                r.differs("script", &none, 0, format!("the earliest gets {answer}: {:?}", script.calls));
                 break;
             }
-            calls.push(call);
         }
-        compared(r, &calls, true);
+        compared(r, &script.calls, true);
     }
     println!("script calls before the finish: {accepted} accepted, refused by number {refused:?}");
 }
@@ -1004,14 +1036,43 @@ pub fn run(seed: u64, effort: u64) -> bool {
         println!("[{:6.1} s] {name}: {:.1} s", start.elapsed().as_secs_f64(), at.elapsed().as_secs_f64());
     };
     part("fixed cases", &mut fixed);
-    part("ellipses, sides 0..12, all styles", &mut small_ellipses);
+    part("ellipses, sides 0..12, all styles", &mut |r| small_ellipses(|f| small_figure(r, f)));
     if effort > 0 {
         part("first row of all ellipse sizes", &mut all_ellipse_sizes);
         part("first row of all top-left corners", &mut all_corners);
     }
-    part("boxes, sides 0..12, equal corners 0..6, all styles", &mut small_equal_boxes);
-    part("boxes, sides 0..12, any two corners 0..6", &mut small_pairs);
-    part("boxes, sides 0..4, all radii 0..2, all styles", &mut tiny_boxes);
+    part("boxes, sides 0..12, equal corners 0..6, all styles", &mut |r| {
+        small_equal_boxes(|f| {
+            r.confine(f);
+            small_figure(r, f);
+        })
+    });
+    part("boxes, sides 0..12, any two corners 0..6", &mut |r| {
+        let styles = styles();
+        small_pairs(|at, f| {
+            r.rows(f);
+            r.confine(f);
+            r.styled(f, &styles[at / 4 % 15]);
+            if at % 8 == 0 {
+                r.points(f);
+                r.contains_all(f, 1);
+            }
+        })
+    });
+    part("boxes, sides 0..4, all radii 0..2, all styles", &mut |r| {
+        tiny_boxes(|f| {
+            r.rows(f);
+            r.points(f);
+            r.confine(f);
+            r.contains_all(f, 1);
+            for k in [-3, -1, 1, 2] {
+                r.offset(f, k);
+            }
+            for s in styles() {
+                r.styled(f, &s);
+            }
+        })
+    });
     part("boxes, sides 0..12, all radii 0..6, random", &mut |r| random_small(r, &mut rng, 10_000 * effort));
     part("narrow boxes, random", &mut |r| random_narrow(r, &mut rng, 500 * effort));
     part("radii up to the limits, random", &mut |r| random_radii(r, &mut rng, 20_000 * effort));

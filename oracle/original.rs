@@ -206,6 +206,20 @@ impl Original {
         }
     }
 
+    /// The original `Ellipse::with_center`.
+    pub fn with_center(&self, cx: i64, cy: i64, w: i64, h: i64) -> Figure {
+        let center = Point::new(signed(cx), signed(cy));
+        let s = Ellipse::with_center(center, Size::new(length(w), length(h)));
+        Figure {
+            kind: Kind::Ellipse,
+            x: s.top_left.x as i64,
+            y: s.top_left.y as i64,
+            w: s.size.width as i64,
+            h: s.size.height as i64,
+            radii: [(0, 0); 4],
+        }
+    }
+
     /// The original `draw_styled` on rows of bytes.
     pub fn draw(&self, f: &Figure, st: &Style, w: i64, h: i64, bytes: &mut [u8]) {
         let st = style(st);

@@ -211,7 +211,7 @@ pub enum Side {
 }
 
 /// The first number of a list that is there; the callers list them in rising order.
-fn lowest(list: &[Option<u32>]) -> Option<u32> {
+pub fn lowest(list: &[Option<u32>]) -> Option<u32> {
     list.iter().flatten().min().copied()
 }
 
@@ -442,8 +442,15 @@ pub fn main() {
                 std::process::exit(1);
             }
         }
+        #[cfg(library)]
+        Some("scale") => {
+            if let Err(what) = attempt(|| crate::scale::run(number(1, 1), number(2, 400), number(3, 3600))) {
+                println!("the comparison itself failed: {what}");
+                std::process::exit(1);
+            }
+        }
         Some(other) => {
-            eprintln!("oracle [original | reference | compare [SEED [EFFORT]]]; not {other}");
+            eprintln!("oracle [original | reference | compare [SEED [EFFORT]] | scale [SEED [EFFORT [SECONDS]]]]; not {other}");
             std::process::exit(2);
         }
     }

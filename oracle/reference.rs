@@ -77,6 +77,18 @@ fn offset_rect(r: Rect, k: i64) -> Rect {
     }
 }
 
+/// "`with_center` subtracts the same term of the new size"
+pub fn with_center(cx: i64, cy: i64, w: i64, h: i64) -> Figure {
+    Figure {
+        kind: Kind::Ellipse,
+        x: cx - centre_term(w),
+        y: cy - centre_term(h),
+        w,
+        h,
+        radii: [(0, 0); 4],
+    }
+}
+
 /// "Outside width: 0, floor(s / 2), s for Inside, Center, Outside with stroke width s."
 fn outside_width(s: &Style) -> i64 {
     match s.align {
@@ -501,6 +513,24 @@ struct Layer {
     next: i64,
 }
 
+impl Layer {
+    fn new(f: &Figure, s: &Style, next: Option<i64>) -> Layer {
+        let stroke = stroke_area(f, s);
+        let next = next.unwrap_or(stroke.rows().start);
+        Layer {
+            style: *s,
+            stroke,
+            fill: fill_area(f, s),
+            next,
+        }
+    }
+
+    /// "An earlier layer owes y if y is among its rows and its next row is ≤ y."
+    fn owes(&self, y: i64) -> bool {
+        self.stroke.rows().contains(&y) && self.next <= y
+    }
+}
+
 /// The plain sheet: layers with a next row each.
 pub struct Sheet {
     w: i64,
@@ -520,6 +550,38 @@ impl Sheet {
         }
     }
 
+    /// A sheet given as a record, with as many of its places for layers as it says; 7 if it breaks a
+    /// rule: "sizes, figures and styles within limits; at most 16 layers; next row from the figure's
+    /// first row to the one after its last (the stroke area's top if it has none); no layer has a row
+    /// y, less than its next row, that an earlier layer owes."
+    pub fn given(w: i64, h: i64, count: i64, places: &[(Figure, Style, i64)]) -> Result<Sheet, u32> {
+        if canvas_refusal(w, h).is_some() || count > MAX_LAYERS as i64 {
+            return Err(7);
+        }
+        let places = &places[..count as usize];
+        if places.iter().any(|(f, s, _)| add_refusal(f, s).is_some()) {
+            return Err(7);
+        }
+        let layers: Vec<Layer> = places
+            .iter()
+            .map(|(f, s, next)| Layer::new(f, s, Some(*next)))
+            .collect();
+        let reached = |l: &Layer| l.stroke.rows().start <= l.next && l.next <= l.stroke.rows().end;
+        let overtakes = |i: usize| {
+            let painted = layers[i].stroke.rows().take_while(|y| *y < layers[i].next);
+            painted.into_iter().any(|y| layers[..i].iter().any(|e| e.owes(y)))
+        };
+        if !layers.iter().all(reached) || (0..layers.len()).any(overtakes) {
+            return Err(7);
+        }
+        Ok(Sheet { w, h, layers })
+    }
+
+    /// The next row of a layer.
+    pub fn next_row(&self, i: usize) -> i64 {
+        self.layers[i].next
+    }
+
     /// "Adding puts a figure on top, its next row its first stroke-area row." 0, or the refusal.
     pub fn add(&mut self, f: &Figure, s: &Style) -> u32 {
         if let Some(n) = add_refusal(f, s) {
@@ -528,15 +590,7 @@ impl Sheet {
         if self.layers.len() == MAX_LAYERS {
             return 9;
         }
-        let stroke = stroke_area(f, s);
-        let fill = fill_area(f, s);
-        let next = stroke.rows().start;
-        self.layers.push(Layer {
-            style: *s,
-            stroke,
-            fill,
-            next,
-        });
+        self.layers.push(Layer::new(f, s, None));
         0
     }
 
@@ -550,11 +604,7 @@ impl Sheet {
         if !self.layers[i].stroke.rows().contains(&y) {
             return 11;
         }
-        // "An earlier layer owes y if y is among its rows and its next row is ≤ y."
-        if self.layers[..i]
-            .iter()
-            .any(|l| l.stroke.rows().contains(&y) && l.next <= y)
-        {
+        if self.layers[..i].iter().any(|l| l.owes(y)) {
             return 12;
         }
         let layer = &mut self.layers[i];
@@ -580,7 +630,7 @@ impl Book {
     }
 
     /// "A figure with count n has painted the first n rows of its stroke area"
-    fn painted(&self, i: usize) -> core::ops::Range<i64> {
+    pub fn painted(&self, i: usize) -> core::ops::Range<i64> {
         let rows = self.rows(i);
         rows.start..rows.start + self.noted[i].2
     }

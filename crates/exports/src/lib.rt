@@ -1,0 +1,157 @@
+// The library for a host in C or Rust: every call on numbers and lent buffers, as include/wunqaber.h
+// declares it. Each is the call of the same name in a host_.. crate, with the same promise.
+ghost use mathlib.Core.Path.{_≡_};
+ghost use lib.ListN.{length};
+ghost use Rattle.host_answers.specs.HostAnswers.{outcomeNumber, Tells};
+ghost use Rattle.host_figures.specs.Figures.{containsSaid, rowSaid, pointsSaid, pairsAfter, offsetSaid, confinedRadiiSaid, ellipseWithCenterSaid};
+ghost use Rattle.host_styled.specs.Styled.{styledRowSaid, styledBoundingBoxSaid};
+ghost use Rattle.sheet_calls.specs.SheetCalls.{runAnswer};
+ghost use Rattle.host_canvas.specs.Canvas.{paintSaid, paintedAfter, writeSaid, writtenAfter, runNumber, RunTold};
+ghost use Rattle.host_sheets.specs.Sheets.{openSaid, addTold, addNumbers, paintTold, paintNumbers, paintCanvas};
+
+// Whether a point is inside, as 1 or 0. Refused by 1, 2, 3, 4 and 13.
+#[no_mangle]
+pub extern "C" fn wunqaber_contains(figure: &[i32], x: i32, y: i32, out: &mut [i32]) -> u32
+    ensures { λ r. ⌜ Tells (containsSaid (now (figure .entry)) x y) (now (out .entry)) r (now (out .exit)) ⌝ }
+{
+    host_figures::contains(figure, x, y, out)
+}
+
+// The run of a row. Refused by 1, 2, 3, 4 and 13.
+#[no_mangle]
+pub extern "C" fn wunqaber_row(figure: &[i32], y: i32, out: &mut [i32]) -> u32
+    ensures { λ r. ⌜ Tells (rowSaid (now (figure .entry)) y) (now (out .entry)) r (now (out .exit)) ⌝ }
+{
+    host_figures::row(figure, y, out)
+}
+
+// The points into a list, and their number. Refused by 1, 2, 3 and 13.
+#[no_mangle]
+pub extern "C" fn wunqaber_points(figure: &[i32], list: &mut [i32], out: &mut [i32]) -> u32
+    ensures { λ r. ⌜ Tells (pointsSaid (now (figure .entry)) (now (list .entry)) (length (now (out .entry)))) (now (out .entry)) r (now (out .exit)) ⌝ }
+    ensures { λ _. ⌜ now (list .exit) ≡ pairsAfter (now (figure .entry)) (now (list .entry)) (length (now (out .entry))) ⌝ }
+{
+    host_figures::points(figure, list, out)
+}
+
+// The figure offset by k. Refused by 1, 2, 3, 5 and 13.
+#[no_mangle]
+pub extern "C" fn wunqaber_offset(figure: &[i32], k: i32, out: &mut [i32]) -> u32
+    ensures { λ r. ⌜ Tells (offsetSaid (now (figure .entry)) k) (now (out .entry)) r (now (out .exit)) ⌝ }
+{
+    host_figures::offset(figure, k, out)
+}
+
+// The radii as confined to the box. Refused by 1, 2, 3 and 13.
+#[no_mangle]
+pub extern "C" fn wunqaber_confined_radii(figure: &[i32], out: &mut [i32]) -> u32
+    ensures { λ r. ⌜ Tells (confinedRadiiSaid (now (figure .entry))) (now (out .entry)) r (now (out .exit)) ⌝ }
+{
+    host_figures::confined_radii(figure, out)
+}
+
+// The ellipse of a size about a centre. Refused by 1, 3 and 13.
+#[no_mangle]
+pub extern "C" fn wunqaber_ellipse_with_center(
+    x: i32,
+    y: i32,
+    width: u32,
+    height: u32,
+    out: &mut [i32],
+) -> u32
+    ensures { λ r. ⌜ Tells (ellipseWithCenterSaid x y width height) (now (out .entry)) r (now (out .exit)) ⌝ }
+{
+    host_figures::ellipse_with_center(x, y, width, height, out)
+}
+
+// The three runs of a styled row. Refused by 1, 2, 3, 4, 5 and 13.
+#[no_mangle]
+pub extern "C" fn wunqaber_styled_row(figure: &[i32], style: &[i32], y: i32, out: &mut [i32]) -> u32
+    ensures { λ r. ⌜ Tells (styledRowSaid (now (figure .entry)) (now (style .entry)) y) (now (out .entry)) r (now (out .exit)) ⌝ }
+{
+    host_styled::styled_row(figure, style, y, out)
+}
+
+// The rectangle that a styled figure keeps to. Refused by 1, 2, 3, 5 and 13.
+#[no_mangle]
+pub extern "C" fn wunqaber_styled_bounding_box(
+    figure: &[i32],
+    style: &[i32],
+    out: &mut [i32],
+) -> u32
+    ensures { λ r. ⌜ Tells (styledBoundingBoxSaid (now (figure .entry)) (now (style .entry))) (now (out .entry)) r (now (out .exit)) ⌝ }
+{
+    host_styled::styled_bounding_box(figure, style, out)
+}
+
+// The figure painted on the canvas. Refused by 1, 2, 3, 5, 6 and 8.
+#[no_mangle]
+pub extern "C" fn wunqaber_paint_figure(
+    figure: &[i32],
+    style: &[i32],
+    width: u32,
+    height: u32,
+    canvas: &mut [u8],
+) -> u32
+    ensures { λ r. ⌜ r ≡ outcomeNumber (paintSaid (now (figure .entry)) (now (style .entry)) width height (now (canvas .entry))) ⌝ }
+    ensures { λ _. ⌜ now (canvas .exit) ≡ paintedAfter (now (figure .entry)) (now (style .entry)) width height (now (canvas .entry)) ⌝ }
+{
+    host_canvas::paint_figure(figure, style, width, height, canvas)
+}
+
+// The numbers of a sheet without layers. Refused by 6 and 13.
+#[no_mangle]
+pub extern "C" fn wunqaber_sheet_open(width: u32, height: u32, sheet: &mut [i32]) -> u32
+    ensures { λ r. ⌜ Tells (openSaid width height) (now (sheet .entry)) r (now (sheet .exit)) ⌝ }
+{
+    host_sheets::open(width, height, sheet)
+}
+
+// A figure more on top. Refused by 1, 2, 3, 5, 7 and 9.
+#[no_mangle]
+pub extern "C" fn wunqaber_sheet_add(sheet: &mut [i32], figure: &[i32], style: &[i32]) -> u32
+    ensures { λ r. ⌜ r ≡ addTold (now (sheet .entry)) (now (figure .entry)) (now (style .entry)) ⌝ }
+    ensures { λ _. ⌜ now (sheet .exit) ≡ addNumbers (now (sheet .entry)) (now (figure .entry)) (now (style .entry)) ⌝ }
+{
+    host_sheets::add(sheet, figure, style)
+}
+
+// The next row of a layer painted. Refused by 7, 8, 10, 11 and 12.
+#[no_mangle]
+pub extern "C" fn wunqaber_sheet_paint(sheet: &mut [i32], layer: u32, canvas: &mut [u8]) -> u32
+    ensures { λ r. ⌜ r ≡ paintTold (now (sheet .entry)) layer (now (canvas .entry)) ⌝ }
+    ensures { λ _. ⌜ now (sheet .exit) ≡ paintNumbers (now (sheet .entry)) layer (now (canvas .entry)) ⌝ }
+    ensures { λ _. ⌜ now (canvas .exit) ≡ paintCanvas (now (sheet .entry)) layer (now (canvas .entry)) ⌝ }
+{
+    host_sheets::paint(sheet, layer, canvas)
+}
+
+// A list of sheet calls run from a sheet just opened, and the answer of each. Refused by 6, 8 and 13.
+#[no_mangle]
+pub extern "C" fn wunqaber_run_calls(
+    width: u32,
+    height: u32,
+    calls: &[i32],
+    canvas: &mut [u8],
+    answers: &mut [u32],
+) -> u32
+    ensures { λ r. ⌜ r ≡ runNumber (runAnswer width height (now (calls .entry)) (length (now (canvas .entry))) (length (now (answers .entry)))) ⌝ }
+    ensures { λ _. ⌜ RunTold width height (now (calls .entry)) (now (canvas .entry)) (now (answers .entry)) (now (canvas .exit)) (now (answers .exit)) ⌝ }
+{
+    host_canvas::run_calls(width, height, calls, canvas, answers)
+}
+
+// The canvas as P5, and the length of the file. Refused by 6, 8 and 13.
+#[no_mangle]
+pub extern "C" fn wunqaber_write_p5(
+    width: u32,
+    height: u32,
+    canvas: &[u8],
+    file: &mut [u8],
+    out: &mut [i32],
+) -> u32
+    ensures { λ r. ⌜ Tells (writeSaid width height (now (canvas .entry)) (now (file .entry)) (length (now (out .entry)))) (now (out .entry)) r (now (out .exit)) ⌝ }
+    ensures { λ _. ⌜ now (file .exit) ≡ writtenAfter width height (now (canvas .entry)) (now (file .entry)) (length (now (out .entry))) ⌝ }
+{
+    host_canvas::write_p5(width, height, canvas, file, out)
+}

@@ -1,0 +1,106 @@
+/* Draws the page of crates/cafe from C, by include/wunqaber.h alone, and writes it as a Netpbm P5 file
+ * to standard output: six tiles, each a box and an oval that is filled or hollow. A row of each layer is
+ * painted in turn, the uppermost layer asked first, so that some calls are refused because a lower layer
+ * owes the row. Any other answer than the expected one ends the program with status 1. */
+#include <stdio.h>
+#include <stdlib.h>
+#include <string.h>
+
+#include "wunqaber.h"
+
+enum {
+    WIDTH = 232,
+    HEIGHT = 120,
+    HEADER = sizeof "P5\n232 120\n255\n" - 1,
+    TILES = 6,
+    LAYERS = 2 * TILES,
+    /* More rounds than a box has rows: a layer waits for the rows that lower ones owe. */
+    ROUNDS = 64,
+    /* What comes of the ROUNDS * LAYERS calls: each box has 48 rows, each oval 24. */
+    PAINTED = TILES * (48 + 24),
+    OWED = 102,
+    WITHOUT_ROW = ROUNDS * LAYERS - PAINTED - OWED
+};
+
+static wunqaber_sheet sheet;
+static uint8_t canvas[WIDTH * HEIGHT];
+static uint8_t file[HEADER + WIDTH * HEIGHT];
+
+static void expect(const char *what, uint32_t expected, uint32_t found)
+{
+    if (found != expected) {
+        fprintf(stderr, "page: %s: expected %lu, found %lu\n", what, (unsigned long)expected, (unsigned long)found);
+        exit(1);
+    }
+}
+
+/* Puts a figure on top, in a border of 2 pixels. */
+static void add(wunqaber_figure figure, int32_t fill)
+{
+    wunqaber_style style = {40, WUNQABER_ABSENT, 2, WUNQABER_INSIDE};
+
+    style.fill = fill;
+    expect("sheet_add", WUNQABER_DONE,
+           wunqaber_sheet_add(WUNQABER_NUMBERS(sheet), WUNQABER_NUMBERS(figure), WUNQABER_NUMBERS(style)));
+}
+
+/* A box 64 by 48 with corners of radius 12, and an oval 24 by 24 in its middle: filled for a person who is
+ * clocked in, else hollow. */
+static void add_tile(int32_t x, int32_t y, int clocked_in)
+{
+    wunqaber_figure tile = {WUNQABER_W3C_BOX, 0, 0, 64, 48, {12, 12, 12, 12, 12, 12, 12, 12}};
+    wunqaber_figure oval = {WUNQABER_ELLIPSE, 0, 0, 24, 24, {0, 0, 0, 0, 0, 0, 0, 0}};
+
+    tile.x = x;
+    tile.y = y;
+    oval.x = x + 20;
+    oval.y = y + 12;
+    add(tile, 220);
+    add(oval, clocked_in ? 40 : WUNQABER_ABSENT);
+}
+
+/* Paints a row of each layer in every round, the uppermost first. */
+static void paint(void)
+{
+    uint32_t painted = 0, without_row = 0, owed = 0;
+    int round, layer;
+
+    for (round = 0; round < ROUNDS; round++) {
+        for (layer = LAYERS; layer-- > 0;) {
+            uint32_t answer = wunqaber_sheet_paint(WUNQABER_NUMBERS(sheet), (uint32_t)layer, canvas, sizeof canvas);
+
+            switch (answer) {
+            case WUNQABER_DONE: painted++; break;
+            case WUNQABER_NO_ROW_LEFT: without_row++; break;
+            case WUNQABER_ROW_OWED: owed++; break;
+            default: expect("sheet_paint", WUNQABER_DONE, answer);
+            }
+        }
+    }
+    expect("calls accepted", PAINTED, painted);
+    expect("calls refused by 11", WITHOUT_ROW, without_row);
+    expect("calls refused by 12", OWED, owed);
+}
+
+int main(void)
+{
+    int32_t length = 0;
+
+    memset(canvas, 255, sizeof canvas);
+    expect("sheet_open", WUNQABER_DONE, wunqaber_sheet_open(WIDTH, HEIGHT, WUNQABER_NUMBERS(sheet)));
+    add_tile(8, 8, 1);
+    add_tile(84, 8, 0);
+    add_tile(160, 8, 1);
+    add_tile(8, 64, 0);
+    add_tile(84, 64, 0);
+    add_tile(160, 64, 1);
+    paint();
+    expect("write_p5", WUNQABER_DONE,
+           wunqaber_write_p5(WIDTH, HEIGHT, canvas, sizeof canvas, file, sizeof file, &length, 1));
+    expect("length of the file", sizeof file, (uint32_t)length);
+    if (fwrite(file, 1, sizeof file, stdout) != sizeof file || fflush(stdout) != 0) {
+        fputs("page: the file could not be written\n", stderr);
+        return 1;
+    }
+    return 0;
+}

@@ -1,0 +1,409 @@
+/* Makes every call of include/wunqaber.h once as it is accepted and once for each answer that the header
+ * names for it, from a table: a call, what is changed in its arguments, and the answer. The answer must be
+ * the one in the table, and all buffers lent must be as expected: the numbers and bytes written below where
+ * the call is accepted, else unchanged. */
+#include <stdio.h>
+#include <string.h>
+
+#include "wunqaber.h"
+
+enum call {
+    CONTAINS, ROW, POINTS, OFFSET, CONFINED_RADII, ELLIPSE_WITH_CENTER, STYLED_ROW, STYLED_BOUNDING_BOX,
+    PAINT_FIGURE, SHEET_OPEN, SHEET_ADD, SHEET_PAINT, RUN_CALLS, WRITE_P5
+};
+
+static const char *const names[] = {
+    "contains", "row", "points", "offset", "confined_radii", "ellipse_with_center", "styled_row",
+    "styled_bounding_box", "paint_figure", "sheet_open", "sheet_add", "sheet_paint", "run_calls", "write_p5"
+};
+
+/* What is changed in the arguments: one of them gets the table's value. A length of the sheet, of a list or
+ * of a buffer is the length that the call is told. */
+enum change {
+    AS_IS, KIND, X, WIDTH, RADIUS, FIGURE_LENGTH, STROKE, FILL, STROKE_WIDTH, ALIGNMENT, STYLE_LENGTH, ASKED,
+    CENTER_X, CENTER_WIDTH, CANVAS_WIDTH, CANVAS_LENGTH, LIST_LENGTH, FILE_LENGTH, OUT_LENGTH, ANSWERS_LENGTH,
+    SHEET_COUNT, SHEET_NEXT_ROW, SHEET_LAYER_KIND, SHEET_LENGTH, LAYER, CALL_KIND, CALL_LAYER, CALLS_LENGTH
+};
+
+/* The arguments of all calls. The figure is the oval 4 by 4 at (0, 0), or a box for the call that asks for
+ * radii; an oval of 9 without a stroke. */
+typedef struct {
+    wunqaber_figure figure;
+    wunqaber_style style;
+    int32_t asked;
+    int32_t center_x, center_y;
+    uint32_t center_width, center_height;
+    uint32_t width, height, layer;
+    int32_t calls[3][20];
+    size_t figure_length, style_length, list_length, out_length, canvas_length, file_length, sheet_length;
+    size_t calls_length, answers_length;
+} arguments;
+
+/* What a call may write: more of each than it is told of. */
+typedef struct {
+    int32_t out[16];
+    int32_t list[28];
+    wunqaber_sheet sheet;
+    uint32_t answers[4];
+    uint8_t canvas[20];
+    uint8_t file[32];
+} buffers;
+
+typedef struct {
+    enum call call;
+    enum change change;
+    int32_t value;
+    uint32_t answer;
+} check;
+
+static const check checks[] = {
+    {CONTAINS, AS_IS, 0, 0},
+    {CONTAINS, WIDTH, 1025, 1},
+    {CONTAINS, RADIUS, 1025, 2},
+    {CONTAINS, X, -4097, 3},
+    {CONTAINS, ASKED, 8193, 4},
+    {CONTAINS, OUT_LENGTH, 0, 13},
+    {CONTAINS, KIND, 3, 100},
+    {CONTAINS, WIDTH, -1, 100},
+    {CONTAINS, RADIUS, -1, 100},
+    {CONTAINS, FIGURE_LENGTH, 12, 100},
+
+    {ROW, AS_IS, 0, 0},
+    {ROW, WIDTH, 1025, 1},
+    {ROW, RADIUS, 1025, 2},
+    {ROW, X, 4097, 3},
+    {ROW, ASKED, -8193, 4},
+    {ROW, OUT_LENGTH, 1, 13},
+    {ROW, KIND, -1, 100},
+    {ROW, FIGURE_LENGTH, 0, 100},
+    {ROW, ASKED, 4, 101},
+
+    {POINTS, AS_IS, 0, 0},
+    {POINTS, WIDTH, 1025, 1},
+    {POINTS, RADIUS, 1025, 2},
+    {POINTS, X, -4097, 3},
+    {POINTS, LIST_LENGTH, 23, 13},
+    {POINTS, OUT_LENGTH, 0, 13},
+    {POINTS, KIND, 3, 100},
+
+    {OFFSET, AS_IS, 0, 0},
+    {OFFSET, WIDTH, 1025, 1},
+    {OFFSET, RADIUS, 1025, 2},
+    {OFFSET, X, -4097, 3},
+    {OFFSET, ASKED, -257, 5},
+    {OFFSET, OUT_LENGTH, 4, 13},
+    {OFFSET, KIND, 3, 100},
+
+    {CONFINED_RADII, AS_IS, 0, 0},
+    {CONFINED_RADII, WIDTH, 1025, 1},
+    {CONFINED_RADII, RADIUS, 1025, 2},
+    {CONFINED_RADII, X, -4097, 3},
+    {CONFINED_RADII, OUT_LENGTH, 7, 13},
+    {CONFINED_RADII, KIND, 3, 100},
+    {CONFINED_RADII, KIND, WUNQABER_ELLIPSE, 101},
+
+    {ELLIPSE_WITH_CENTER, AS_IS, 0, 0},
+    {ELLIPSE_WITH_CENTER, CENTER_WIDTH, 1025, 1},
+    {ELLIPSE_WITH_CENTER, CENTER_X, 4100, 3},
+    {ELLIPSE_WITH_CENTER, OUT_LENGTH, 4, 13},
+
+    {STYLED_ROW, AS_IS, 0, 0},
+    {STYLED_ROW, WIDTH, 1025, 1},
+    {STYLED_ROW, RADIUS, 1025, 2},
+    {STYLED_ROW, X, -4097, 3},
+    {STYLED_ROW, ASKED, 8193, 4},
+    {STYLED_ROW, STROKE_WIDTH, 257, 5},
+    {STYLED_ROW, OUT_LENGTH, 5, 13},
+    {STYLED_ROW, KIND, 3, 100},
+    {STYLED_ROW, STROKE, 256, 100},
+    {STYLED_ROW, FILL, -2, 100},
+    {STYLED_ROW, STROKE_WIDTH, -1, 100},
+    {STYLED_ROW, ALIGNMENT, 3, 100},
+    {STYLED_ROW, STYLE_LENGTH, 3, 100},
+    {STYLED_ROW, ASKED, -1, 101},
+
+    {STYLED_BOUNDING_BOX, AS_IS, 0, 0},
+    {STYLED_BOUNDING_BOX, WIDTH, 1025, 1},
+    {STYLED_BOUNDING_BOX, RADIUS, 1025, 2},
+    {STYLED_BOUNDING_BOX, X, -4097, 3},
+    {STYLED_BOUNDING_BOX, STROKE_WIDTH, 257, 5},
+    {STYLED_BOUNDING_BOX, OUT_LENGTH, 3, 13},
+    {STYLED_BOUNDING_BOX, ALIGNMENT, -1, 100},
+
+    {PAINT_FIGURE, AS_IS, 0, 0},
+    {PAINT_FIGURE, WIDTH, 1025, 1},
+    {PAINT_FIGURE, RADIUS, 1025, 2},
+    {PAINT_FIGURE, X, -4097, 3},
+    {PAINT_FIGURE, STROKE_WIDTH, 257, 5},
+    {PAINT_FIGURE, CANVAS_WIDTH, 0, 6},
+    {PAINT_FIGURE, CANVAS_WIDTH, 1025, 6},
+    {PAINT_FIGURE, CANVAS_LENGTH, 15, 8},
+    {PAINT_FIGURE, STYLE_LENGTH, 5, 100},
+
+    {SHEET_OPEN, AS_IS, 0, 0},
+    {SHEET_OPEN, CANVAS_WIDTH, 0, 6},
+    {SHEET_OPEN, SHEET_LENGTH, 290, 13},
+
+    {SHEET_ADD, AS_IS, 0, 0},
+    {SHEET_ADD, WIDTH, 1025, 1},
+    {SHEET_ADD, RADIUS, 1025, 2},
+    {SHEET_ADD, X, -4097, 3},
+    {SHEET_ADD, STROKE_WIDTH, 257, 5},
+    {SHEET_ADD, SHEET_COUNT, 17, 7},
+    {SHEET_ADD, SHEET_NEXT_ROW, 5, 7},
+    {SHEET_ADD, SHEET_COUNT, 16, 9},
+    {SHEET_ADD, FIGURE_LENGTH, 12, 100},
+    {SHEET_ADD, STYLE_LENGTH, 3, 100},
+    {SHEET_ADD, SHEET_LENGTH, 290, 100},
+    {SHEET_ADD, SHEET_COUNT, -1, 100},
+    {SHEET_ADD, SHEET_LAYER_KIND, 3, 100},
+
+    {SHEET_PAINT, AS_IS, 0, 0},
+    {SHEET_PAINT, SHEET_COUNT, 17, 7},
+    {SHEET_PAINT, SHEET_NEXT_ROW, -1, 7},
+    {SHEET_PAINT, CANVAS_LENGTH, 15, 8},
+    {SHEET_PAINT, LAYER, 2, 10},
+    {SHEET_PAINT, SHEET_NEXT_ROW, 4, 11},
+    {SHEET_PAINT, LAYER, 1, 12},
+    {SHEET_PAINT, SHEET_LENGTH, 290, 100},
+
+    {RUN_CALLS, AS_IS, 0, 0},
+    {RUN_CALLS, CANVAS_WIDTH, 1025, 6},
+    {RUN_CALLS, CANVAS_LENGTH, 17, 8},
+    {RUN_CALLS, ANSWERS_LENGTH, 2, 13},
+    {RUN_CALLS, CALLS_LENGTH, 59, 100},
+    {RUN_CALLS, CALL_KIND, 2, 100},
+    {RUN_CALLS, CALL_LAYER, -1, 100},
+
+    {WRITE_P5, AS_IS, 0, 0},
+    {WRITE_P5, CANVAS_WIDTH, 0, 6},
+    {WRITE_P5, CANVAS_LENGTH, 15, 8},
+    {WRITE_P5, FILE_LENGTH, 26, 13},
+    {WRITE_P5, OUT_LENGTH, 0, 13},
+};
+
+static const wunqaber_figure oval = {WUNQABER_ELLIPSE, 0, 0, 4, 4, {0, 0, 0, 0, 0, 0, 0, 0}};
+static const wunqaber_figure crate_box = {WUNQABER_CRATE_BOX, 0, 0, 10, 100, {9, 60, 9, 60, 9, 60, 9, 60}};
+static const wunqaber_style filled = {WUNQABER_ABSENT, 9, 0, WUNQABER_CENTER};
+
+/* The arguments as they are accepted. Calls that may be refused for a radius get the box. */
+static arguments accepted(const check *c)
+{
+    arguments a;
+
+    memset(&a, 0, sizeof a);
+    a.figure = c->call == CONFINED_RADII || c->change == RADIUS ? crate_box : oval;
+    a.style = filled;
+    a.asked = 1;
+    a.center_x = a.center_y = 5;
+    a.center_width = 4;
+    a.center_height = 3;
+    a.width = a.height = 4;
+    /* an oval added, its first row painted, a layer that is not there */
+    memcpy(&a.calls[0][1], &oval, sizeof oval);
+    memcpy(&a.calls[0][14], &filled, sizeof filled);
+    a.calls[1][0] = 1;
+    a.calls[2][0] = 1;
+    a.calls[2][1] = 7;
+    a.figure_length = 13;
+    a.style_length = 4;
+    a.list_length = 24;
+    a.out_length = 13;
+    a.canvas_length = 16;
+    a.file_length = 27;
+    a.sheet_length = 291;
+    a.calls_length = 60;
+    a.answers_length = 3;
+    return a;
+}
+
+/* The buffers before a call: a pattern, and a sheet 4 by 4 with the oval twice. Behind these it has blank
+ * places, as a sheet just opened. */
+static buffers lent(const check *c)
+{
+    buffers b;
+    int i;
+
+    memset(&b, 0x5a, sizeof b);
+    if (c->call == SHEET_OPEN)
+        return b;
+    memset(&b.sheet, 0, sizeof b.sheet);
+    b.sheet.width = b.sheet.height = 4;
+    b.sheet.count = 2;
+    for (i = 0; i < 16; i++)
+        b.sheet.layers[i].style.stroke = b.sheet.layers[i].style.fill = WUNQABER_ABSENT;
+    for (i = 0; i < 2; i++) {
+        b.sheet.layers[i].figure = oval;
+        b.sheet.layers[i].style = filled;
+    }
+    return b;
+}
+
+static void change(const check *c, arguments *a, buffers *b)
+{
+    int32_t value = c->value;
+
+    switch (c->change) {
+    case AS_IS: break;
+    case KIND: a->figure.kind = value; break;
+    case X: a->figure.x = value; break;
+    case WIDTH: a->figure.width = value; break;
+    case RADIUS: a->figure.radii[7] = value; break;
+    case FIGURE_LENGTH: a->figure_length = (size_t)value; break;
+    case STROKE: a->style.stroke = value; break;
+    case FILL: a->style.fill = value; break;
+    case STROKE_WIDTH: a->style.stroke_width = value; break;
+    case ALIGNMENT: a->style.alignment = value; break;
+    case STYLE_LENGTH: a->style_length = (size_t)value; break;
+    case ASKED: a->asked = value; break;
+    case CENTER_X: a->center_x = value; break;
+    case CENTER_WIDTH: a->center_width = (uint32_t)value; break;
+    case CANVAS_WIDTH: a->width = (uint32_t)value; break;
+    case CANVAS_LENGTH: a->canvas_length = (size_t)value; break;
+    case LIST_LENGTH: a->list_length = (size_t)value; break;
+    case FILE_LENGTH: a->file_length = (size_t)value; break;
+    case OUT_LENGTH: a->out_length = (size_t)value; break;
+    case ANSWERS_LENGTH: a->answers_length = (size_t)value; break;
+    case SHEET_COUNT: b->sheet.count = value; break;
+    case SHEET_NEXT_ROW: b->sheet.layers[0].next_row = value; break;
+    case SHEET_LAYER_KIND: b->sheet.layers[0].figure.kind = value; break;
+    case SHEET_LENGTH: a->sheet_length = (size_t)value; break;
+    case LAYER: a->layer = (uint32_t)value; break;
+    case CALL_KIND: a->calls[2][0] = value; break;
+    case CALL_LAYER: a->calls[2][1] = value; break;
+    case CALLS_LENGTH: a->calls_length = (size_t)value; break;
+    }
+}
+
+static uint32_t make(enum call call, const arguments *a, buffers *b)
+{
+    const int32_t *figure = (const int32_t *)&a->figure, *style = (const int32_t *)&a->style;
+    int32_t *sheet = (int32_t *)&b->sheet;
+
+    switch (call) {
+    case CONTAINS:
+        return wunqaber_contains(figure, a->figure_length, a->asked, 0, b->out, a->out_length);
+    case ROW:
+        return wunqaber_row(figure, a->figure_length, a->asked, b->out, a->out_length);
+    case POINTS:
+        return wunqaber_points(figure, a->figure_length, b->list, a->list_length, b->out, a->out_length);
+    case OFFSET:
+        return wunqaber_offset(figure, a->figure_length, a->asked, b->out, a->out_length);
+    case CONFINED_RADII:
+        return wunqaber_confined_radii(figure, a->figure_length, b->out, a->out_length);
+    case ELLIPSE_WITH_CENTER:
+        return wunqaber_ellipse_with_center(a->center_x, a->center_y, a->center_width, a->center_height,
+                                            b->out, a->out_length);
+    case STYLED_ROW:
+        return wunqaber_styled_row(figure, a->figure_length, style, a->style_length, a->asked,
+                                   b->out, a->out_length);
+    case STYLED_BOUNDING_BOX:
+        return wunqaber_styled_bounding_box(figure, a->figure_length, style, a->style_length,
+                                            b->out, a->out_length);
+    case PAINT_FIGURE:
+        return wunqaber_paint_figure(figure, a->figure_length, style, a->style_length, a->width, a->height,
+                                     b->canvas, a->canvas_length);
+    case SHEET_OPEN:
+        return wunqaber_sheet_open(a->width, a->height, sheet, a->sheet_length);
+    case SHEET_ADD:
+        return wunqaber_sheet_add(sheet, a->sheet_length, figure, a->figure_length, style, a->style_length);
+    case SHEET_PAINT:
+        return wunqaber_sheet_paint(sheet, a->sheet_length, a->layer, b->canvas, a->canvas_length);
+    case RUN_CALLS:
+        return wunqaber_run_calls(a->width, a->height, a->calls[0], a->calls_length, b->canvas, a->canvas_length,
+                                  b->answers, a->answers_length);
+    case WRITE_P5:
+        return wunqaber_write_p5(a->width, a->height, b->canvas, a->canvas_length, b->file, a->file_length,
+                                 b->out, a->out_length);
+    }
+    return UINT32_MAX;
+}
+
+/* What each call writes into the buffers where it is accepted. */
+static void written(enum call call, buffers *b)
+{
+    static const int32_t row[] = {0, 4};
+    static const int32_t points[] = {1, 0, 2, 0, 0, 1, 1, 1, 2, 1, 3, 1, 0, 2, 1, 2, 2, 2, 3, 2, 1, 3, 2, 3};
+    static const int32_t offset[] = {WUNQABER_ELLIPSE, -1, -1, 6, 6};
+    static const int32_t radii[] = {7, 50, 7, 50, 7, 50, 7, 50};
+    static const int32_t about[] = {WUNQABER_ELLIPSE, 4, 4, 4, 3};
+    static const int32_t styled[] = {0, 0, 0, 4, 4, 4};
+    static const int32_t bounds[] = {0, 0, 4, 4};
+    static const char header[] = "P5\n4 4\n255\n";
+    static const uint8_t pixels[] = {1, 2, 4, 5, 6, 7, 8, 9, 10, 11, 13, 14};
+    size_t i;
+
+    switch (call) {
+    case CONTAINS: b->out[0] = 1; break;
+    case ROW: memcpy(b->out, row, sizeof row); break;
+    case POINTS:
+        memcpy(b->list, points, sizeof points);
+        b->out[0] = 12;
+        break;
+    case OFFSET: memcpy(b->out, offset, sizeof offset); break;
+    case CONFINED_RADII: memcpy(b->out, radii, sizeof radii); break;
+    case ELLIPSE_WITH_CENTER: memcpy(b->out, about, sizeof about); break;
+    case STYLED_ROW: memcpy(b->out, styled, sizeof styled); break;
+    case STYLED_BOUNDING_BOX: memcpy(b->out, bounds, sizeof bounds); break;
+    case PAINT_FIGURE:
+        for (i = 0; i < sizeof pixels; i++)
+            b->canvas[pixels[i]] = 9;
+        break;
+    case SHEET_OPEN:
+        memset(&b->sheet, 0, sizeof b->sheet);
+        b->sheet.width = b->sheet.height = 4;
+        for (i = 0; i < 16; i++)
+            b->sheet.layers[i].style.stroke = b->sheet.layers[i].style.fill = WUNQABER_ABSENT;
+        break;
+    case SHEET_ADD:
+        b->sheet.layers[2].figure = oval;
+        b->sheet.layers[2].style = filled;
+        b->sheet.count = 3;
+        break;
+    case SHEET_PAINT:
+        b->sheet.layers[0].next_row = 1;
+        b->canvas[1] = b->canvas[2] = 9;
+        break;
+    case RUN_CALLS:
+        b->canvas[1] = b->canvas[2] = 9;
+        b->answers[0] = b->answers[1] = 0;
+        b->answers[2] = WUNQABER_NO_LAYER;
+        break;
+    case WRITE_P5:
+        memcpy(b->file, header, sizeof header - 1);
+        memcpy(b->file + sizeof header - 1, b->canvas, 16);
+        b->out[0] = 27;
+        break;
+    }
+}
+
+int main(void)
+{
+    size_t i, count = sizeof checks / sizeof checks[0];
+
+    for (i = 0; i < count; i++) {
+        const check *c = &checks[i];
+        arguments given = accepted(c);
+        buffers before = lent(c), expected, found;
+        uint32_t answer;
+
+        change(c, &given, &before);
+        memcpy(&expected, &before, sizeof expected);
+        memcpy(&found, &before, sizeof found);
+        if (c->answer == WUNQABER_DONE)
+            written(c->call, &expected);
+        answer = make(c->call, &given, &found);
+        if (answer != c->answer) {
+            fprintf(stderr, "refusals: line %lu, %s: expected %lu, found %lu\n", (unsigned long)i + 1, names[c->call],
+                    (unsigned long)c->answer, (unsigned long)answer);
+            return 1;
+        }
+        if (memcmp(&expected, &found, sizeof found) != 0) {
+            fprintf(stderr, "refusals: line %lu, %s, answered %lu: a buffer is not as expected\n", (unsigned long)i + 1,
+                    names[c->call], (unsigned long)answer);
+            return 1;
+        }
+    }
+    printf("refusals: %lu calls answered as the header says\n", (unsigned long)count);
+    return 0;
+}

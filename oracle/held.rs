@@ -1,0 +1,393 @@
+//! The library that C and Rust programs link (include/wunqaber.h), held call by call against what it must
+//! answer, on any numbers: 100, 101 and the lowest refusal by the header and the reference; values by the
+//! ORIGINAL where it finishes, else by the reference, which also has what the original lacks (W3C boxes,
+//! sheets, lists of calls, P5). Answers, values and every number and byte of every buffer are compared, with
+//! some right behind the part that is lent; after a refusal none may differ. The first difference is printed
+//! whole and ends the program with status 1.
+
+use crate::{
+    compare::Report,
+    numbers::{
+        figure_numbers, given_figure, opened, place_of, radii_numbers, read_calls, read_figure, read_sheet, read_style,
+        style_numbers,
+    },
+    original::Original,
+    query::{attempt, first_lent, lowest, Answers, Figure, Kind, Style},
+    reference::{self, asked_refusal, canvas_refusal, figure_refusal, offset_refusal, style_refusal, Reference, Sheet},
+    wunqaber::{self as library, CALL_LENGTH, FIGURE_LENGTH, NOTHING, NO_RECORD, SHEET_LENGTH},
+};
+use std::{collections::BTreeMap, fmt::Debug, process::exit};
+
+/// Who says what a call must answer.
+#[derive(Clone, Copy, PartialEq)]
+pub enum By {
+    Original,
+    Reference,
+}
+
+/// What a call must answer: values, and who says so; or another number than 0.
+pub type Wanted<T> = Result<(T, By), u32>;
+
+#[derive(Default)]
+struct Counts {
+    original: u64,
+    reference: u64,
+    refused: u64,
+}
+
+#[derive(Default)]
+pub struct Held {
+    counts: BTreeMap<&'static str, Counts>,
+    /// the answers other than 0, by number
+    refused: BTreeMap<u32, u64>,
+    /// where the original does not finish
+    panics: Report,
+}
+
+/// Stands in a buffer before a call; nothing writes it.
+const MARK: i32 = 0x5a5a_5a5a;
+
+fn too_short(needed: usize, room: usize) -> Option<u32> {
+    (room < needed).then_some(library::BUFFER_LENGTH)
+}
+
+fn wrong_length(w: u32, h: u32, length: usize) -> Option<u32> {
+    (w as u64 * h as u64 != length as u64).then_some(library::CANVAS_LENGTH)
+}
+
+impl Held {
+    /// Answer and buffers of one call, as they must be and as they are.
+    pub fn hold<B: PartialEq + Debug>(
+        &mut self,
+        call: &'static str,
+        by: Result<By, u32>,
+        wanted: B,
+        found: (u32, B),
+        asked: impl Fn() -> String,
+    ) {
+        let number = by.err().unwrap_or(library::DONE);
+        if found.0 != number || found.1 != wanted {
+            println!("DIFFERENT {call}: {}", asked());
+            let expected = format!("answer {number}, buffers {wanted:?}");
+            let found = format!("answer {}, buffers {:?}", found.0, found.1);
+            println!("expected: {expected}");
+            println!("found: {found}");
+            let same = expected.bytes().zip(found.bytes()).take_while(|(a, b)| a == b).count();
+            let part = |text: &str| text[same.saturating_sub(20)..(same + 20).min(text.len())].to_string();
+            println!("that is, where they part: '{}' expected, '{}' found", part(&expected), part(&found));
+            exit(1);
+        }
+        let counts = self.counts.entry(call).or_default();
+        match by {
+            Ok(By::Original) => counts.original += 1,
+            Ok(By::Reference) => counts.reference += 1,
+            Err(number) => {
+                counts.refused += 1;
+                *self.refused.entry(number).or_default() += 1;
+            }
+        }
+    }
+
+    /// A call that gives numbers, into the first `room` of a longer buffer. That this is too short comes
+    /// last, after 'nothing there'.
+    pub fn values<V: AsRef<[i32]>>(
+        &mut self,
+        call: &'static str,
+        room: usize,
+        wanted: Wanted<V>,
+        make: impl FnOnce(&mut [i32]) -> u32,
+        asked: impl Fn() -> String,
+    ) {
+        let mut out = [MARK; 24];
+        let answer = make(&mut out[..room]);
+        let mut all = [MARK; 24];
+        let wanted = wanted.and_then(|(values, by)| {
+            refused_or(&[too_short(values.as_ref().len(), room)])?;
+            Ok((values, by))
+        });
+        if let Ok((values, _)) = &wanted {
+            all[..values.as_ref().len()].copy_from_slice(values.as_ref());
+        }
+        let by = wanted.map(|(_, by)| by);
+        self.hold(call, by, all, (answer, out), || format!("{call} {}, out of {room}", asked()));
+    }
+
+    /// The original's value if it has one, else the reference's.
+    pub fn by<T>(
+        &mut self,
+        query: &'static str,
+        f: &Figure,
+        extra: i64,
+        original: impl FnOnce() -> T,
+        reference: impl FnOnce() -> T,
+        text: impl Fn() -> String,
+    ) -> (T, By) {
+        if f.kind != Kind::W3c {
+            match attempt(original) {
+                Ok(value) => return (value, By::Original),
+                Err(place) => self.panics.panicked(query, f, extra, place, text),
+            }
+        }
+        (reference(), By::Reference)
+    }
+
+    // ---- the calls, on any numbers ----
+
+    pub fn contains(&mut self, n: &[i32], x: i32, y: i32, room: usize) {
+        let (px, py) = (x as i64, y as i64);
+        let wanted = read_figure(n).ok_or(NO_RECORD).and_then(|f| {
+            refused_or(&[figure_refusal(&f), asked_refusal(px), asked_refusal(py)])?;
+            let text = || format!("contains {} {px} {py}", f.text());
+            let extra = px.abs() + py.abs();
+            let original = || Original.contains(&f, px, py);
+            let (inside, by) = self.by("contains", &f, extra, original, || Reference.contains(&f, px, py), text);
+            Ok(([inside as i32], by))
+        });
+        self.values("contains", room, wanted, |out| library::contains(n, x, y, out), || format!("{n:?} {x} {y}"));
+    }
+
+    pub fn row(&mut self, n: &[i32], y: i32, room: usize) {
+        let wanted = read_figure(n).ok_or(NO_RECORD).and_then(|f| {
+            refused_or(&[figure_refusal(&f), asked_refusal(y as i64)])?;
+            let text = || format!("row {} {y}", f.text());
+            let original = || Original.row(&f, y as i64);
+            let (run, by) = self.by("row", &f, 0, original, || Reference.row(&f, y as i64), text);
+            let (start, end) = run.ok_or(NOTHING)?;
+            Ok(([start as i32, end as i32], by))
+        });
+        self.values("row", room, wanted, |out| library::row(n, y, out), || format!("{n:?} {y}"));
+    }
+
+    /// A list so much longer than the pairs, or shorter.
+    pub fn points(&mut self, n: &[i32], spare: i64, room: usize) {
+        let mut pairs = Vec::new();
+        let mut length = spare.max(0) as usize;
+        let by = read_figure(n).ok_or(NO_RECORD).and_then(|f| {
+            refused_or(&[figure_refusal(&f)])?;
+            let text = || format!("points {}", f.text());
+            let (list, by) = self.by("points", &f, 0, || Original.points(&f), || Reference.points(&f), text);
+            length = (list.len() as i64 + spare).max(0) as usize;
+            refused_or(&[too_short(list.len(), length), too_short(1, room)])?;
+            pairs = list;
+            Ok(by)
+        });
+        let mut list = vec![MARK; length + 4];
+        let mut out = [MARK; 4];
+        let mut all = vec![MARK; length + 4];
+        let mut count = [MARK; 4];
+        let answer = library::points(n, &mut list[..length], &mut out[..room]);
+        if by.is_ok() {
+            all[..pairs.len()].copy_from_slice(&pairs);
+            count[0] = pairs.len() as i32 / 2;
+        }
+        let asked = || format!("{n:?}, list of {length}, out of {room}");
+        self.hold("points", by, (all, count), (answer, (list, out)), asked);
+    }
+
+    pub fn offset(&mut self, n: &[i32], k: i32, room: usize) {
+        let wanted = read_figure(n).ok_or(NO_RECORD).and_then(|f| {
+            refused_or(&[figure_refusal(&f), offset_refusal(k as i64)])?;
+            let text = || format!("offset {} {k}", f.text());
+            let original = || Original.offset(&f, k as i64);
+            let (figure, by) = self.by("offset", &f, 0, original, || Reference.offset(&f, k as i64), text);
+            Ok((given_figure(&figure), by))
+        });
+        self.values("offset", room, wanted, |out| library::offset(n, k, out), || format!("{n:?} {k}"));
+    }
+
+    pub fn confined_radii(&mut self, n: &[i32], room: usize) {
+        let wanted = read_figure(n).ok_or(NO_RECORD).and_then(|f| {
+            refused_or(&[figure_refusal(&f)])?;
+            let text = || format!("confine {}", f.text());
+            let (radii, by) = self.by("confine", &f, 0, || Original.confine(&f), || Reference.confine(&f), text);
+            Ok((radii_numbers(&radii.ok_or(NOTHING)?), by))
+        });
+        self.values("confined_radii", room, wanted, |out| library::confined_radii(n, out), || format!("{n:?}"));
+    }
+
+    pub fn ellipse_with_center(&mut self, x: i32, y: i32, width: u32, height: u32, room: usize) {
+        let (cx, cy, w, h) = (x as i64, y as i64, width as i64, height as i64);
+        let f = reference::with_center(cx, cy, w, h);
+        let wanted = refused_or(&[figure_refusal(&f)]).map(|()| {
+            let text = || format!("with_center {cx} {cy} {w} {h}");
+            let (f, by) = self.by("with_center", &f, 0, || Original.with_center(cx, cy, w, h), || f, text);
+            (given_figure(&f), by)
+        });
+        let make = |out: &mut [i32]| library::ellipse_with_center(x, y, width, height, out);
+        self.values("ellipse_with_center", room, wanted, make, || format!("{x} {y} {width} {height}"));
+    }
+
+    pub fn styled_row(&mut self, n: &[i32], s: &[i32], y: i32, room: usize) {
+        let wanted = read_figure(n).zip(read_style(s)).ok_or(NO_RECORD).and_then(|(f, s)| {
+            refused_or(&[figure_refusal(&f), asked_refusal(y as i64), style_refusal(&s)])?;
+            let text = || format!("srow {} {} {} {y}", f.text(), s.width, s.align);
+            let original = || Original.srow(&f, &s, y as i64);
+            let (runs, by) = self.by("srow", &f, s.width, original, || Reference.srow(&f, &s, y as i64), text);
+            Ok((runs.ok_or(NOTHING)?.map(|v| v as i32), by))
+        });
+        let make = |out: &mut [i32]| library::styled_row(n, s, y, out);
+        self.values("styled_row", room, wanted, make, || format!("{n:?} {s:?} {y}"));
+    }
+
+    pub fn styled_bounding_box(&mut self, n: &[i32], s: &[i32], room: usize) {
+        let wanted = read_figure(n).zip(read_style(s)).ok_or(NO_RECORD).and_then(|(f, s)| {
+            refused_or(&[figure_refusal(&f), style_refusal(&s)])?;
+            let text = || format!("bbox {} {} {}", f.text(), s.width, s.align);
+            let original = || Original.bbox(&f, &s);
+            let ((x, y, w, h), by) = self.by("bbox", &f, s.width, original, || Reference.bbox(&f, &s), text);
+            Ok(([x, y, w, h].map(|v| v as i32), by))
+        });
+        let make = |out: &mut [i32]| library::styled_bounding_box(n, s, out);
+        self.values("styled_bounding_box", room, wanted, make, || format!("{n:?} {s:?}"));
+    }
+
+    pub fn paint_figure(&mut self, n: &[i32], s: &[i32], width: u32, height: u32, length: usize) {
+        let (w, h) = (width as i64, height as i64);
+        let lent = first_lent(length as i64 + 8, 1, Some(101));
+        let mut all = lent.clone();
+        let by = read_figure(n).zip(read_style(s)).ok_or(NO_RECORD).and_then(|(f, s)| {
+            let lent_refusals = [canvas_refusal(w, h), wrong_length(width, height, length)];
+            refused_or(&[figure_refusal(&f), style_refusal(&s), lowest(&lent_refusals)])?;
+            let [stroke, fill, ..] = style_numbers(&s);
+            let text = || format!("paint {} {stroke} {fill} {} {} {w} {h}", f.text(), s.width, s.align);
+            let on = |by: &dyn Answers| {
+                let mut bytes = lent.clone();
+                by.paint(&f, &s, w, h, &mut bytes[..length]);
+                bytes
+            };
+            let (bytes, by) = self.by("paint", &f, s.width, || on(&Original), || on(&Reference), text);
+            all = bytes;
+            Ok(by)
+        });
+        let mut canvas = lent;
+        let answer = library::paint_figure(n, s, width, height, &mut canvas[..length]);
+        let asked = || format!("{n:?} {s:?} {width} {height}, canvas of {length} (byte i is 101 + 37 i)");
+        self.hold("paint_figure", by, all, (answer, canvas), asked);
+    }
+
+    /// A sheet opened in so many numbers, as the call left them.
+    pub fn sheet_open(&mut self, width: u32, height: u32, length: usize) -> Vec<i32> {
+        let by = refused_or(&[canvas_refusal(width as i64, height as i64), too_short(SHEET_LENGTH, length)]);
+        let mut sheet = vec![MARK; length + 4];
+        let mut all = sheet.clone();
+        let answer = library::sheet_open(width, height, &mut sheet[..length]);
+        if by.is_ok() {
+            all[..SHEET_LENGTH].copy_from_slice(&opened(width, height));
+        }
+        let asked = || format!("{width} {height}, sheet of {length}");
+        self.hold("sheet_open", by.map(|()| By::Reference), &all, (answer, &sheet), asked);
+        sheet.truncate(length);
+        sheet
+    }
+
+    /// A figure added to a sheet given by any numbers; the sheet is left as the call left it.
+    pub fn sheet_add(&mut self, sheet: &mut [i32], n: &[i32], s: &[i32]) -> u32 {
+        let before = sheet.to_vec();
+        let mut all = before.clone();
+        let records = read_sheet(&before).zip(read_figure(n).zip(read_style(s)));
+        let by = records.ok_or(NO_RECORD).and_then(|(record, (f, s))| {
+            let given = Sheet::given(record.w, record.h, record.count, &record.places);
+            let full = (record.count >= 16).then_some(library::SHEET_FULL);
+            let given_refusal = given.as_ref().err().copied();
+            refused_or(&[figure_refusal(&f), style_refusal(&s), given_refusal, full])?;
+            let mut given = given?;
+            let added = given.add(&f, &s);
+            assert_eq!(added, 0, "oracle: an add call that passed is refused");
+            let count = record.count as usize;
+            let at = place_of(count);
+            // as given, an ellipse's radii too
+            all[at..at + 13].copy_from_slice(n);
+            all[at + 13..at + 17].copy_from_slice(&style_numbers(&s));
+            all[at + 17] = given.next_row(count) as i32;
+            all[2] += 1;
+            Ok(By::Reference)
+        });
+        let answer = library::sheet_add(sheet, n, s);
+        self.hold("sheet_add", by, &all[..], (answer, &sheet[..]), || format!("{before:?} {n:?} {s:?}"));
+        answer
+    }
+
+    /// A layer painted on a sheet given by any numbers; sheet and canvas are left as the call left them.
+    pub fn sheet_paint(&mut self, sheet: &mut [i32], layer: u32, canvas: &mut [u8]) -> u32 {
+        let (before, lent) = (sheet.to_vec(), canvas.to_vec());
+        let (mut all, mut bytes) = (before.clone(), lent.clone());
+        let by = read_sheet(&before).ok_or(NO_RECORD).and_then(|record| {
+            let mut given = Sheet::given(record.w, record.h, record.count, &record.places)?;
+            refused_or(&[wrong_length(record.w as u32, record.h as u32, lent.len())])?;
+            match given.paint(layer as usize, &mut bytes) {
+                0 => all[place_of(layer as usize) + 17] = given.next_row(layer as usize) as i32,
+                number => return Err(number),
+            }
+            Ok(By::Reference)
+        });
+        let answer = library::sheet_paint(sheet, layer, canvas);
+        let asked = || format!("{before:?} {layer} {lent:?}");
+        self.hold("sheet_paint", by, (&all[..], &bytes[..]), (answer, (&sheet[..], &canvas[..])), asked);
+        answer
+    }
+
+    pub fn run_calls(&mut self, width: u32, height: u32, n: &[i32], lent: &[u8], room: usize) {
+        let (w, h) = (width as i64, height as i64);
+        let mut canvas = lent.to_vec();
+        let mut answers = vec![MARK as u32; room + 2];
+        let (mut bytes, mut all) = (lent.to_vec(), answers.clone());
+        let lent_refusals = [canvas_refusal(w, h), wrong_length(width, height, lent.len())];
+        let refusals = [lowest(&lent_refusals), too_short(n.len() / CALL_LENGTH, room)];
+        let by = refused_or(&refusals).and_then(|()| read_calls(n).ok_or(NO_RECORD)).map(|calls| {
+            let (said, painted) = reference::script(w, h, lent, &calls).expect("oracle: sheet and book agree");
+            all[..said.len()].copy_from_slice(&said);
+            bytes = painted;
+            By::Reference
+        });
+        let answer = library::run_calls(width, height, n, &mut canvas, &mut answers[..room]);
+        let asked = || format!("{width} {height} {n:?} {lent:?}, answers of {room}");
+        self.hold("run_calls", by, (bytes, all), (answer, (canvas, answers)), asked);
+    }
+
+    /// A buffer so much longer than the file, or shorter.
+    pub fn write_p5(&mut self, width: u32, height: u32, canvas: &[u8], spare: i64, room: usize) {
+        let mut file = format!("P5\n{width} {height}\n255\n").into_bytes();
+        file.extend_from_slice(canvas);
+        let length = (file.len() as i64 + spare).max(0) as usize;
+        let by = refused_or(&[
+            canvas_refusal(width as i64, height as i64),
+            wrong_length(width, height, canvas.len()),
+            too_short(file.len(), length),
+            too_short(1, room),
+        ]);
+        let mut buffer = vec![0x5a; length + 4];
+        let mut out = [MARK; 4];
+        let (mut all, mut count) = (buffer.clone(), out);
+        let answer = library::write_p5(width, height, canvas, &mut buffer[..length], &mut out[..room]);
+        if by.is_ok() {
+            all[..file.len()].copy_from_slice(&file);
+            count[0] = file.len() as i32;
+        }
+        let asked = || format!("{width} {height} {canvas:?}, file of {length}, out of {room}");
+        self.hold("write_p5", by.map(|()| By::Reference), (all, count), (answer, (buffer, out)), asked);
+    }
+
+    // ---- what is printed ----
+
+    pub fn print(&self) {
+        let mut sum = Counts::default();
+        println!("{:<20} {:>14} {:>14} {:>10}", "equal", "to the original", "the reference", "refused");
+        for (call, c) in &self.counts {
+            println!("{call:<20} {:>15} {:>14} {:>10}", c.original, c.reference, c.refused);
+            sum.original += c.original;
+            sum.reference += c.reference;
+            sum.refused += c.refused;
+        }
+        println!("{:<20} {:>15} {:>14} {:>10}", "all", sum.original, sum.reference, sum.refused);
+        println!("refused by number: {:?}", self.refused);
+        self.panics.print_panics();
+        let panics: u64 = self.panics.tallies.values().map(|t| t.panics).sum();
+        let all = sum.original + sum.reference + sum.refused;
+        println!("{all} comparisons equal, 0 different; {panics} panics of the original");
+    }
+}
+
+/// Refused by the lowest, or not.
+fn refused_or(refusals: &[Option<u32>]) -> Result<(), u32> {
+    lowest(refusals).map_or(Ok(()), Err)
+}

@@ -1,0 +1,521 @@
+//! `oracle scale [SEED [EFFORT [SECONDS]]]`: the library that C and Rust programs link, held against the
+//! original and the reference (held.rs) on millions of calls: exhaustive over small figures, random up to
+//! the limits and beyond. EFFORT is the number of random rounds, 400 the standard run; after SECONDS no other
+//! round is begun.
+
+use crate::{
+    compare::{self, crate_box, ellipse, painted, styles, Rng, Script},
+    findings,
+    held::{By, Held},
+    numbers::{call_numbers, figure_numbers, opened, place_of, style_numbers},
+    original::Original,
+    query::{first_lent, Answers, Figure, Kind, Style},
+    reference::{self, area, stroke_area, Book, Call, Reference},
+    wunqaber::{self as library, FIGURE_LENGTH, NOTHING, SHEET_LENGTH},
+};
+use std::time::Instant;
+
+impl Held {
+    // ---- whole figures within the limits ----
+
+    /// Every row, and one above and below.
+    fn rows(&mut self, f: &Figure) {
+        let n = figure_numbers(f);
+        let a = area(f, 0);
+        let reference = || a.rows().map(|y| a.row(y).map(|(start, end)| (y, start, end)).unwrap()).collect();
+        let text = || format!("row {} {}", f.text(), f.y + f.h - 1);
+        let (rows, by): (Vec<_>, By) = self.by("row", f, 0, || Original.rows(f), reference, text);
+        for y in f.y - 1..=f.y + f.h {
+            let row = rows.get((y - f.y) as usize).filter(|_| y >= f.y);
+            let wanted = row.map(|(_, start, end)| ([*start as i32, *end as i32], by)).ok_or(NOTHING);
+            self.values("row", 3, wanted, |out| library::row(&n, y as i32, out), || format!("{n:?} {y}"));
+        }
+    }
+
+    /// Every point of the rectangle and of a margin.
+    fn contains_all(&mut self, f: &Figure, margin: i64) {
+        let n = figure_numbers(f);
+        for y in f.y - margin..f.y + f.h + margin {
+            for x in f.x - margin..f.x + f.w + margin {
+                self.contains(&n, x as i32, y as i32, 1);
+            }
+        }
+    }
+
+    /// Every styled row, one above and below, and the styled bounding box.
+    fn styled(&mut self, f: &Figure, s: &Style) {
+        let (n, sn) = (figure_numbers(f), style_numbers(s));
+        self.styled_bounding_box(&n, &sn, 4);
+        let (stroke, fill) = (stroke_area(f, s), reference::fill_area(f, s));
+        let (top, bottom) = (stroke.top_left().1, stroke.top_left().1 + stroke.sides().1);
+        let reference = || {
+            let runs = |y| reference::styled_row(&stroke, &fill, y).map(|runs| (y, runs)).unwrap();
+            stroke.rows().map(runs).collect()
+        };
+        let text = || format!("srow {} {} {} {}", f.text(), s.width, s.align, bottom - 1);
+        let (rows, by): (Vec<_>, By) = self.by("srow", f, s.width, || Original.srows(f, s), reference, text);
+        for y in top - 1..=bottom {
+            let row = rows.get((y - top) as usize).filter(|_| y >= top);
+            let wanted = row.map(|(_, runs)| (runs.map(|v| v as i32), by)).ok_or(NOTHING);
+            let make = |out: &mut [i32]| library::styled_row(&n, &sn, y as i32, out);
+            self.values("styled_row", 7, wanted, make, || format!("{n:?} {sn:?} {y}"));
+        }
+    }
+
+    /// The first row. The original is not asked where it is known to fail (findings.rs, which `compare`
+    /// holds against it for every one of these figures).
+    fn first_row(&mut self, f: &Figure) {
+        let n = figure_numbers(f);
+        let a = area(f, 0);
+        let (row, by) = match findings::rows(&a) {
+            true => (a.row(f.y), By::Reference),
+            false => (Original.first_row(f).map(|(_, start, end)| (start, end)), By::Original),
+        };
+        let wanted = row.map(|(start, end)| ([start as i32, end as i32], by)).ok_or(NOTHING);
+        self.values("row", 2, wanted, |out| library::row(&n, f.y as i32, out), || format!("{n:?} {}", f.y));
+    }
+
+    fn paint(&mut self, f: &Figure, s: &Style, w: i64, h: i64) {
+        self.paint_figure(&figure_numbers(f), &style_numbers(s), w as u32, h as u32, (w * h) as usize);
+    }
+
+    /// All that is asked of a small figure: rows, tests, points, radii, every offset −8..8, every style,
+    /// paints.
+    fn small_figure(&mut self, f: &Figure) {
+        let n = figure_numbers(f);
+        self.rows(f);
+        self.contains_all(f, 2);
+        self.points(&n, 3, 1);
+        self.points(&n, -1, 2);
+        self.confined_radii(&n, 8);
+        for k in -8..=8 {
+            self.offset(&n, k, FIGURE_LENGTH);
+        }
+        for s in styles() {
+            self.styled(f, &s);
+            for s in painted(&s) {
+                self.paint(f, &s, 14, 13);
+            }
+        }
+    }
+
+    /// Less of it, with one offset and one style.
+    fn quick_figure(&mut self, f: &Figure, k: i32, s: &Style) {
+        let n = figure_numbers(f);
+        self.rows(f);
+        self.points(&n, 0, 1);
+        self.confined_radii(&n, 8);
+        self.offset(&n, k, FIGURE_LENGTH);
+        self.styled(f, s);
+    }
+
+    /// A box by the crate's rule and by the W3C's, with the at-th offset and style.
+    fn both_rules(&mut self, f: &Figure, at: usize, styles: &[Style]) {
+        for kind in [Kind::Crate, Kind::W3c] {
+            self.quick_figure(&Figure { kind, ..*f }, at as i32 % 9 - 4, &styles[at % styles.len()]);
+        }
+    }
+
+    // ---- sheets ----
+
+    /// A list of calls, one by one on a sheet and then as one list; the sheet as it stands in between
+    /// with one number changed; and the same when all is painted.
+    fn script(&mut self, mut script: Script, rng: &mut Rng) {
+        let (w, h) = (script.w as u32, script.h as u32);
+        let mut sheet = self.sheet_open(w, h, SHEET_LENGTH);
+        let mut canvas = script.lent.clone();
+        let mut done = 0;
+        self.calls(&script, &mut done, &mut sheet, &mut canvas);
+        for _ in 0..12 {
+            self.changed_sheet(&sheet, &canvas, rng);
+        }
+        while let Some(answer) = script.paint_earliest() {
+            assert_eq!(answer, 0, "oracle: the earliest figure with rows left is refused");
+        }
+        self.calls(&script, &mut done, &mut sheet, &mut canvas);
+        self.changed_sheet(&sheet, &canvas, rng);
+    }
+
+    /// The calls of a script that are not made yet, the answers those of the book; then the canvas by
+    /// the original's pixels, layer by layer; then all calls as one list.
+    fn calls(&mut self, script: &Script, done: &mut usize, sheet: &mut [i32], canvas: &mut [u8]) {
+        let (w, h) = (script.w as u32, script.h as u32);
+        for (call, noted) in script.calls.iter().zip(&script.answers).skip(*done) {
+            let answer = match call {
+                Call::Add(f, s) => self.sheet_add(sheet, &figure_numbers(f), &style_numbers(s)),
+                Call::Paint(layer) => self.sheet_paint(sheet, *layer as u32, canvas),
+            };
+            let asked = || format!("the book's answer to the last of {:?}", script.calls);
+            self.hold("sheet calls by book", Ok(By::Reference), *noted, (library::DONE, answer), asked);
+        }
+        *done = script.calls.len();
+        self.canvas_by_pixels(&script.book, script.w, script.h, &script.lent, canvas);
+        let numbers: Vec<i32> = script.calls.iter().flat_map(|c| call_numbers(c, -7)).collect();
+        self.run_calls(w, h, &numbers, &script.lent, script.calls.len());
+    }
+
+    /// The canvas of a sheet and as the book has it: the figures in the order of adding, of each the
+    /// original's pixels (the reference's for a W3C box, and where the original fails) on the rows that it
+    /// has painted.
+    fn canvas_by_pixels(&mut self, book: &Book, w: i64, h: i64, lent: &[u8], canvas: &[u8]) {
+        let mut bytes = lent.to_vec();
+        let mut all_by = By::Original;
+        for (i, (f, s)) in book.figures().enumerate() {
+            let on = |by: &dyn Answers| {
+                let mut whole = bytes.clone();
+                by.paint(f, s, w, h, &mut whole);
+                whole
+            };
+            let [stroke, fill, ..] = style_numbers(s);
+            let text = || format!("paint {} {stroke} {fill} {} {} {w} {h}", f.text(), s.width, s.align);
+            let (whole, by) = self.by("paint", f, s.width, || on(&Original), || on(&Reference), text);
+            if by == By::Reference {
+                all_by = by;
+            }
+            let seen = book.painted(i);
+            for y in seen.start.max(0)..seen.end.min(h) {
+                let row = (y * w) as usize..(y * w + w) as usize;
+                bytes[row.clone()].copy_from_slice(&whole[row]);
+            }
+        }
+        let asked = || format!("canvas {w} {h} {lent:?} painted with {:?}", book.figures().collect::<Vec<_>>());
+        self.hold("canvas by pixels", Ok(all_by), &bytes[..], (library::DONE, canvas), asked);
+    }
+
+    /// A sheet with one of its numbers changed, or its length: added to, and painted.
+    fn changed_sheet(&mut self, sheet: &[i32], canvas: &[u8], rng: &mut Rng) {
+        let mut changed = sheet.to_vec();
+        let used = place_of(sheet[2].max(1) as usize) as i64;
+        let at = match rng.within(0, 6) {
+            0 => rng.within(0, 2),
+            1 => rng.within(0, SHEET_LENGTH as i64 - 1),
+            // a next row
+            2 | 3 => place_of(rng.within(0, sheet[2].max(1) as i64 - 1) as usize) as i64 + 17,
+            _ => rng.within(3, used - 1),
+        } as usize;
+        changed[at] = if rng.within(0, 1) == 0 { odd(rng) } else { changed[at].wrapping_add(rng.within(-3, 3) as i32) };
+        match rng.within(0, 40) {
+            0 => changed.truncate(SHEET_LENGTH - 1),
+            1 => changed.push(0),
+            _ => {}
+        }
+        self.given_sheet(&changed, canvas, rng);
+    }
+
+    fn given_sheet(&mut self, sheet: &[i32], canvas: &[u8], rng: &mut Rng) {
+        let (f, s) = rng.layer(true);
+        self.sheet_add(&mut sheet.to_vec(), &figure_numbers(&f), &style_numbers(&s));
+        let layer = if rng.within(0, 9) == 0 { odd(rng) } else { rng.within(0, 7) as i32 };
+        self.sheet_paint(&mut sheet.to_vec(), layer as u32, &mut canvas.to_vec());
+    }
+}
+
+/// At limits, one past them, and at the type's ends.
+#[rustfmt::skip]
+const LIMITS: [i64; 30] = [
+    -8193, -8192, -4097, -4096, -257, -256, -2, -1, 0, 1, 2, 3, 4, 15, 16, 17, 255, 256, 257, 1023, 1024, 1025, 4095,
+    4096, 4097, 8192, 8193, i32::MAX as i64, i32::MIN as i64, i32::MIN as i64 + 1,
+];
+
+/// One of these, or any number.
+fn odd(rng: &mut Rng) -> i32 {
+    let v = match rng.within(0, 5) {
+        0 => rng.within(i32::MIN as i64, i32::MAX as i64),
+        1 => rng.within(-20, 20),
+        2 => rng.within(-9000, 9000),
+        _ => rng.of(&LIMITS),
+    };
+    v as i32
+}
+
+/// A figure up to the limits, of any kind.
+fn any_figure(rng: &mut Rng) -> Figure {
+    let f = rng.figure(7);
+    match f.kind {
+        Kind::Crate if rng.within(0, 2) == 0 => Figure { kind: Kind::W3c, ..f },
+        _ => f,
+    }
+}
+
+/// Numbers with some changed, and now and then one too few or too many.
+fn spoilt(rng: &mut Rng, numbers: &[i32]) -> Vec<i32> {
+    let mut n = numbers.to_vec();
+    for _ in 0..rng.of(&[0, 0, 1, 1, 1, 2, 3]) {
+        let at = rng.within(0, n.len() as i64 - 1) as usize;
+        n[at] = odd(rng);
+    }
+    match rng.within(0, 60) {
+        0 => n.truncate(n.len() - 1),
+        1 => n.push(0),
+        2 => n.clear(),
+        _ => {}
+    }
+    n
+}
+
+/// Mostly a length that does, else one too short or none at all.
+fn some_room(rng: &mut Rng, needed: i64) -> usize {
+    rng.of(&[needed, needed, needed, needed + 1, 20, needed - 1, 0]) as usize
+}
+
+/// Every call on numbers that may be beyond the limits or no record.
+fn any_numbers(r: &mut Held, rng: &mut Rng) {
+    let f = figure_numbers(&any_figure(rng));
+    let s = style_numbers(&rng.style());
+    let (n, s) = (spoilt(rng, &f), spoilt(rng, &s));
+    let near = |rng: &mut Rng, at: usize| match rng.within(0, 2) {
+        0 => odd(rng),
+        _ => rng.near(f[at] as i64, f[at + 2] as i64) as i32,
+    };
+    let (x, y, k) = (near(rng, 1), near(rng, 2), odd(rng));
+    r.contains(&n, x, y, some_room(rng, 1));
+    r.row(&n, y, some_room(rng, 2));
+    r.offset(&n, k, some_room(rng, 13));
+    r.offset(&n, rng.within(-256, 256) as i32, some_room(rng, 5));
+    r.confined_radii(&n, some_room(rng, 8));
+    r.ellipse_with_center(x, y, side(rng), side(rng), some_room(rng, 5));
+    r.styled_row(&n, &s, y, some_room(rng, 6));
+    r.styled_bounding_box(&n, &s, some_room(rng, 4));
+}
+
+/// A side that need not be one.
+fn side(rng: &mut Rng) -> u32 {
+    match rng.within(0, 3) {
+        0 => odd(rng) as u32,
+        _ => rng.side() as u32,
+    }
+}
+
+/// A canvas side and length that need not fit.
+fn any_canvas(rng: &mut Rng) -> (u32, u32, usize) {
+    let one = |rng: &mut Rng| match rng.within(0, 9) {
+        0 => rng.of(&[0, 1024, 1025, u32::MAX as i64, 1 << 31, 1 << 16]) as u32,
+        _ => rng.within(1, 40) as u32,
+    };
+    let (w, h) = (one(rng), one(rng));
+    let fits = (w as u64 * h as u64).min(1 << 20) as i64;
+    let length = match rng.within(0, 9) {
+        0 => rng.of(&[0, fits - 1, fits + 1, 7]).max(0),
+        _ => fits,
+    };
+    (w, h, length as usize)
+}
+
+/// Canvases, sheets, lists and files that may be refused.
+fn any_buffers(r: &mut Held, rng: &mut Rng) {
+    let (w, h, length) = any_canvas(rng);
+    let f = Figure { x: rng.within(-30, 40), y: rng.within(-30, 40), ..any_figure(rng) };
+    let (n, s) = (spoilt(rng, &figure_numbers(&f)), style_numbers(&rng.style()));
+    let s = spoilt(rng, &s);
+    r.paint_figure(&n, &s, w, h, length);
+    r.sheet_open(w, h, rng.of(&[291, 291, 292, 290, 0, 400]) as usize);
+    let seed = rng.within(0, 255);
+    let canvas = first_lent(length as i64, 1, Some(seed));
+    r.write_p5(w, h, &canvas, rng.of(&[0, 0, 0, 5, -1, -20]), some_room(rng, 1).min(4));
+    let small = match rng.within(0, 2) {
+        0 => figure_numbers(&rng.small_box()),
+        1 => figure_numbers(&rng.narrow_box(seed as u64)),
+        _ => figure_numbers(&ellipse(rng.within(-9, 9), 0, rng.within(0, 40), rng.within(0, 40))),
+    };
+    let small = spoilt(rng, &small);
+    r.points(&small, rng.of(&[0, 0, 3, -1, -2, -9999]), some_room(rng, 1).min(4));
+    let script = rng.script(seed as u64);
+    let mut numbers: Vec<i32> = script.calls.iter().flat_map(|c| call_numbers(c, odd(rng))).collect();
+    for _ in 0..rng.of(&[0, 1, 1, 2]) {
+        if !numbers.is_empty() {
+            let at = rng.within(0, numbers.len() as i64 - 1) as usize;
+            numbers[at] = odd(rng);
+        }
+    }
+    if rng.within(0, 9) == 0 {
+        numbers.truncate(rng.within(0, numbers.len() as i64) as usize);
+    }
+    let room = script.calls.len() + rng.of(&[0, 0, 0, 2]) as usize;
+    let room = if rng.within(0, 9) == 0 { rng.within(0, room as i64) as usize } else { room };
+    match rng.within(0, 4) {
+        0 => r.run_calls(w, h, &numbers, &canvas, room),
+        _ => r.run_calls(script.w as u32, script.h as u32, &numbers, &script.lent, room),
+    }
+}
+
+/// A sheet with 16 layers, some rows of them painted, and each of its numbers changed to each limit.
+fn each_number_of_a_sheet(r: &mut Held, rng: &mut Rng) {
+    let mut sheet = opened(20, 20).to_vec();
+    let mut canvas = first_lent(20, 20, Some(3));
+    for i in 0..16 {
+        let f = match i % 3 {
+            0 => ellipse(i, i, 7, 5),
+            1 => crate_box(i - 4, 12 - i, 6, 8, [(2, 3); 4]),
+            _ => Figure { kind: Kind::W3c, ..crate_box(3, i, 9, 4, [(1, 1), (2, 2), (9, 9), (0, 0)]) },
+        };
+        let style = Style { stroke: Some(i as u8), fill: (i % 2 == 0).then_some(200), width: i % 4, align: i % 3 };
+        r.sheet_add(&mut sheet, &figure_numbers(&f), &style_numbers(&style));
+    }
+    for _ in 0..60 {
+        r.sheet_paint(&mut sheet, rng.within(0, 15) as u32, &mut canvas);
+    }
+    for count in [16, 7] {
+        sheet[2] = count;
+        for at in 0..SHEET_LENGTH {
+            for limit in LIMITS {
+                let mut changed = sheet.clone();
+                changed[at] = limit as i32;
+                r.given_sheet(&changed, &canvas, rng);
+            }
+        }
+    }
+}
+
+/// Figures up to the limits.
+fn large(r: &mut Held, rng: &mut Rng, n: u64) {
+    let f = any_figure(rng);
+    let s = rng.style();
+    let numbers = figure_numbers(&f);
+    r.rows(&f);
+    r.confined_radii(&numbers, 8);
+    r.styled(&f, &s);
+    for k in [rng.within(-256, 256), rng.within(-6, 6), 256, -256] {
+        r.offset(&numbers, k as i32, FIGURE_LENGTH);
+    }
+    for _ in 0..24 {
+        r.contains(&numbers, rng.near(f.x, f.w) as i32, rng.near(f.y, f.h) as i32, 1);
+    }
+    if n % 8 == 0 {
+        r.points(&numbers, rng.of(&[0, 1, -1]), 1);
+    }
+    if n % 2 == 1 {
+        let (w, h) = if n % 32 == 1 { (1024, rng.within(1, 1024)) } else { (rng.within(1, 90), rng.within(1, 90)) };
+        // so that the canvas shows some of it
+        let seen = Figure { x: rng.within(-f.w, w).max(-4096), y: rng.within(-f.h, h).max(-4096), ..f };
+        r.paint(&seen, &s, w, h);
+    }
+}
+
+/// A sheet with a few figures up to the limits, painted to the end in random order.
+fn large_sheet(r: &mut Held, rng: &mut Rng) {
+    let (w, h) = (rng.within(1, 300), rng.within(1, 200));
+    let mut sheet = opened(w as u32, h as u32).to_vec();
+    let mut book = Book::open();
+    let lent = first_lent(w, h, Some(77));
+    let mut canvas = lent.clone();
+    for _ in 0..3 {
+        let f = any_figure(rng);
+        let f = Figure { x: rng.within(-f.w, w), y: rng.within(-f.h, h), ..f };
+        let s = rng.style();
+        let answer = r.sheet_add(&mut sheet, &figure_numbers(&f), &style_numbers(&s));
+        assert_eq!(answer, book.call(&Call::Add(f, s)), "a figure within the limits is added");
+    }
+    while book.earliest().is_some() {
+        // some rows of one layer after another
+        let layer = rng.within(0, 2) as usize;
+        for _ in 0..rng.within(1, 40) {
+            let answer = r.sheet_paint(&mut sheet, layer as u32, &mut canvas);
+            let noted = book.call(&Call::Paint(layer));
+            r.hold("sheet calls by book", Ok(By::Reference), noted, (library::DONE, answer), || {
+                format!("layer {layer} of {sheet:?}")
+            });
+        }
+    }
+    r.canvas_by_pixels(&book, w, h, &lent, &canvas);
+}
+
+/// One round of the random parts.
+fn round(r: &mut Held, rng: &mut Rng, at: u64) {
+    for n in 0..150 {
+        let (f, s) = (rng.small_box(), rng.small_style(4));
+        for f in [f, Figure { kind: Kind::W3c, ..f }] {
+            r.quick_figure(&f, rng.within(-8, 8) as i32, &s);
+            r.paint(&f, &s, 12, 11);
+            if n % 4 == 0 {
+                r.contains_all(&f, 1);
+            }
+        }
+    }
+    for n in 0..20 {
+        let (f, s) = (rng.narrow_box(n), rng.small_style(5));
+        for f in [f, Figure { kind: Kind::W3c, ..f }] {
+            r.quick_figure(&f, rng.within(-8, 8) as i32, &s);
+            r.paint(&f, &s, 30, 40);
+            if n % 4 < 2 {
+                r.contains_all(&f, 0);
+            }
+        }
+    }
+    for _ in 0..300 {
+        let f = figure_numbers(&any_figure(rng));
+        r.confined_radii(&f, 8);
+        r.offset(&f, rng.within(-256, 256) as i32, FIGURE_LENGTH);
+        r.ellipse_with_center(rng.within(-5000, 5000) as i32, rng.within(-20, 20) as i32, side(rng), side(rng), 5);
+    }
+    for n in 0..16 {
+        large(r, rng, 16 * at + n);
+    }
+    for _ in 0..300 {
+        any_numbers(r, rng);
+    }
+    for _ in 0..40 {
+        any_buffers(r, rng);
+    }
+    for n in 0..10 {
+        let script = rng.script(10 * at + n);
+        r.script(script, rng);
+    }
+    if at % 4 == 0 {
+        large_sheet(r, rng);
+    }
+}
+
+pub fn run(seed: u64, effort: u64, seconds: u64) {
+    let start = Instant::now();
+    let mut r = Held::default();
+    let mut rng = Rng(seed);
+    let mut part = |name: &str, run: &mut dyn FnMut(&mut Held)| {
+        let at = Instant::now();
+        run(&mut r);
+        println!("[{:6.1} s] {name}: {:.1} s", start.elapsed().as_secs_f64(), at.elapsed().as_secs_f64());
+    };
+    let styles = styles();
+    part("ellipses, sides 0..12, all styles", &mut |r| compare::small_ellipses(|f| r.small_figure(f)));
+    part("boxes, sides 0..12, equal corners 0..6, all styles", &mut |r| {
+        compare::small_equal_boxes(|f| r.small_figure(f))
+    });
+    part("boxes, sides 0..12, equal corners 0..6, both rules", &mut |r| {
+        let mut at = 0;
+        compare::small_equal_boxes(|f| {
+            at += 1;
+            r.both_rules(f, at, &styles);
+        })
+    });
+    part("boxes, sides 0..4, all radii 0..2, both rules", &mut |r| {
+        let mut at = 0;
+        compare::tiny_boxes(|f| {
+            at += 1;
+            r.both_rules(f, at, &styles);
+        })
+    });
+    part("boxes, sides 0..12, any two corners 0..6, both rules, every 13th", &mut |r| {
+        compare::small_pairs(|at, f| {
+            if at % 13 == 0 {
+                r.both_rules(f, at / 13, &styles);
+            }
+        })
+    });
+    part("first row of all ellipse sizes and of all top-left corners", &mut |r| {
+        for w in 0..=reference::MAX_SIDE {
+            for h in 0..=reference::MAX_SIDE {
+                r.first_row(&ellipse(-7, 11, w, h));
+                r.first_row(&crate_box(3, -5, w, h, [(w, h), (0, 0), (0, 0), (0, 0)]));
+            }
+        }
+    });
+    part("a sheet, each of its numbers at each limit", &mut |r| each_number_of_a_sheet(r, &mut rng));
+    let mut rounds = 0;
+    part("random rounds", &mut |r| {
+        while rounds < effort && start.elapsed().as_secs() < seconds {
+            round(r, &mut rng, rounds);
+            rounds += 1;
+        }
+    });
+    println!("seed {seed}, {rounds} random rounds of {effort}");
+    r.print();
+}

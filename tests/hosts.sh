@@ -1,0 +1,81 @@
+#!/bin/sh
+# The library that hosts link: the page of `cafe` drawn from C and from Rust, every call of the header once accepted and once for
+# each refusal, and the comparison at scale with the original Rust and the reference.
+#
+#   sh tests/hosts.sh [LIBRARY]      LIBRARY, or $WUNQABER_LIBRARY: a library built before, and not `rt staticlib exports`
+#
+# Without rustc the C programs are run all the same, and a line says what is skipped. Without the original's source (oracle/build.sh
+# says where it is looked for) the comparison alone is skipped.
+set -eu
+root=$(cd "$(dirname "$0")/.." && pwd)
+library=${1:-${WUNQABER_LIBRARY:-}}
+source=${EG_SOURCE:-$root/../shared/docs/src}
+cc=${CC:-cc}
+cxx=${CXX:-c++}
+# What the random rounds of the comparison may take, and when it is ended.
+seconds=90
+limit=150
+
+work=$(mktemp -d)
+trap 'rm -rf "$work"' EXIT
+fail() {
+    echo "hosts.sh: $1" >&2
+    exit 1
+}
+# Runs a command, and shows the end of what it says only if it fails.
+quietly() { # what fails, the command
+    what=$1
+    shift
+    "$@" > "$work/log" 2>&1 || {
+        tail -n 20 "$work/log" >&2
+        fail "$what"
+    }
+}
+
+if [ -z "$library" ]; then
+    quietly 'exports is not proved, or its library is not built' sh -c 'cd "$1" && rt staticlib exports' sh "$root"
+    library=$root/target/staticlib/libexports.a
+fi
+[ -f "$library" ] || fail "there is no library '$library'"
+
+page_is_right() { # the program
+    "$work/$1" > "$work/$1.pgm" || fail "$1 ended with status $?"
+    cmp "$work/$1.pgm" "$root/crates/cafe/stdout" >&2 || fail "$1: its page differs from crates/cafe/stdout"
+    echo "hosts.sh: $1: its page equals the one of cafe"
+}
+
+command -v "$cc" > /dev/null || fail "there is no C compiler '$cc'"
+for program in page refusals; do
+    quietly "hosts/$program.c is not compiled" "$cc" -std=c99 -Wall -Wextra -Werror -pedantic -O1 -I"$root/include" \
+        -o "$work/$program" "$root/hosts/$program.c" "$library"
+done
+page_is_right page
+"$work/refusals" > "$work/log" || fail 'refusals found an answer or a buffer that is not as the header says'
+echo "hosts.sh: $(cat "$work/log")"
+if command -v "$cxx" > /dev/null; then
+    echo '#include "wunqaber.h"' > "$work/header.cc"
+    quietly 'include/wunqaber.h is not compiled as C++' "$cxx" -Wall -Wextra -Werror -pedantic -fsyntax-only -I"$root/include" "$work/header.cc"
+fi
+
+if ! command -v rustc > /dev/null; then
+    echo 'hosts.sh: skipped, there is no rustc: the page from Rust and the comparison at scale'
+    exit 0
+fi
+quietly 'hosts/page.rs is not compiled' rustc --edition 2021 -D warnings -O -C "link-arg=$library" -o "$work/page_rs" "$root/hosts/page.rs"
+page_is_right page_rs
+
+if [ ! -f "$source/src/primitives/mod.rs" ]; then
+    echo 'hosts.sh: skipped, there is no source of the original: the comparison at scale'
+    exit 0
+fi
+LIBRARY=$library quietly 'the oracle is not built' sh "$root/oracle/build.sh" "$source" "$work/build"
+status=0
+timeout "$limit" "$work/build/oracle" scale 1 400 "$seconds" > "$work/scale" || status=$?
+if [ "$status" = 124 ]; then
+    fail "the comparison at scale did not end within $limit seconds"
+elif [ "$status" != 0 ]; then
+    tail -n 4 "$work/scale" >&2
+    fail 'the comparison at scale found a difference'
+fi
+sed -n '/^equal/,/^refused/p' "$work/scale"
+echo "hosts.sh: $(tail -n 1 "$work/scale")"
