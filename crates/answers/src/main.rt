@@ -1,99 +1,59 @@
 // Reads queries as text from standard input, one a line, and writes an answer a line: docs/ANSWERS.md
 // has the format. It streams: a line of at most 4,096 bytes, its tokens, a part of the input and a
 // part of the output are all that is held, 28,672 bytes, and a query lends 36,864 more at most.
+use answer_records::NO_QUERY;
 use answer_text::put_byte;
 use answer_text::put_text;
 use libc::STDIN_FILENO;
-use line_numbers::is_name;
 
 // The place in the output that stands for the input's end; the output has fewer.
 const ENDED: usize = 1000000;
 
-// Queries that lend a list, a canvas or a file.
-fn canvas_query(word: &[u8], tokens: &[u64], out: &mut [u8], at: usize) -> usize {
-    if is_name(word, b"points") {
-        return canvas_answers::points(tokens, false, out, at);
+// Queries that need a sheet or a file.
+fn sheet_query(word: &[u8], tokens: &[u64], out: &mut [u8], at: usize) -> usize {
+    let sheet = sheet_answers::answer(word, tokens, out, at);
+    if sheet != NO_QUERY {
+        return sheet;
     }
-    if is_name(word, b"pointsfull") {
-        return canvas_answers::points(tokens, true, out, at);
+    let script = script_answers::answer(word, tokens, out, at);
+    if script != NO_QUERY {
+        return script;
     }
-    if is_name(word, b"paint") {
-        return canvas_answers::paint(tokens, false, out, at);
-    }
-    if is_name(word, b"paintfull") {
-        return canvas_answers::paint(tokens, true, out, at);
-    }
-    if is_name(word, b"script") {
-        return canvas_answers::script(tokens, out, at);
-    }
-    if is_name(word, b"open") {
-        return canvas_answers::open(tokens, out, at);
-    }
-    if is_name(word, b"add") {
-        return canvas_answers::add(tokens, out, at);
-    }
-    if is_name(word, b"spaint") {
-        return canvas_answers::sheet_paint(tokens, out, at);
-    }
-    if is_name(word, b"p5") {
-        return canvas_answers::p5(tokens, false, out, at);
-    }
-    if is_name(word, b"p5full") {
-        return canvas_answers::p5(tokens, true, out, at);
+    let file = file_answers::answer(word, tokens, out, at);
+    if file != NO_QUERY {
+        return file;
     }
     put_text(out, at, b"error there is no such query")
 }
 
-// Queries on rectangles, runs and styles.
-fn rectangle_query(word: &[u8], tokens: &[u64], out: &mut [u8], at: usize) -> usize {
-    if is_name(word, b"center") {
-        return figure_answers::center(tokens, out, at);
+// Queries on styled figures, and those that list or paint a figure.
+fn styled_query(word: &[u8], tokens: &[u64], out: &mut [u8], at: usize) -> usize {
+    let styled = styled_answers::answer(word, tokens, out, at);
+    if styled != NO_QUERY {
+        return styled;
     }
-    if is_name(word, b"withcenter") {
-        return figure_answers::with_center(tokens, out, at);
+    let points = points_answers::answer(word, tokens, out, at);
+    if points != NO_QUERY {
+        return points;
     }
-    if is_name(word, b"rows") {
-        return figure_answers::rows(tokens, out, at);
+    let paint = paint_answers::answer(word, tokens, out, at);
+    if paint != NO_QUERY {
+        return paint;
     }
-    if is_name(word, b"columns") {
-        return figure_answers::columns(tokens, out, at);
-    }
-    if is_name(word, b"roffset") {
-        return figure_answers::rectangle_offset(tokens, out, at);
-    }
-    if is_name(word, b"range") {
-        return figure_answers::range(tokens, out, at);
-    }
-    if is_name(word, b"widths") {
-        return figure_answers::widths(tokens, out, at);
-    }
-    canvas_query(word, tokens, out, at)
+    sheet_query(word, tokens, out, at)
 }
 
-// Queries on figures.
+// The answer to a query: the crates of answers are asked in turn.
 fn query(word: &[u8], tokens: &[u64], out: &mut [u8], at: usize) -> usize {
-    if is_name(word, b"contains") {
-        return figure_answers::contains(tokens, out, at);
+    let rectangle = rectangle_answers::answer(word, tokens, out, at);
+    if rectangle != NO_QUERY {
+        return rectangle;
     }
-    if is_name(word, b"row") {
-        return figure_answers::row(tokens, out, at);
+    let figure = figure_answers::answer(word, tokens, out, at);
+    if figure != NO_QUERY {
+        return figure;
     }
-    if is_name(word, b"offset") {
-        return figure_answers::offset(tokens, out, at);
-    }
-    if is_name(word, b"confine") {
-        return figure_answers::confine(tokens, out, at);
-    }
-    if is_name(word, b"srow") {
-        return figure_answers::srow(tokens, out, at);
-    }
-    if is_name(word, b"bbox") {
-        return figure_answers::bbox(tokens, out, at);
-    }
-    if is_name(word, b"ellipsecenter") {
-        return figure_answers::ellipse_center(tokens, out, at);
-    }
-    rectangle_query(word, tokens, out, at)
+    styled_query(word, tokens, out, at)
 }
 
 // The answer to a line, with its line end.

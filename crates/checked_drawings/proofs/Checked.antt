@@ -7,7 +7,8 @@ use Rattle.scanline.specs.Columns.{firstColumn, lastColumn}
 use Rattle.scanline.specs.Points.{runPoints, pointsFrom, entries}
 use Rattle.ellipse.specs.Ellipse.{center2x, fromCenter2x, threshold, inside, insideAbout}
 use Rattle.ellipse_points.specs.EllipsePoints.{scanline, hasRows, row as Ellipse·row, rowCount}
-use Rattle.corner.specs.Corner.{offsetRadius, offsetCorner, scaledCorner, overlap, furtherOver, tighter, someOver}
+use Rattle.edge.specs.Edge.{overlap, furtherOver, tighter, someOver}
+use Rattle.corner.specs.Corner.{offsetRadius, offsetCorner, scaledCorner}
 use Rattle.corner_radii.specs.CornerRadii.{offset as CornerRadii·offset, scaled, reduced, confine, confineW3c}
 use Rattle.rounded_rectangle.specs.Quadrants.{insideTopLeft, insideTopRight, insideBottomRight, insideBottomLeft}
 use Rattle.rounded_rectangle.specs.RoundedRectangle.{contains, runStart, runEnd, row}

@@ -12,8 +12,9 @@ use Rattle.signed.specs.Signed.{Near}
 use Rattle.geometry.specs.declared.Size.{Size}
 use Rattle.geometry.specs.Bounds.{SizeUpTo}
 use Rattle.corner_radii.specs.declared.CornerRadii.{CornerRadii}
-use Rattle.corner.specs.declared.Edge.{Edge}
-use Rattle.corner.specs.Corner.{S, L, offsetRadius, offsetCorner, over, scaledCorner, mostOver, tightest}
+use Rattle.edge.specs.declared.Edge.{Edge}
+use Rattle.edge.specs.Edge.{S, L, over, mostOver, tightest}
+use Rattle.corner.specs.Corner.{offsetRadius, offsetCorner, scaledCorner}
 use Rattle.corner.proofs.Offset.{offset-radius-by-parts}
 use Rattle.corner_radii.specs.Bounds.{RadiiUpTo, SizeWithin, RadiiWithin}
 use Rattle.corner_radii.specs.CornerRadii.{equalRadii, eachCorner, offset, edges, scaled, reduced, confine, confineW3c}

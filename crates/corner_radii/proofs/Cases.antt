@@ -9,9 +9,10 @@ use Rattle.geometry.specs.declared.Size.{Size}
 use Rattle.refusal.specs.declared.Refusal.the-variants.{Radius}
 use Rattle.refusal.specs.declared.Checked.the-variants.{Passed, Refused}
 use Rattle.corner_radii.specs.declared.CornerRadii.{CornerRadii}
-use Rattle.corner.specs.declared.Edge.{Edge}
-use Rattle.corner.specs.declared.Edges.{Edges}
-use Rattle.corner.specs.Corner.{offsetRadius, offsetCorner, overlap, furtherOver, mostOver, tighter, tightest, someOver, scaledCorner}
+use Rattle.edge.specs.declared.Edge.{Edge}
+use Rattle.edge.specs.declared.Edges.{Edges}
+use Rattle.edge.specs.Edge.{overlap, furtherOver, mostOver, tighter, tightest, someOver}
+use Rattle.corner.specs.Corner.{offsetRadius, offsetCorner, scaledCorner}
 use Rattle.corner_radii.specs.CornerRadii.{equalRadii, radiusCheck, radiiCheck, offset, reduced, confine, scaled, confineW3c}
 
 abbrev size : ℕ → ℕ → Size

@@ -9,9 +9,10 @@ use Rattle.refusal.specs.declared.Refusal.the-variants.{Radius}
 use Rattle.refusal.specs.declared.Checked.{Checked}
 use Rattle.geometry.specs.Limits.{maxRadius}
 use Rattle.refusal.specs.Refusal.{refuseIf, orElse, above}
-use Rattle.corner.specs.declared.Edge.{Edge}
-use Rattle.corner.specs.declared.Edges.{Edges}
-use Rattle.corner.specs.Corner.{offsetCorner, over, scaledCorner, mostOver, tightest, someOver}
+use Rattle.edge.specs.declared.Edge.{Edge}
+use Rattle.edge.specs.declared.Edges.{Edges}
+use Rattle.edge.specs.Edge.{over, mostOver, tightest, someOver}
+use Rattle.corner.specs.Corner.{offsetCorner, scaledCorner}
 use Rattle.corner_radii.specs.declared.CornerRadii.{CornerRadii}
 
 -- one change made at each corner

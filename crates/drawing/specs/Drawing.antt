@@ -10,15 +10,14 @@ use Rattle.refusal.specs.declared.Checked.the-variants as checked
 use Rattle.geometry.specs.Limits.{maxCanvasSide}
 use Rattle.geometry.specs.Limits.{maxLayers as Limits·maxLayers}
 use Rattle.refusal.specs.Refusal.{number, orElse}
-use Rattle.scanline.specs.declared.StyledRow.{StyledRow}
 use Rattle.figure.specs.declared.Figure.{Figure}
 use Rattle.figure.specs.Calls.{figureCheck}
 use Rattle.style.specs.declared.Style.{Style}
 use Rattle.style.specs.Style.{styleCheck}
 use Rattle.styled.specs.Styled.{styledRow}
-use Rattle.book.specs.Sheet.{withRow}
 use Rattle.book.specs.Book.{Answer, accepted, refused, Drawing}
 use Rattle.canvas.specs.Canvas.{overpaint}
+pub use Rattle.canvas_row.specs.CanvasRow.{paintBy}
 use Rattle.canvas.proofs.Overpaint.{overpaint-length}
 use Rattle.drawing.specs.Rows.{strokeRows}
 
@@ -43,10 +42,6 @@ answerOf (checked.Refused refusal) = refused (number refusal)
 -- a canvas row overpainted by the styled row at y ('The book')
 unfoldable pub overpaintBy : StyledFigure → ℤ → List ℕ → List ℕ
 overpaintBy item y row = overpaint (item .style) (styledRow (item .figure) (item .style) y) row
-
--- a canvas with its row y, if it has that row, overpainted by the styled row there of any figure, given by its rows
-abbrev pub paintBy : (ℤ → StyledRow) → Style → ℕ → ℕ → ℤ → List ℕ → List ℕ
-paintBy rowAt style W H y canvas = withRow (λ y row. overpaint style (rowAt y) row) W H y canvas
 
 -- it sets bytes in place
 pub overpaint-by-length : (item : StyledFigure) (y : ℤ) (row : List ℕ) → length (overpaintBy item y row) ≡ length row

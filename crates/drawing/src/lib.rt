@@ -1,11 +1,11 @@
 // What a canvas call has to know of a figure with its style: whether the two are within limits, which
 // rows it has, and one of its rows painted on a canvas. The one-call painting and the sheet stand on
 // this; `specs/Drawing.antt` puts it into the book of demand 3.
+pub use canvas_row::paint_row_on;
 use canvas_size::CanvasSize;
 use figure::Figure;
 use rectangle::Rectangle;
 use refusal::Checked;
-use scanline::StyledRow;
 use style::Style;
 ghost use mathlib.Core.Path.{_≡_};
 ghost use Prim.Native.Nat.{_*_, _≤_};
@@ -17,7 +17,7 @@ ghost use Rattle.corner.specs.Bounds.{wideStrokeSide};
 ghost use Rattle.figure.specs.Bounds.{wideOffset, wideAreaPosition, OwnRectangle, OwnFigure};
 ghost use Rattle.book.specs.Sheet.{paintRow as Sheet·paintRow};
 ghost use Rattle.drawing.specs.Rows.{boxRows, ellipseRows, strokeRows};
-ghost use Rattle.drawing.specs.Drawing.{styledCheck, styledFigure, paintBy, drawing};
+ghost use Rattle.drawing.specs.Drawing.{styledCheck, styledFigure, drawing};
 
 // The rows of a stroke area: the first, or its top if it has none, and how many there are.
 pub struct StrokeRows {
@@ -74,26 +74,6 @@ pub fn stroke_rows(figure: Figure, style: Style) -> StrokeRows
         Figure::CrateBox(b) => box_rows(b.rectangle, outside),
         Figure::W3cBox(b) => box_rows(b.rectangle, outside),
     }
-}
-
-// Paints a styled row at y, if the canvas has that row.
-pub fn paint_row_on(canvas: &mut [u8], size: CanvasSize, row: StyledRow, style: Style, y: i32)
-    requires { ⌜ length (now canvas) ≡ size .width * size .height ⌝ }
-    requires { ⌜ size .width ≤ wideSide ⌝ }
-    requires { ⌜ Near widePoint y ⌝ }
-    ensures { λ _. ⌜ now (canvas .exit) ≡ paintBy (λ _. row) style (size .width) (size .height) y (now (canvas .entry)) ⌝ }
-{
-    if y < 0 {
-        return;
-    }
-    let place = signed::floor0(y);
-    if size.height <= place {
-        return;
-    }
-    let StyledRow::Runs(runs) = row else {
-        return;
-    };
-    canvas::paint_row_at(canvas, size.width, place, runs, style);
 }
 
 // Paints the figure's row at y, if the canvas has that row.

@@ -1,5 +1,3 @@
--- `Fields` equates structs by their fields; `Within` carries bounds from a passed check through offsets and confinement; `Runs` says
--- that the run of an area has near ends.
-pub mod Fields
+-- `Within` carries bounds from a passed check through offsets and confinement; `Runs` says that the run of an area has near ends.
 pub mod Within
 pub mod Runs

@@ -13,8 +13,8 @@ use Rattle.rectangle.specs.Rectangle.{withCenter}
 use Rattle.scanline.specs.declared.Row.{Row}
 use Rattle.scanline.specs.declared.Row.the-variants as row-of
 use Rattle.corner_radii.specs.declared.CornerRadii.{CornerRadii}
-use Rattle.corner_radii.specs.CornerRadii.{radiiCheck}
 use Rattle.rounded_rectangle.specs.declared.RoundedRectangle.{RoundedRectangle}
+unfoldable pub use Rattle.box_rules.specs.BoxRules.{boxCheck}
 use Rattle.figure.specs.declared.Figure.{Figure}
 use Rattle.figure.specs.declared.Figure.the-variants.{Ellipse, CrateBox, W3cBox}
 use Rattle.figure.specs.declared.calls.ContainsAnswer.{ContainsAnswer}
@@ -26,11 +26,6 @@ use Rattle.figure.specs.declared.calls.FigureAnswer.the-variants as figu
 use Rattle.figure.specs.declared.calls.RadiiAnswer.{RadiiAnswer}
 use Rattle.figure.specs.declared.calls.RadiiAnswer.the-variants as radii-answer
 use Rattle.figure.specs.Figure.{confined, confinedW3c, offset, contains, row}
-
--- 1 a side, 2 a radius above its limit, 3 a position of a box beyond it
-unfoldable pub boxCheck : RoundedRectangle → Checked
-boxCheck b =
-    orElse (orElse (sizeCheck (b .rectangle .size)) (radiiCheck (b .corners))) (positionCheck (b .rectangle .«top_left»))
 
 -- 1, 2 and 3 of a figure; an ellipse has no radii
 abbrev pub figureCheck : Figure → Checked

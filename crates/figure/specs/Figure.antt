@@ -11,24 +11,13 @@ use Rattle.scanline.specs.declared.Row.{Row}
 use Rattle.scanline.specs.Points.{pointsFrom}
 use Rattle.ellipse.specs.Ellipse.{contains as Ellipse·contains}
 use Rattle.ellipse_points.specs.EllipsePoints.{row as Ellipse·row}
-use Rattle.corner_radii.specs.CornerRadii.{offset as CornerRadii·offset, confine, confineW3c}
 use Rattle.rounded_rectangle.specs.declared.RoundedRectangle.{RoundedRectangle}
 use Rattle.rounded_rectangle.specs.RoundedRectangle.{contains as RoundedRectangle·contains, row as RoundedRectangle·row}
+unfoldable pub use Rattle.box_rules.specs.BoxRules.{confined, confinedW3c, offsetBox}
 use Rattle.figure.specs.declared.Figure.{Figure}
 use Rattle.figure.specs.declared.Figure.the-variants.{Ellipse, CrateBox, W3cBox}
 use Rattle.figure.specs.declared.Shape.{Shape}
 use Rattle.figure.specs.declared.Shape.the-variants as shape-of
-
--- a box with its radii confined to its size, by the crate rule and by the W3C rule
-unfoldable pub confined : RoundedRectangle → RoundedRectangle
-confined b = record { rectangle = b .rectangle; corners = confine (b .corners) (b .rectangle .size) }
-
-unfoldable pub confinedW3c : RoundedRectangle → RoundedRectangle
-confinedW3c b = record { rectangle = b .rectangle; corners = confineW3c (b .corners) (b .rectangle .size) }
-
--- a box offset like a crate box: the rectangle about its centre, the radii by k, not confined
-unfoldable pub offsetBox : RoundedRectangle → ℤ → RoundedRectangle
-offsetBox b k = record { rectangle = Rectangle·offset (b .rectangle) k; corners = CornerRadii·offset (b .corners) k }
 
 -- a figure offset by k: a crate box is not confined; a W3C box is confined, offset like a crate box, confined again
 abbrev pub offset : Figure → ℤ → Figure

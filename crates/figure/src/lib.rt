@@ -2,6 +2,10 @@
 // match on the figure. After embedded-graphics 0.8.2 `ellipse/mod.rs`, `rounded_rectangle/mod.rs`
 // (`OffsetOutline`, `confine_radii`); the W3C box is not in the source. The functions of this file
 // are for callers that have made the checks; those that a host calls are in calls.rt.
+use box_rules::check_box;
+use box_rules::confined;
+use box_rules::confined_w3c;
+use box_rules::offset_box;
 use geometry::Point;
 use rectangle::Rectangle;
 use refusal::Checked;
@@ -14,9 +18,9 @@ ghost use mathlib.Core.Path.{_≡_};
 ghost use Rattle.signed.specs.Signed.{Near};
 ghost use Rattle.geometry.specs.Bounds.{widePoint, PointNear};
 ghost use Rattle.scanline.specs.Points.{RowWithin};
-ghost use Rattle.figure.specs.Bounds.{wideOffset, OwnBox, AreaBox, OwnFigure, BoundedFigure, BoundedShape};
-ghost use Rattle.figure.specs.Figure.{confined as Figure·confined, confinedW3c, offsetBox, offset as Figure·offset, shape as Figure·shape, rectangle as Shape·rectangle, containsShape, rowOfShape};
-ghost use Rattle.figure.specs.Calls.{boxCheck, figureCheck};
+ghost use Rattle.figure.specs.Bounds.{wideOffset, OwnFigure, BoundedFigure, BoundedShape};
+ghost use Rattle.figure.specs.Figure.{offset as Figure·offset, shape as Figure·shape, rectangle as Shape·rectangle, containsShape, rowOfShape};
+ghost use Rattle.figure.specs.Calls.{figureCheck};
 
 pub enum Figure {
     Ellipse(Rectangle),
@@ -28,57 +32,6 @@ pub enum Figure {
 pub enum Shape {
     Ellipse(Rectangle),
     RoundedBox(RoundedRectangle),
-}
-
-// A box with its radii confined by the crate rule.
-fn confined(b: RoundedRectangle) -> RoundedRectangle
-    requires { ⌜ AreaBox b ⌝ }
-    ensures { λ r. ⌜ r ≡ Figure·confined b ⌝ }
-{
-    let rectangle = b.rectangle;
-    let corners = b.corners;
-    RoundedRectangle {
-        rectangle: rectangle,
-        corners: corners.confine(rectangle.size),
-    }
-}
-
-// The same by the W3C rule.
-fn confined_w3c(b: RoundedRectangle) -> RoundedRectangle
-    requires { ⌜ AreaBox b ⌝ }
-    ensures { λ r. ⌜ r ≡ confinedW3c b ⌝ }
-{
-    let rectangle = b.rectangle;
-    let corners = b.corners;
-    RoundedRectangle {
-        rectangle: rectangle,
-        corners: corners.confine_w3c(rectangle.size),
-    }
-}
-
-// A box offset about its centre, its radii with it.
-fn offset_box(b: RoundedRectangle, k: i32) -> RoundedRectangle
-    requires { ⌜ OwnBox b ⌝ }
-    requires { ⌜ Near wideOffset k ⌝ }
-    ensures { λ r. ⌜ r ≡ offsetBox b k ⌝ }
-{
-    let rectangle = b.rectangle;
-    let corners = b.corners;
-    RoundedRectangle {
-        rectangle: rectangle::bounded::offset(rectangle, k),
-        corners: corners.offset(k),
-    }
-}
-
-// Refusals 1, 2 and 3 of a box.
-fn check_box(b: RoundedRectangle) -> Checked
-    ensures { λ r. ⌜ r ≡ boxCheck b ⌝ }
-{
-    let rectangle = b.rectangle;
-    let corners = b.corners;
-    let size = geometry::check_size(rectangle.size);
-    let position = geometry::check_position(rectangle.top_left);
-    size.or_else(corners.check()).or_else(position)
 }
 
 impl Figure {

@@ -1,9 +1,13 @@
-// The answers to queries on rectangles, figures and styled figures. Each function takes a query's
-// tokens, puts the answer into the output and gives the place after it.
+// The answers to queries on figures. Each function takes a query's tokens, puts the answer into the
+// output and gives the place after it.
+use answer_records::NO_QUERY;
+use answer_records::put_bool;
+use answer_records::put_range;
+use answer_records::put_rectangle;
+use answer_records::put_refused;
+use answer_records::put_usage;
 use answer_text::put_next;
-use answer_text::put_next_signed;
 use answer_text::put_number;
-use answer_text::put_signed;
 use answer_text::put_text;
 use corner_radii::CornerRadii;
 use figure::Figure;
@@ -12,57 +16,15 @@ use figure::calls::FigureAnswer;
 use figure::calls::RadiiAnswer;
 use figure::calls::RowAnswer;
 use geometry::Size;
+use line_numbers::is_name;
 use query_records::figure_at;
 use query_records::figure_words;
 use query_records::fits;
 use query_records::i32_at;
-use query_records::plus;
 use query_records::point_at;
-use query_records::rectangle_at;
 use query_records::size_at;
-use query_records::stroke_at;
-use range::Range;
-use rectangle::PointAnswer;
-use rectangle::RangeAnswer;
 use rectangle::Rectangle;
-use rectangle::RectangleAnswer;
-use refusal::Refusal;
 use scanline::Row;
-use scanline::StyledRow;
-use style::WidthsAnswer;
-use styled::StyledRowAnswer;
-
-// What a line that does not fit its query is answered: the words that the query takes.
-pub fn put_usage(out: &mut [u8], at: usize, words: &[u8]) -> usize {
-    let place = put_text(out, at, b"error the query takes ");
-    put_text(out, place, words)
-}
-
-pub fn put_refused(out: &mut [u8], at: usize, refusal: Refusal) -> usize {
-    let place = put_text(out, at, b"refused ");
-    put_number(out, place, refusal.number())
-}
-
-fn put_bool(out: &mut [u8], at: usize, holds: bool) -> usize {
-    if holds {
-        return put_number(out, at, 1);
-    }
-    put_number(out, at, 0)
-}
-
-fn put_range(out: &mut [u8], at: usize, range: Range) -> usize {
-    let place = put_signed(out, at, range.start);
-    put_next_signed(out, place, range.end)
-}
-
-fn put_rectangle(out: &mut [u8], at: usize, rectangle: Rectangle) -> usize {
-    let top_left = rectangle.top_left;
-    let size = rectangle.size;
-    let first = put_signed(out, at, top_left.x);
-    let second = put_next_signed(out, first, top_left.y);
-    let third = put_next(out, second, size.width);
-    put_next(out, third, size.height)
-}
 
 fn put_next_size(out: &mut [u8], at: usize, size: Size) -> usize {
     let place = put_next(out, at, size.width);
@@ -104,20 +66,6 @@ fn put_figure(out: &mut [u8], at: usize, figure: Figure) -> usize {
     }
 }
 
-fn put_rectangle_answer(out: &mut [u8], at: usize, answer: RectangleAnswer) -> usize {
-    match answer {
-        RectangleAnswer::Refused(refusal) => put_refused(out, at, refusal),
-        RectangleAnswer::Answered(rectangle) => put_rectangle(out, at, rectangle),
-    }
-}
-
-fn put_range_answer(out: &mut [u8], at: usize, answer: RangeAnswer) -> usize {
-    match answer {
-        RangeAnswer::Refused(refusal) => put_refused(out, at, refusal),
-        RangeAnswer::Answered(range) => put_range(out, at, range),
-    }
-}
-
 fn put_figure_answer(out: &mut [u8], at: usize, answer: FigureAnswer) -> usize {
     match answer {
         FigureAnswer::Refused(refusal) => put_refused(out, at, refusal),
@@ -125,7 +73,7 @@ fn put_figure_answer(out: &mut [u8], at: usize, answer: FigureAnswer) -> usize {
     }
 }
 
-pub fn contains(tokens: &[u64], out: &mut [u8], at: usize) -> usize {
+fn contains(tokens: &[u64], out: &mut [u8], at: usize) -> usize {
     if !fits(tokens, b"fii") {
         return put_usage(out, at, b"FIGURE px py");
     }
@@ -144,7 +92,7 @@ fn put_row(out: &mut [u8], at: usize, row: Row) -> usize {
     }
 }
 
-pub fn row(tokens: &[u64], out: &mut [u8], at: usize) -> usize {
+fn row(tokens: &[u64], out: &mut [u8], at: usize) -> usize {
     if !fits(tokens, b"fi") {
         return put_usage(out, at, b"FIGURE y");
     }
@@ -156,7 +104,7 @@ pub fn row(tokens: &[u64], out: &mut [u8], at: usize) -> usize {
     }
 }
 
-pub fn offset(tokens: &[u64], out: &mut [u8], at: usize) -> usize {
+fn offset(tokens: &[u64], out: &mut [u8], at: usize) -> usize {
     if !fits(tokens, b"fi") {
         return put_usage(out, at, b"FIGURE k");
     }
@@ -164,7 +112,7 @@ pub fn offset(tokens: &[u64], out: &mut [u8], at: usize) -> usize {
     put_figure_answer(out, at, figure_at(tokens, 0).offset(k))
 }
 
-pub fn confine(tokens: &[u64], out: &mut [u8], at: usize) -> usize {
+fn confine(tokens: &[u64], out: &mut [u8], at: usize) -> usize {
     if !fits(tokens, b"f") {
         return put_usage(out, at, b"FIGURE");
     }
@@ -176,70 +124,7 @@ pub fn confine(tokens: &[u64], out: &mut [u8], at: usize) -> usize {
     }
 }
 
-fn put_styled_row(out: &mut [u8], at: usize, row: StyledRow) -> usize {
-    match row {
-        StyledRow::NoRow => put_text(out, at, b"none"),
-        StyledRow::Runs(runs) => {
-            let left = runs.stroke_left;
-            let fill = runs.fill;
-            let right = runs.stroke_right;
-            let first = put_range(out, at, left);
-            let second = put_text(out, first, b" ");
-            let third = put_range(out, second, fill);
-            let fourth = put_text(out, third, b" ");
-            put_range(out, fourth, right)
-        }
-    }
-}
-
-pub fn srow(tokens: &[u64], out: &mut [u8], at: usize) -> usize {
-    if !fits(tokens, b"fugi") {
-        return put_usage(out, at, b"FIGURE width align y");
-    }
-    let words = figure_words(tokens, 0);
-    let style = stroke_at(tokens, words);
-    let answer = styled::styled_row(figure_at(tokens, 0), style, i32_at(tokens, plus(words, 2)));
-    match answer {
-        StyledRowAnswer::Refused(refusal) => put_refused(out, at, refusal),
-        StyledRowAnswer::Answered(found) => put_styled_row(out, at, found),
-    }
-}
-
-pub fn bbox(tokens: &[u64], out: &mut [u8], at: usize) -> usize {
-    if !fits(tokens, b"fug") {
-        return put_usage(out, at, b"FIGURE width align");
-    }
-    let style = stroke_at(tokens, figure_words(tokens, 0));
-    put_rectangle_answer(
-        out,
-        at,
-        styled::styled_bounding_box(figure_at(tokens, 0), style),
-    )
-}
-
-pub fn center(tokens: &[u64], out: &mut [u8], at: usize) -> usize {
-    if !fits(tokens, b"iiuu") {
-        return put_usage(out, at, b"x y w h");
-    }
-    let answer = rectangle_at(tokens, 0).center();
-    match answer {
-        PointAnswer::Refused(refusal) => put_refused(out, at, refusal),
-        PointAnswer::Answered(point) => {
-            let place = put_signed(out, at, point.x);
-            put_next_signed(out, place, point.y)
-        }
-    }
-}
-
-pub fn with_center(tokens: &[u64], out: &mut [u8], at: usize) -> usize {
-    if !fits(tokens, b"iiuu") {
-        return put_usage(out, at, b"cx cy w h");
-    }
-    let made = Rectangle::with_center(point_at(tokens, 0), size_at(tokens, 2));
-    put_rectangle_answer(out, at, made)
-}
-
-pub fn ellipse_center(tokens: &[u64], out: &mut [u8], at: usize) -> usize {
+fn ellipse_center(tokens: &[u64], out: &mut [u8], at: usize) -> usize {
     if !fits(tokens, b"iiuu") {
         return put_usage(out, at, b"cx cy w h");
     }
@@ -247,52 +132,27 @@ pub fn ellipse_center(tokens: &[u64], out: &mut [u8], at: usize) -> usize {
     put_figure_answer(out, at, made)
 }
 
-pub fn rows(tokens: &[u64], out: &mut [u8], at: usize) -> usize {
-    if !fits(tokens, b"iiuu") {
-        return put_usage(out, at, b"x y w h");
+// Queries that are answered by a figure or its radii.
+fn other_query(word: &[u8], tokens: &[u64], out: &mut [u8], at: usize) -> usize {
+    if is_name(word, b"offset") {
+        return offset(tokens, out, at);
     }
-    put_range_answer(out, at, rectangle_at(tokens, 0).rows())
+    if is_name(word, b"confine") {
+        return confine(tokens, out, at);
+    }
+    if is_name(word, b"ellipsecenter") {
+        return ellipse_center(tokens, out, at);
+    }
+    NO_QUERY
 }
 
-pub fn columns(tokens: &[u64], out: &mut [u8], at: usize) -> usize {
-    if !fits(tokens, b"iiuu") {
-        return put_usage(out, at, b"x y w h");
+// The answer to a query of this crate, or NO_QUERY where the word names none.
+pub fn answer(word: &[u8], tokens: &[u64], out: &mut [u8], at: usize) -> usize {
+    if is_name(word, b"contains") {
+        return contains(tokens, out, at);
     }
-    put_range_answer(out, at, rectangle_at(tokens, 0).columns())
-}
-
-pub fn rectangle_offset(tokens: &[u64], out: &mut [u8], at: usize) -> usize {
-    if !fits(tokens, b"iiuui") {
-        return put_usage(out, at, b"x y w h k");
+    if is_name(word, b"row") {
+        return row(tokens, out, at);
     }
-    put_rectangle_answer(out, at, rectangle_at(tokens, 0).offset(i32_at(tokens, 4)))
-}
-
-// Whether a run contains v, and whether it is empty.
-pub fn range(tokens: &[u64], out: &mut [u8], at: usize) -> usize {
-    if !fits(tokens, b"iii") {
-        return put_usage(out, at, b"start end v");
-    }
-    let run = Range {
-        start: i32_at(tokens, 0),
-        end: i32_at(tokens, 1),
-    };
-    let first = put_bool(out, at, run.contains(i32_at(tokens, 2)));
-    let second = put_text(out, first, b" ");
-    put_bool(out, second, run.is_empty())
-}
-
-// The outside and the inside part of a stroke width.
-pub fn widths(tokens: &[u64], out: &mut [u8], at: usize) -> usize {
-    if !fits(tokens, b"ug") {
-        return put_usage(out, at, b"width align");
-    }
-    let answer = stroke_at(tokens, 0).widths();
-    match answer {
-        WidthsAnswer::Refused(refusal) => put_refused(out, at, refusal),
-        WidthsAnswer::Answered(found) => {
-            let place = put_number(out, at, found.outside);
-            put_next(out, place, found.inside)
-        }
-    }
+    other_query(word, tokens, out, at)
 }

@@ -1,13 +1,11 @@
 -- What the inner functions ask of their arguments. The bounds are wider than the limits of `Limits`, so that raising those moves
 -- no inner contract: sides up to twice a radius of 4096 grown by 256, points up to ±32768.
 -- Assumes nothing.
-use Prim.Native.Nat.{ℕ, _+_, _*_, _≤_}
+use Prim.Native.Nat.{ℕ, _≤_}
 use Rattle.signed.specs.Signed.{Near}
+pub use Rattle.side.specs.Side.{wideSide}
 use Rattle.geometry.specs.declared.Point.{Point}
 use Rattle.geometry.specs.declared.Size.{Size}
-
-abbrev pub wideSide : ℕ
-wideSide = 2 * (4096 + 256)
 
 abbrev pub widePoint : ℕ
 widePoint = 32768

@@ -35,10 +35,11 @@ use Rattle.drawing.specs.Drawing.{answerOf, styledCheck, drawing}
 use Rattle.drawing.specs.Rows.{strokeRows}
 use Rattle.drawing.proofs.Rows.{rows-of-ellipse, rows-of-crate-box, rows-of-w3c-box, RowsWithin, box-rows-within, ellipse-rows-within}
 use Rattle.layers.specs.declared.Layer.{Layer}
-use Rattle.layers.specs.declared.LayerRows.{LayerRows}
+use Rattle.layer_rows.specs.declared.LayerRows.{LayerRows}
 use Rattle.layers.specs.declared.RowsFound.the-variants.{Broken, Kept}
-use Rattle.layers.specs.Layers.{layerOf, blankLayer, layerRows, rowsOwe, someRowsOwe, rowsOvertake, noRowsOvertake}
-use Rattle.layers.proofs.RowTests.{RowsFit, place-here, put-here}
+use Rattle.layer_rows.specs.LayerRows.{rowsOwe, someRowsOwe, rowsOvertake, noRowsOvertake}
+use Rattle.layers.specs.Layers.{layerOf, blankLayer, layerRows}
+use Rattle.layer_rows.proofs.RowTests.{RowsFit, place-here, put-here}
 
 -- ---- one layer
 module _ (l : Layer) where

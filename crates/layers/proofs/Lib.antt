@@ -1,4 +1,3 @@
--- The tests of rows as the code makes them (`RowTests`), and the rules of layers by their rows (`LayerRules`).
+-- The rules of layers by their rows.
 -- Assumes nothing.
-pub mod RowTests
 pub mod LayerRules

@@ -1,12 +1,10 @@
 -- Document 01, 'The records' and 'Sheet': the places for layers in a sheet record, read as the layers of which `book`'s
 -- definitions speak, and the rows by which the code compares two layers.
 -- Assumes nothing.
-use mathlib.Core.Bool.{Bool, true, false, not, _&&_, _||_}
 use mathlib.Core.List.{List, [], _∷_, _++_, map}
 use Prim.Native.Nat.{ℕ}
 use lib.IntN.{ℤ, pos, _+ℤ_}
 use lib.ListN.{take}
-use lib.Signed.{leZ, ltZ}
 use Rattle.figure.specs.declared.Figure.the-variants as figure-of
 use Rattle.style.specs.declared.Paint.the-variants as paint-of
 use Rattle.style.specs.declared.StrokeAlignment.the-variants as alignment-of
@@ -14,7 +12,7 @@ use Rattle.book.specs.Sheet.{Layer as SheetLayer, State, Layers}
 use Rattle.drawing.specs.Drawing.{StyledFigure, styledFigure, drawing}
 use Rattle.drawing.specs.Rows.{strokeRows}
 use Rattle.layers.specs.declared.Layer.{Layer}
-use Rattle.layers.specs.declared.LayerRows.{LayerRows}
+use Rattle.layer_rows.specs.declared.LayerRows.{LayerRows}
 
 -- the layer in a place: its figure with its style, and its next row ('The records')
 abbrev pub layerOf : Layer → SheetLayer StyledFigure
@@ -48,20 +46,3 @@ layerRows l =
       next = l .«next_row»;
       end = strokeRows (l .figure) (l .style) .first +ℤ pos (strokeRows (l .figure) (l .style) .count);
     }
-
--- `layerOwes`, `someLayerOwes`, `overtakes` and `noneOvertakes` of `book`, by rows alone ('Sheet')
-unfoldable pub rowsOwe : LayerRows → ℤ → Bool
-rowsOwe r y = (leZ (r .first) y && ltZ y (r .end)) && leZ (r .next) y
-
-unfoldable pub someRowsOwe : List LayerRows → ℤ → Bool
-someRowsOwe [] y = false
-someRowsOwe (r ∷ rest) y = rowsOwe r y || someRowsOwe rest y
-
-unfoldable pub rowsOvertake : LayerRows → LayerRows → Bool
-rowsOvertake earlier later =
-    (ltZ (later .first) (later .next) && ltZ (later .first) (earlier .end))
-    && (ltZ (earlier .next) (later .next) && ltZ (earlier .next) (earlier .end))
-
-unfoldable pub noRowsOvertake : LayerRows → List LayerRows → Bool
-noRowsOvertake r [] = true
-noRowsOvertake r (later ∷ rest) = not (rowsOvertake r later) && noRowsOvertake r rest

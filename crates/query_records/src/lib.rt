@@ -5,13 +5,11 @@ use corner_radii::CornerRadii;
 use figure::Figure;
 use geometry::Point;
 use geometry::Size;
-use layers::Layer;
 use line_numbers::LETTER;
 use line_numbers::MINUS;
 use line_numbers::NO_WORD;
 use rectangle::Rectangle;
 use rounded_rectangle::RoundedRectangle;
-use sheet::Sheet;
 use style::Paint;
 use style::StrokeAlignment;
 use style::Style;
@@ -264,50 +262,4 @@ pub fn style_at(tokens: &[u64], at: usize) -> Style {
         tokens,
         plus(at, 3),
     )))
-}
-
-// The place after a sheet's words: W H COUNT LISTED, then so many layers, each a figure, its style
-// and its next row. Places that are not listed are blank.
-pub fn sheet_end(tokens: &[u64], from: usize) -> usize {
-    let first = form_end(tokens, from, b"uuuu");
-    let listed = u32_at(tokens, plus(from, 3));
-    if 16 < listed {
-        return MISFIT;
-    }
-    let mut at = first;
-    let mut k: u32 = 0;
-    while k < listed {
-        at = form_end(tokens, at, b"fkkugi");
-        k += 1;
-    }
-    at
-}
-
-fn layer_at(tokens: &[u64], at: usize) -> Layer {
-    let style_place = plus(at, figure_words(tokens, at));
-    Layer {
-        figure: figure_at(tokens, at),
-        style: style_at(tokens, style_place),
-        next_row: i32_at(tokens, plus(style_place, 4)),
-    }
-}
-
-// A sheet as its words give it, whether or not it keeps the rules.
-pub fn sheet_at(tokens: &[u64], from: usize) -> Sheet {
-    let opened = Sheet::open(u32_at(tokens, from), u32_at(tokens, plus(from, 1)));
-    let mut sheet = opened.sheet;
-    sheet.count = u32_at(tokens, plus(from, 2));
-    let listed = u32_at(tokens, plus(from, 3));
-    let mut at = plus(from, 4);
-    let mut place: usize = 0;
-    while place < 16 {
-        if listed as usize <= place {
-            return sheet;
-        }
-        let layer = layer_at(tokens, at);
-        sheet.layers[place] = layer;
-        at = form_end(tokens, at, b"fkkugi");
-        place += 1;
-    }
-    sheet
 }

@@ -1,21 +1,16 @@
 -- Laws of centres and offsets: by parts, so that `omega` reads them, and the bounds of what comes out.
 -- Assumes nothing.
-use mathlib.Core.Path.{_≡_}
-use Prim.Native.Nat.{ℕ, _+_, _-_, _*_, _≤_}
+use Prim.Native.Nat.{ℕ, _+_, _*_, _≤_}
 use native.Mathlib.Omega.{arith}
-use lib.IntN.{ℤ, pos, _+ℤ_, _-ℤ_, _*ℤ_}
-use Rattle.signed.specs.Signed.{positivePart as P, negativePart as N, Near}
-use Rattle.signed.proofs.Laws.{int, add-law, times-law, near-add, near-sub, one-part-zero}
+use lib.IntN.{ℤ, pos, _+ℤ_, _-ℤ_}
+use Rattle.signed.specs.Signed.{Near}
+use Rattle.signed.proofs.Laws.{add-law, near-add, near-sub, one-part-zero}
+pub use Rattle.side.proofs.Parts.{offset-side-by-parts}
 use Rattle.geometry.specs.declared.Size.{Size}
 use Rattle.rectangle.specs.declared.Rectangle.{Rectangle}
 use Rattle.geometry.specs.Bounds.{widePoint, wideSide, PointNear, SizeUpTo}
 use Rattle.rectangle.specs.Bounds.{Bounded}
 use Rattle.rectangle.specs.Rectangle.{centerTerm, center, withCenter, offsetSide, offsetSize, offset}
-
--- a side offset by k, by the parts of k
-pub offset-side-by-parts : (side : ℕ) (k : ℤ) → offsetSide side k ≡ side + 2 * P k - 2 * N k
-unfolding offsetSide
-offset-side-by-parts side k = omega (arith, int, add-law (pos side) (pos 2 *ℤ k), times-law 2 k)
 
 -- the centre of a bounded rectangle is near, and so is the corner of a bounded size about a near centre
 pub center-near : (r : Rectangle) → Bounded r → PointNear (2 * widePoint) (center r)

@@ -1,16 +1,12 @@
 -- Document 01, 'Rectangle and offset' (`rectangle/mod.rs`).
 -- Assumes nothing.
-use Prim.Native.Nat.{ℕ, _-_, _/_}
-use lib.IntN.{ℤ, pos, _+ℤ_, _-ℤ_, _*ℤ_}
-use Rattle.signed.specs.Signed.{floor0}
+use lib.IntN.{ℤ, pos, _+ℤ_, _-ℤ_}
+pub use Rattle.side.specs.Side.{centerTerm}
+unfoldable pub use Rattle.side.specs.Side.{offsetSide}
 use Rattle.geometry.specs.declared.Point.{Point}
 use Rattle.geometry.specs.declared.Size.{Size}
 use Rattle.range.specs.declared.Range.{Range}
 use Rattle.rectangle.specs.declared.Rectangle.{Rectangle}
-
--- floor(max(side − 1, 0) / 2): how far the centre lies from a side's first pixel. `_-_` on ℕ stops at 0
-abbrev pub centerTerm : ℕ → ℕ
-centerTerm side = (side - 1) / 2
 
 -- the centre: top-left plus the term of each side (`Rectangle::center`)
 unfoldable pub center : Rectangle → Point
@@ -35,10 +31,6 @@ rows r = record { start = r .«top_left» .y; end = r .«top_left» .y +ℤ pos 
 -- the columns x..x + width, also when the height is 0 (`Rectangle::columns`)
 abbrev pub columns : Rectangle → Range
 columns r = record { start = r .«top_left» .x; end = r .«top_left» .x +ℤ pos (r .size .width) }
-
--- a side offset by k: 2k added, never below 0
-unfoldable pub offsetSide : ℕ → ℤ → ℕ
-offsetSide side k = floor0 (pos side +ℤ pos 2 *ℤ k)
 
 -- both sides of a size offset by k
 abbrev pub offsetSize : Size → ℤ → Size

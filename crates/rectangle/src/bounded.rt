@@ -5,19 +5,14 @@ use crate::Rectangle;
 use geometry::Point;
 use geometry::Size;
 use range::Range;
+use side::center_term;
+use side::offset_side;
 ghost use mathlib.Core.Path.{_≡_};
-ghost use Prim.Native.Nat.{_*_, _≤_};
+ghost use Prim.Native.Nat.{_*_};
 ghost use Rattle.signed.specs.Signed.{Near};
 ghost use Rattle.geometry.specs.Bounds.{wideSide, widePoint, PointNear, SizeUpTo};
 ghost use Rattle.rectangle.specs.Bounds.{Bounded};
-ghost use Rattle.rectangle.specs.Rectangle.{centerTerm, center as Rectangle·center, withCenter, rows as Rectangle·rows, columns as Rectangle·columns, offsetSide, offset as Rectangle·offset};
-
-// How far the centre lies from a side's first pixel.
-fn center_term(side: u32) -> u32
-    ensures { λ r. ⌜ r ≡ centerTerm side ⌝ }
-{
-    if side == 0 { 0 } else { (side - 1) / 2 }
-}
+ghost use Rattle.rectangle.specs.Rectangle.{center as Rectangle·center, withCenter, rows as Rectangle·rows, columns as Rectangle·columns, offset as Rectangle·offset};
 
 pub fn center(rectangle: Rectangle) -> Point
     requires { ⌜ Bounded rectangle ⌝ }
@@ -68,16 +63,6 @@ pub fn columns(rectangle: Rectangle) -> Range
         start: top_left.x,
         end: signed::add(top_left.x, signed::from_u32(size.width)),
     }
-}
-
-// A side with 2k added, never below 0. The Rust caps at the type's ends; here both ends are far.
-fn offset_side(side: u32, k: i32) -> u32
-    requires { ⌜ side ≤ wideSide ⌝ }
-    requires { ⌜ Near wideSide k ⌝ }
-    ensures { λ r. ⌜ r ≡ offsetSide side k ⌝ }
-{
-    let grown = signed::add(signed::from_u32(side), signed::add(k, k));
-    signed::floor0(grown)
 }
 
 pub fn offset(rectangle: Rectangle, k: i32) -> Rectangle

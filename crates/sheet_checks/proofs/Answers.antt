@@ -27,9 +27,10 @@ use Rattle.book.proofs.Lists.{take-map}
 use Rattle.book.proofs.LowestNumber.{paint-refused-broken-sheet, paint-answer-on-sheet}
 use Rattle.drawing.specs.Drawing.{StyledFigure, answerOf, drawing}
 use Rattle.layers.specs.declared.Layer.{Layer}
-use Rattle.layers.specs.declared.LayerRows.{LayerRows}
-use Rattle.layers.specs.Layers.{blankLayer, layersOf, stateOf, layerRows, someRowsOwe}
-use Rattle.layers.proofs.RowTests.{noRows}
+use Rattle.layer_rows.specs.declared.LayerRows.{LayerRows}
+use Rattle.layer_rows.specs.LayerRows.{someRowsOwe}
+use Rattle.layers.specs.Layers.{blankLayer, layersOf, stateOf, layerRows}
+use Rattle.layer_rows.proofs.RowTests.{noRows}
 use Rattle.layers.proofs.LayerRules.{owe-by-rows}
 use Rattle.sheet_checks.proofs.Places.{layers-many, layer-at, layer-past, layers-before, kept-few}
 

@@ -72,7 +72,7 @@ pub fn check_paint(
             if own.end <= next {
                 return Checked::Refused(Refusal::NoRowLeft);
             }
-            if layers::some_owes(rows, place, next) {
+            if layer_rows::some_owes(rows, place, next) {
                 return Checked::Refused(Refusal::RowOwed);
             }
             Checked::Passed

@@ -1,9 +1,10 @@
-// Styled figures: their areas, bounding box and rows, after embedded-graphics 0.8.2 both `styled.rs`
-// and `common/styled_scanline.rs`. A figure's stroke area and fill area are shapes of one kind.
+// Styled figures: their bounding box and rows, after embedded-graphics 0.8.2 both `styled.rs` and
+// `common/styled_scanline.rs`. A figure's stroke area and fill area are shapes of one kind.
+use areas::fill_shape;
+use areas::own_rectangle;
+use areas::stroke_shape;
 use figure::Figure;
-use figure::Shape;
 use geometry::check_row;
-use rectangle::Rectangle;
 use rectangle::RectangleAnswer;
 use refusal::Checked;
 use refusal::Refusal;
@@ -17,36 +18,14 @@ ghost use lib.IntN.{ℤ};
 ghost use Rattle.signed.specs.Signed.{Near};
 ghost use Rattle.geometry.specs.Bounds.{widePoint};
 ghost use Rattle.rectangle.specs.Calls.{rectangleOutcome};
-ghost use Rattle.figure.specs.Bounds.{wideOffset, OwnFigure, BoundedShape};
-ghost use Rattle.figure.specs.Figure.{shape};
+ghost use Rattle.figure.specs.Bounds.{wideOffset, OwnFigure};
 ghost use Rattle.styled_shape.specs.Ready.{rowOf, Ready};
-ghost use Rattle.styled.specs.Styled.{strokeArea, fillArea, ownRectangle, styledRow};
+ghost use Rattle.styled.specs.Styled.{styledRow};
 ghost use Rattle.styled.specs.Calls.{styledRowOutcome, styledRowCall, styledBoundingBoxCall};
 
 pub enum StyledRowAnswer {
     Refused(Refusal),
     Answered(StyledRow),
-}
-
-// The shape of the stroke area.
-fn stroke_shape(figure: Figure, style: Style) -> Shape
-    requires { ⌜ OwnFigure figure ⌝ }
-    requires { ⌜ style .«stroke_width» ≤ wideOffset ⌝ }
-    ensures { λ r. ⌜ (r ≡ shape (strokeArea figure style)) × BoundedShape r ⌝ }
-{
-    figure
-        .offset_by(signed::from_u32(style.outside_stroke_width()))
-        .shape()
-}
-
-// The shape of the fill area.
-fn fill_shape(figure: Figure, style: Style) -> Shape
-    requires { ⌜ OwnFigure figure ⌝ }
-    requires { ⌜ style .«stroke_width» ≤ wideOffset ⌝ }
-    ensures { λ r. ⌜ (r ≡ shape (fillArea figure style)) × BoundedShape r ⌝ }
-{
-    let inside = signed::from_u32(style.inside_stroke_width());
-    figure.offset_by(signed::sub(0, inside)).shape()
 }
 
 // The figure with its style made ready for all its rows.
@@ -67,17 +46,6 @@ pub fn row_at(figure: Figure, style: Style, y: i32) -> StyledRow
 {
     let found = ready(figure, style).row(y, no_hints());
     found.row
-}
-
-// The rectangle of a figure as it is given.
-fn own_rectangle(figure: Figure) -> Rectangle
-    ensures { λ r. ⌜ r ≡ ownRectangle figure ⌝ }
-{
-    match figure {
-        Figure::Ellipse(rectangle) => rectangle,
-        Figure::CrateBox(b) => b.rectangle,
-        Figure::W3cBox(b) => b.rectangle,
-    }
 }
 
 // The styled row at y. Refused by 1, 2, 3, 4 and 5.

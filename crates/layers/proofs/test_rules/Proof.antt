@@ -12,9 +12,10 @@ use lib.ListN.{length, take, drop, getD, set, replicate, length-set}
 use Rattle.book.specs.Sheet.{layerKeepsRules, layersKeepRules}
 use Rattle.drawing.specs.Drawing.{drawing}
 use Rattle.layers.specs.declared.Layer.{Layer}
-use Rattle.layers.specs.declared.LayerRows.{LayerRows}
-use Rattle.layers.specs.Layers.{layerOf, blankLayer, layerRows, noRowsOvertake}
-use Rattle.layers.proofs.RowTests.{place-past, noRows}
+use Rattle.layer_rows.specs.declared.LayerRows.{LayerRows}
+use Rattle.layer_rows.specs.LayerRows.{noRowsOvertake}
+use Rattle.layers.specs.Layers.{layerOf, blankLayer, layerRows}
+use Rattle.layer_rows.proofs.RowTests.{place-past, noRows}
 use Rattle.layers.proofs.LayerRules.{found-broken, found-kept, broken-here, broken-order, kept-here, rows-put}
 use Rattle.layers.proofs.test_rules.Statement.{statement}
 use Rattle.layers.proofs.test_rules.Tie as tie

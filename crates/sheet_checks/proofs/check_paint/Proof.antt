@@ -18,9 +18,10 @@ use Rattle.canvas_size.specs.CanvasSize.{canvasLengthCheck}
 use Rattle.book.specs.Sheet.{keepsRules}
 use Rattle.drawing.specs.Drawing.{drawing}
 use Rattle.layers.specs.declared.Layer.{Layer}
-use Rattle.layers.specs.declared.LayerRows.{LayerRows}
-use Rattle.layers.specs.Layers.{blankLayer, layersOf, layerRows, someRowsOwe}
-use Rattle.layers.proofs.RowTests.{noRows, RowsFit, le-held}
+use Rattle.layer_rows.specs.declared.LayerRows.{LayerRows}
+use Rattle.layer_rows.specs.LayerRows.{someRowsOwe}
+use Rattle.layers.specs.Layers.{blankLayer, layersOf, layerRows}
+use Rattle.layer_rows.proofs.RowTests.{noRows, RowsFit, le-held}
 use Rattle.sheet_checks.proofs.Places.{kept-few, kept-layer}
 use Rattle.sheet_checks.proofs.Answers.{paint-broken, paint-length, paint-no-layer, paint-finished, paint-owed, paint-free, rows-at, rows-before}
 use Rattle.sheet_checks.proofs.check_paint.Statement.{statement}

@@ -13,7 +13,7 @@ use Rattle.figure.specs.Calls.{figureCheck}
 use Rattle.figure.proofs.Within.{figure-passed}
 use Rattle.style.specs.Style.{styleCheck}
 use Rattle.style.proofs.StrokeWidths.{outside-passed}
-use Rattle.styled.proofs.Areas.{own-rectangle-bounded}
+use Rattle.areas.proofs.Bounds.{own-rectangle-bounded}
 use borrow.Author.Needs.{needs}
 use native.Mathlib.Omega.{arith}
 use Rattle.signed.proofs.Laws.{int}

@@ -17,7 +17,7 @@ use Rattle.drawing.specs.Drawing.{styledCheck}
 use Rattle.layers.specs.declared.RowsFound.the-variants.{Kept}
 use Rattle.layers.specs.Layers.{layerRows}
 use Rattle.layers.proofs.LayerRules.{broken-by-check, broken-above, broken-below, kept-among, checked-figure, checked-stroke}
-use Rattle.layers.proofs.RowTests.{lt-held, rows-by-fields}
+use Rattle.layer_rows.proofs.RowTests.{lt-held, rows-by-fields}
 use Rattle.layers.proofs.Layer.rows.Statement.{statement}
 use Rattle.layers.proofs.Layer.rows.Tie as tie
 

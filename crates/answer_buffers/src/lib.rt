@@ -1,0 +1,69 @@
+// What the answers have in common that lend a list, a canvas or a file of their own frame, 36,864 bytes
+// at most: how much is lent, and how a canvas is filled before.
+use answer_text::put_text;
+use query_records::form_end;
+use query_records::is_letter;
+use query_records::plus;
+use query_records::token;
+use query_records::u32_at;
+ghost use Prim.Native.Nat.{_≤_};
+
+// The bytes of a canvas.
+pub const CANVAS: usize = 36864;
+
+pub fn put_too_large(out: &mut [u8], at: usize) -> usize {
+    put_text(out, at, b"error larger than the buffers of this program")
+}
+
+// A length that is lent from a canvas or list: the one asked for, and none where it is too large.
+pub fn lent(asked: usize, most: usize) -> usize
+    ensures { λ r. ⌜ r ≤ most ⌝ }
+{
+    if asked <= most {
+        return asked;
+    }
+    0
+}
+
+pub fn long(n: u32) -> usize
+    ensures { λ r. ⌜ r ≤ 4294967295 ⌝ }
+{
+    n as usize
+}
+
+// Byte i is (seed + 37 i) mod 256, and 0 without a seed.
+pub fn fill(canvas: &mut [u8], seed: u32) {
+    let mut value = seed % 256;
+    let mut i: usize = 0;
+    while i < canvas.len() {
+        canvas[i] = (value % 256) as u8;
+        value = value % 256 + 37;
+        i += 1;
+    }
+}
+
+// The bytes of a canvas with sides within the limit, and 0 for others.
+pub fn area(width: u32, height: u32) -> usize {
+    if 1024 < width {
+        return 0;
+    }
+    if 1024 < height {
+        return 0;
+    }
+    long(width) * long(height)
+}
+
+// Fills a canvas where a seed is given.
+pub fn fill_seeded(canvas: &mut [u8], tokens: &[u64], at: usize) {
+    if is_letter(token(tokens, at), b'b') {
+        fill(canvas, u32_at(tokens, plus(at, 1)));
+    }
+}
+
+// The place after 'b SEED', where it stands.
+pub fn seed_end(tokens: &[u64], at: usize) -> usize {
+    if is_letter(token(tokens, at), b'b') {
+        return form_end(tokens, at, b"bu");
+    }
+    at
+}

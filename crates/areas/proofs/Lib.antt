@@ -1,0 +1,3 @@
+-- The rectangle of a figure that passed its check is bounded.
+-- Assumes nothing.
+pub mod Bounds

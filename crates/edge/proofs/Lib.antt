@@ -1,0 +1,3 @@
+-- `MostOver` and `Tightest` have the laws of the edges that decide the two rules.
+pub mod MostOver
+pub mod Tightest

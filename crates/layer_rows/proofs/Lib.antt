@@ -1,0 +1,3 @@
+-- The tests of rows as the code makes them.
+-- Assumes nothing.
+pub mod RowTests

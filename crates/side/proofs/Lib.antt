@@ -1,0 +1,2 @@
+-- `Parts` reads an offset side by parts.
+pub mod Parts

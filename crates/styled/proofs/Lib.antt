@@ -1,2 +1,0 @@
--- `Areas`: the rectangle of a checked figure is bounded.
-pub mod Areas
