@@ -1,13 +1,19 @@
 -- Rows painted one after another, as the code does it: proofs/Painted.antt and proofs/OnCanvas.antt equate it with `painted`.
 -- Assumes nothing.
 use mathlib.Core.List.{List}
-use Prim.Native.Nat.{ℕ, zero, suc, _-_, min}
+use Prim.Native.Nat.{ℕ, zero, suc, _+_, _-_, min}
 use lib.IntN.{ℤ, pos, _+ℤ_, _-ℤ_}
 use Rattle.signed.specs.Signed.{floor0}
 use Rattle.scanline.specs.declared.StyledRow.{StyledRow}
+use Rattle.corner.specs.Bounds.{wideStrokeSide}
+use Rattle.figure.specs.Bounds.{wideAreaPosition}
 use Rattle.style.specs.declared.Style.{Style}
 use Rattle.drawing.specs.declared.StrokeRows.{StrokeRows}
 use Rattle.drawing.specs.Drawing.{paintBy}
+
+-- a row of a figure, the last included
+abbrev pub widePainted : ℕ
+widePainted = wideAreaPosition + wideStrokeSide
 
 -- n rows from row y down, by a figure's rows
 unfoldable pub rowsBy : (ℤ → StyledRow) → Style → ℕ → ℕ → ℤ → ℕ → List ℕ → List ℕ

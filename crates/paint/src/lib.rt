@@ -9,6 +9,7 @@ use ellipse_styled::StyledEllipse;
 use figure::Figure;
 use refusal::Checked;
 use refusal::Refusal;
+use scanline::StyledRow;
 use style::Style;
 use styled_shape::StyledBox;
 use styled_shape::StyledShape;
@@ -26,7 +27,7 @@ ghost use Rattle.styled_shape.specs.StyledRow.{boxStyledRow};
 ghost use Rattle.styled_shape.specs.Ready.{strokeBox, fillBox, ReadyStyledBox};
 ghost use Rattle.book.specs.Whole.{paintWhole};
 ghost use Rattle.drawing.specs.Drawing.{styledFigure, drawing};
-ghost use Rattle.paint.specs.Rows.{rowsBy, visibleRows};
+ghost use Rattle.paint.specs.Rows.{widePainted, rowsBy, visibleRows};
 ghost use Rattle.paint.specs.Paint.{paintOutcome, paintCall, canvasAfter};
 
 pub enum PaintAnswer {
@@ -79,7 +80,29 @@ fn paint_ellipse_rows(
     }
 }
 
-// Paints so many rows of a box made ready, from row y on.
+// Paints one styled row on so many canvas rows, from row y on.
+fn paint_alike_rows(
+    canvas: &mut [u8],
+    size: CanvasSize,
+    row: StyledRow,
+    style: Style,
+    y: i32,
+    count: u32,
+)
+    requires { ⌜ length (now canvas) ≡ size .width * size .height ⌝ }
+    requires { ⌜ size .width ≤ wideSide ⌝ }
+    requires { ⌜ Near widePainted y × (count ≤ wideStrokeSide) ⌝ }
+    ensures { λ _. ⌜ now (canvas .exit) ≡ rowsBy (λ _. row) style (size .width) (size .height) y count (now (canvas .entry)) ⌝ }
+{
+    let mut dy: u32 = 0;
+    while dy < count {
+        let row_y = signed::add(y, signed::from_u32(dy));
+        drawing::paint_row_on(canvas, size, row, style, row_y);
+        dy += 1;
+    }
+}
+
+// Paints so many rows of a box made ready, from row y on. Rows that are alike are looked for once.
 fn paint_box_rows(
     canvas: &mut [u8],
     size: CanvasSize,
@@ -100,9 +123,10 @@ fn paint_box_rows(
         let row_y = signed::add(y, signed::from_u32(dy));
         let found = b.row(row_y, hints);
         let row = found.row;
-        drawing::paint_row_on(canvas, size, row, style, row_y);
+        let alike = signed::least(b.rows_alike(row_y), count - dy);
+        paint_alike_rows(canvas, size, row, style, row_y, alike);
         hints = found.hints;
-        dy += 1;
+        dy += alike;
     }
 }
 
