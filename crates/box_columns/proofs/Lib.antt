@@ -1,3 +1,5 @@
--- `Searches`: a search that leaves out what is known to fail. `Skips`: what a corner leaves out is not contained.
+-- `Searches`: what a search may leave out. `Skips`: the columns that a corner leaves out are not contained. `Even`: rows whose two sides
+-- are alike.
 pub mod Searches
 pub mod Skips
+pub mod Even

@@ -14,7 +14,7 @@ use Rattle.scanline.proofs.Find.{find-at, find-none, found-at, found-none}
 use Rattle.box_columns.specs.Columns.{NoneBefore}
 
 -- by the order of two places
-by-order : {X : Type 0} (i m : ℕ) → (i < m → X) → (m ≤ i → X) → X
+pub by-order : {X : Type 0} (i m : ℕ) → (i < m → X) → (m ≤ i → X) → X
 by-order {X} i m before after = by-test (ltb i m) refl
   where
     by-test : (t : Bool) → ltb i m ≡ t → X

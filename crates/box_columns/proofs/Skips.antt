@@ -28,10 +28,10 @@ in-quadrant-is r d e = by-row (ltb e (r .height))
     by-row true = refl
     by-row false = sym (le-ltb d 0 (omega arith))
 
-in-quadrant : (r : Size) (d e : ℕ) → d < covered r e → inQuadrant r d e ≡ true
+pub in-quadrant : (r : Size) (d e : ℕ) → d < covered r e → inQuadrant r d e ≡ true
 in-quadrant r d e l = in-quadrant-is r d e ∙ lt-ltb _ _ l
 
-not-in-quadrant : (r : Size) (d e : ℕ) → covered r e ≤ d → inQuadrant r d e ≡ false
+pub not-in-quadrant : (r : Size) (d e : ℕ) → covered r e ≤ d → inQuadrant r d e ≡ false
 not-in-quadrant r d e l = in-quadrant-is r d e ∙ le-ltb _ _ l
 
 pub covered-row : (r : Size) (e : ℕ) → 0 < covered r e → e < r .height

@@ -1,6 +1,7 @@
 // The fill of a styled box row, after embedded-graphics 0.8.2 `rounded_rectangle/styled.rs`
 // (`StyledScanlines`). Columns are counted from the fill area's left edge, and for the last one from
 // its right edge.
+use box_columns::even_skip;
 use box_columns::first_contained;
 use box_columns::last_contained;
 use box_columns::left_skip;
@@ -16,7 +17,7 @@ ghost use Rattle.geometry.specs.Bounds.{widePoint};
 ghost use Rattle.corner.specs.Bounds.{wideStrokeSide};
 ghost use Rattle.rounded_rectangle.specs.Relative.{ReadyBox, radii};
 ghost use Rattle.box_fill.specs.BoxFill.{fillRun};
-ghost use Rattle.box_fill.specs.Relative.{ReadyFill, NearRun, boxOf, placeIn, rowFill};
+ghost use Rattle.box_fill.specs.Relative.{ReadyFill, NearRun, boxOf, placeIn, rowFill, fillBetween};
 
 // Where the searches of a row begin, on the left and on the right: nothing depends on it but time.
 pub struct Hints {
@@ -38,6 +39,25 @@ fn place_in(first: i32, n: u32, v: i32) -> u32
     ensures { λ r. ⌜ (r ≡ placeIn first n v) × (r ≤ n) ⌝ }
 {
     signed::least(signed::floor0(signed::sub(v, first)), n)
+}
+
+// The fill of a row that leaves out k columns of `width` on either side and contains those between.
+// Where none of these is in the run, the whole run is fill.
+fn filled_between(left: i32, width: u32, run: Range, k: u32) -> Range
+    requires { ⌜ Near widePoint left ⌝ }
+    requires { ⌜ (width ≤ wideStrokeSide) × (2 * k ≤ width) ⌝ }
+    requires { ⌜ NearRun run ⌝ }
+    ensures { λ r. ⌜ r ≡ fillBetween left width run k ⌝ }
+{
+    let begin = signed::most(place_in(left, width, run.start), k);
+    let end = signed::least(place_in(left, width, run.end), width - k);
+    if begin < end {
+        return Range {
+            start: scanline::from_first(left, begin),
+            end: scanline::from_first(left, end),
+        };
+    }
+    run
 }
 
 // The fill of row dy of a fill area whose first column is `left`. Where no column of the run is
@@ -108,5 +128,16 @@ pub fn fill_run(
             hints: hints,
         };
     };
-    row_fill(top_left.x, b, dy, run, hints)
+    let left_hint = hints.left;
+    let right_hint = hints.right;
+    let Place::At(k) = even_skip(b, dy, left_hint) else {
+        return row_fill(top_left.x, b, dy, run, hints);
+    };
+    FillRun {
+        run: filled_between(top_left.x, size.width, run, k),
+        hints: Hints {
+            left: k,
+            right: right_hint,
+        },
+    }
 }

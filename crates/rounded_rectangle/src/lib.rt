@@ -48,7 +48,7 @@ pub struct Insets {
 
 // The inset on one side of the box, on its row dy of h, of n columns: by the upper corner, else by
 // the lower, else 0.
-fn side_inset(
+pub fn side_inset(
     upper: EllipseQuadrant,
     lower: EllipseQuadrant,
     h: u32,

@@ -15,13 +15,14 @@ use scanline::Place;
 use scanline::StyledRow;
 use scanline::StyledScanline;
 ghost use mathlib.Core.Path.{_≡_};
+ghost use Prim.Native.Nat.{_<_};
 ghost use lib.IntN.{ℤ};
 ghost use Rattle.signed.specs.Signed.{Near};
 ghost use Rattle.geometry.specs.Bounds.{widePoint};
 ghost use Rattle.figure.specs.Bounds.{AreaBox, BoundedShape};
 ghost use Rattle.ellipse_styled.specs.EllipseStyled.{aroundFill, ellipseStyledRow};
 ghost use Rattle.ellipse_styled.specs.Relative.{ReadyEllipse};
-ghost use Rattle.styled_shape.specs.StyledRow.{boxStyledRow, styledRowOfShapes};
+ghost use Rattle.styled_shape.specs.StyledRow.{boxStyledRow, styledRowOfShapes, Alike};
 ghost use Rattle.styled_shape.specs.Ready.{noHints, strokeBox, fillBox, ReadyStyledBox, rowOf, Ready};
 
 // Where the searches of a row begin, for both areas. An ellipse uses the left ones.
@@ -100,6 +101,32 @@ impl StyledBox {
         }
     }
 
+    // So many rows from y on are alike: those that no corner of either area touches, else 1.
+    pub fn rows_alike(self, y: i32) -> u32
+        requires { ⌜ ReadyStyledBox self ⌝ }
+        requires { ⌜ Near widePoint y ⌝ }
+        ensures { λ r. ⌜ (0 < r) × Alike (boxStyledRow (strokeBox self) (fillBox self)) y r ⌝ }
+    {
+        let area = self.area;
+        let top_left = area.top_left;
+        let size = area.size;
+        let Place::At(dy) = scanline::place_of(top_left.y, size.height, y) else {
+            return 1;
+        };
+        let inner = self.inner;
+        let inner_top_left = inner.top_left;
+        let inner_size = inner.size;
+        let Place::At(inner_dy) = scanline::place_of(inner_top_left.y, inner_size.height, y) else {
+            return 1;
+        };
+        let stroke = self.stroke;
+        let fill = self.fill;
+        signed::least(
+            box_columns::straight_rows(stroke, dy),
+            box_columns::straight_rows(fill, inner_dy),
+        )
+    }
+
     // The styled row at y.
     pub fn row(self, y: i32, hints: RowHints) -> HintedRow
         requires { ⌜ ReadyStyledBox self ⌝ }
@@ -119,7 +146,7 @@ impl StyledBox {
         let stroke_hints = hints.stroke;
         let left_hint = stroke_hints.left;
         let right_hint = stroke_hints.right;
-        let insets = stroke.insets(dy, left_hint, right_hint);
+        let insets = box_columns::row_insets(stroke, dy, left_hint, right_hint);
         let run = run_between(top_left.x, size.width, insets);
         let inner = self.inner;
         let fill = self.fill;

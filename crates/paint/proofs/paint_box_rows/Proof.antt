@@ -1,9 +1,10 @@
--- `paint::paint_box_rows` meets its contract. The invariant: the rows that are left, painted on the canvas as it is now, make the whole.
+-- `paint::paint_box_rows` meets its contract. The invariant: the rows that are left, painted on the canvas as it is now, make the whole. A
+-- turn paints as many rows as are alike.
 -- Assumes nothing.
 use native.Mathlib.Omega.{arith}
 use Rattle.signed.proofs.Laws.{int}
-use mathlib.Core.Path.{_≡_, ap, _∙_}
-use Prim.Native.Nat.{_-_}
+use mathlib.Core.Path.{_≡_, sym, ap, _∙_}
+use Prim.Native.Nat.{_-_, _≤_, _<_}
 use lib.IntN.{ℤ, pos, _+ℤ_}
 use lib.ListN.{length}
 use mir.Facts.{toZ-ofZ}
@@ -12,13 +13,10 @@ use mir.Val.{toZ, ofZ}
 use borrow.Author.Needs.{needs}
 use Rattle.signed.specs.Signed.{Near}
 use Rattle.signed.proofs.Laws.{add-law}
-use Rattle.geometry.specs.Bounds.{widePoint}
 use Rattle.styled_shape.specs.StyledRow.{boxStyledRow}
 use Rattle.styled_shape.specs.Ready.{strokeBox, fillBox}
-use Rattle.drawing.specs.Drawing.{paintBy}
-use Rattle.drawing.proofs.PaintRow.{paint-by-row}
-use Rattle.paint.specs.Rows.{rowsBy}
-use Rattle.paint.proofs.Painted.{RowsLeft, rows-start, rows-turn, rows-end}
+use Rattle.paint.specs.Rows.{widePainted, rowsBy}
+use Rattle.paint.proofs.Painted.{painted-near, rows-by-alike, RowsLeft, rows-start, rows-turns, rows-end}
 use Rattle.paint.proofs.paint_box_rows.Statement.{statement}
 use Rattle.paint.proofs.paint_box_rows.Tie as tie
 
@@ -38,7 +36,7 @@ row-is c =
     let down = c .before .from-u32 .ensures .is in
     omega (arith, int, add-law (toZ w32 (ofZ w32 (c .before .before .before .before .before .before .args .y))) (pos (c .before .before .before .loop .dy)))
 
-row-near : (c : tie.After-add Inv-loop μ-loop) → Near widePoint (c .add .result)
+row-near : (c : tie.After-add Inv-loop μ-loop) → Near widePainted (c .add .result)
 row-near c =
     let near = c .before .before .before .before .before .before .pre .1 .1 .1 .0 in
     let high = near .above in
@@ -64,31 +62,69 @@ add-requires : tie.Need-add-requires Inv-loop μ-loop
 add-requires c κs = omega (arith, int)
 
 row-requires : tie.Need-row-requires Inv-loop μ-loop
-row-requires c κs = (c .before .before .before .before .before .before .pre .1 .1 .0, rw (toZ-ofZ (c .add .ensures .fits)) (row-near c))
+row-requires c κs = (c .before .before .before .before .before .before .pre .1 .1 .0, rw (toZ-ofZ (c .add .ensures .fits)) (painted-near (row-near c)))
 
-paint-row-on-requires : tie.Need-paint-row-on-requires Inv-loop μ-loop
-paint-row-on-requires c κs = (c .before .before .before .before .before .loop .inv .size, (c .before .before .before .before .before .before .before .before .pre .1 .0, rw (toZ-ofZ (c .before .before .add .ensures .fits)) (row-near (c .before .before))))
+rows-alike-requires : tie.Need-rows-alike-requires Inv-loop μ-loop
+rows-alike-requires c κs = (c .before .before .before .before .before .before .before .pre .1 .1 .0, rw (toZ-ofZ (c .before .add .ensures .fits)) (painted-near (row-near (c .before))))
+
+sub-least : tie.Need-sub-least Inv-loop μ-loop
+sub-least c = search needs
+
+least-requires : tie.Need-least-requires Inv-loop μ-loop
+least-requires c κs = search needs
+
+-- how many rows this turn paints
+turn-rows : (c : tie.After-least Inv-loop μ-loop)
+    → (0 < c .least .result) × (c .least .result ≤ c .before .before .before .before .before .before .before .before .before .args .count - c .before .before .before .before .before .before .loop .dy)
+turn-rows c =
+    let some = c .before .rows-alike .ensures .0 in
+    let n-is = c .least .ensures in
+    let more = c .before .before .before .before .before .loop-test .taken in
+    (omega (arith, some, n-is, more), omega (arith, n-is))
+
+paint-alike-rows-requires : tie.Need-paint-alike-rows-requires Inv-loop μ-loop
+paint-alike-rows-requires c κs =
+    let start = c .before .before .before .before .before .before .before .before .before .before in
+    let n = turn-rows (c .before) .1 in
+    let few = start .pre .1 .1 .1 .1 in
+    (c .before .before .before .before .before .before .before .loop .inv .size, (start .pre .1 .0, (rw (toZ-ofZ (c .before .before .before .before .add .ensures .fits)) (row-near (c .before .before .before .before)), omega (arith, n, few))))
 
 add-dy : tie.Need-add-dy Inv-loop μ-loop
-add-dy c = omega (arith, int)
+add-dy c =
+    let n = turn-rows (c .before .before .before .before .before) .1 in
+    omega (arith, n)
 
 loop-less : tie.Need-loop-less Inv-loop μ-loop
-loop-less c = omega (arith, int)
+loop-less c =
+    let n = turn-rows (c .before .before .before .before .before) in
+    omega (arith, n .0, n .1)
 
 loop-again : tie.Need-loop-again Inv-loop μ-loop
 loop-again c =
-    let a = c .before .before .before .before .before .before .before .before .before .before .before .before .args in
-    let call = c .before .before .before .paint-row-on in
-    let before = c .before .before .before .before .before .before .before .before .before .loop .canvas in
-    let row = c .before .before .before .before .before .row .result .row in
+    let at = c .before .before .before .before .before .before .before .before in
+    let a = c .before .before .before .before .before .before .before .before .before .before .before .before .before .before .args in
+    let call = c .before .before .before .paint-alike-rows in
+    let before = c .before .before .before .before .before .before .before .before .before .before .before .loop .canvas in
+    let dy = c .before .before .before .before .before .before .before .before .before .before .before .loop .dy in
+    let found = c .before .before .before .before .before .before .before .row in
+    let n = c .before .before .before .before .before .least .result in
+    let row = found .result .row in
     let rowAt = boxStyledRow (strokeBox (a .b)) (fillBox (a .b)) in
-    let at = toZ-ofZ (c .before .before .before .before .before .before .add .ensures .fits) ∙ row-is (c .before .before .before .before .before .before) in
+    let y = toZ w32 (ofZ w32 (a .y)) +ℤ pos dy in
+    let y-is = toZ-ofZ (at .add .ensures .fits) ∙ row-is at in
     let same : length (call .last .0) ≡ length before = search needs in
-    rows-turn _ _ _ _ _ _ _ (c .before .before .before .before .before .before .before .before .before .loop .dy) before (call .last .0) (c .before .before .before .before .before .before .before .before .loop-test .taken) same
+    let row-found = found .ensures ∙ ap rowAt y-is in
+    let counted = c .before .before .before .before .before .least .ensures in
+    rows-turns rowAt _ _ _ _ _ _ dy n before (call .last .0) (c .before .before .before .before .before .before .before .before .before .before .loop-test .taken) (turn-rows (c .before .before .before .before .before) .1) same
     (call .ensures
-    ∙ ap (λ (z : ℤ). paintBy (λ _. row) (a .style) (a .size .width) (a .size .height) z before) at
-    ∙ paint-by-row rowAt (a .style) (a .size .width) (a .size .height) before row (toZ w32 (ofZ w32 (a .y)) +ℤ pos (c .before .before .before .before .before .before .before .before .before .loop .dy)) (c .before .before .before .before .before .row .ensures ∙ ap rowAt at))
-    (c .before .before .before .before .before .before .before .before .before .loop .inv)
+    ∙ ap (λ (z : ℤ). rowsBy (λ _. row) (a .style) (a .size .width) (a .size .height) z n before) y-is
+    ∙ rows-by-alike rowAt (a .style) (a .size .width) (a .size .height) row n y before
+    (λ k l.
+    ap (λ (z : ℤ). rowAt (z +ℤ pos k)) (sym y-is)
+    ∙ c .before .before .before .before .before .before .rows-alike .ensures .1 k (omega (arith, counted, l))
+    ∙ ap rowAt y-is
+    ∙ sym row-found))
+    (c .before .before .before .before .before .before .before .before .before .before .before .loop .inv)
 
 same-length : tie.Need-same-length Inv-loop μ-loop
 same-length c = omega (arith, int)
@@ -111,7 +147,10 @@ paint-box-rows-spec =
     from-u32-requires
     add-requires
     row-requires
-    paint-row-on-requires
+    rows-alike-requires
+    sub-least
+    least-requires
+    paint-alike-rows-requires
     add-dy
     loop-less
     loop-again

@@ -31,8 +31,8 @@ ready-requires c κs = search needs
 enum-known-ellipse : tie.Need-enum-known-ellipse
 enum-known-ellipse c = search needs
 
-paint-ellipse-rows-requires : tie.Need-paint-ellipse-rows-requires
-paint-ellipse-rows-requires c κs =
+paint-ellipse-requires : tie.Need-paint-ellipse-requires
+paint-ellipse-requires c κs =
     let entry = c .before .before .before .before .before .before .before .before .before in
     let seen = c .before .before .before .before .before .before .visible .ensures .1 in
     let near = seen .0 in
@@ -59,7 +59,7 @@ returns c =
     let a = c .before .before .before .before .before .before .before .before .before .before .before .before .args in
     let seen = c .before .before .before .before .before .before .before .before .before .visible in
     let shape = styled.Ellipse (c .before .before .before .before .before .before .ellipse .given .0 .0) in
-    c .before .before .paint-ellipse-rows .ensures
+    c .before .before .paint-ellipse .ensures
     ∙ ap (λ (z : ℤ). rowsBy (rowOf shape) (a .style) (a .size .width) (a .size .height) z (seen .result .count) (a .canvas .now)) (toZ-ofZ (seen .ensures .1 .0 .fits))
     ∙ visible-rows-whole (rowOf shape) (a .figure) (a .style) (a .size .width) (a .size .height) (rows-of (c .before .before .before .before .before .before .before .before) shape (c .before .before .before .before .before .before .ellipse .given .1)) (c .before .before .before .before .before .before .before .before .before .before .stroke-rows .result) (c .before .before .before .before .before .before .before .before .before .before .stroke-rows .ensures .0) (a .canvas .now) (seen .result) (seen .ensures .0)
 
@@ -88,7 +88,7 @@ paint-whole-spec =
     visible-requires
     ready-requires
     enum-known-ellipse
-    paint-ellipse-rows-requires
+    paint-ellipse-requires
     enum-known-b
     paint-box-rows-requires
     enum-told

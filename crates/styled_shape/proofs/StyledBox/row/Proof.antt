@@ -40,7 +40,7 @@ run-is c =
     let entry = c .before .before .before .before .before .before .before .before .before .before .before .before .before in
     let b = entry .args .self in
     c .run-between .ensures
-    ∙ (λ i. runBetween (toZ-ofZ (entry .pre .0 .area .at .x .fits) i) (b .area .size .width) (c .before .before .insets .ensures .0 i))
+    ∙ (λ i. runBetween (toZ-ofZ (entry .pre .0 .area .at .x .fits) i) (b .area .size .width) (c .before .before .row-insets .ensures .0 i))
     ∙ (λ i. runBetween (b .area .«top_left» .x) (b .area .size .width) (rowInsets (radii (b .stroke)) (sym (entry .pre .0 .stroke-size) i .width) (sym (entry .pre .0 .stroke-size) i .height) (c .before .before .before .before .before .before .dy .given .0 .0)))
 
 run-ends : (c : tie.After-run-between) → EndsWithin (c .before .before .before .before .before .before .before .before .before .before .before .before .before .args .self .area .«top_left» .x) (c .before .before .before .before .before .before .before .before .before .before .before .before .before .args .self .area .size .width) (c .run-between .result)
@@ -71,8 +71,8 @@ returns c =
     ap (λ (r : Row). styledBy r (fillRun (fillBox (entry .args .self)) (entry .args .y)))
     (row-out (strokeBox (entry .args .self)) (entry .args .y) (placed-told _ _ _ (entry .pre .0 .area .at .y .fits) (entry .pre .1 .fits) (c .before .before .place-of .ensures) (c .enum-told .given .1)))
 
-insets-requires : tie.Need-insets-requires
-insets-requires c κs =
+row-insets-requires : tie.Need-row-insets-requires
+row-insets-requires c κs =
     let ready = c .before .before .before .before .before .before .before .before .before .before .pre .0 in
     (ready .stroke, subst (λ (s : Size). c .before .before .before .dy .given .0 .0 < s .height) (ready .stroke-size) (row-place (c .before .before) .1))
 
@@ -80,7 +80,7 @@ run-between-requires : tie.Need-run-between-requires
 run-between-requires c κs =
     let ready = c .before .before .before .before .before .before .before .before .before .before .before .before .pre .0 in
     let area = area-bounded _ (ready .area) in
-    let insets = c .before .insets in
+    let insets = c .before .row-insets in
     let same = sym (ready .stroke-size) in (
       rw (toZ-ofZ (area .at .x .fits)) (area .at .x),
       (
@@ -117,7 +117,7 @@ row-spec =
     enum-known-dy
     enum-told
     returns
-    insets-requires
+    row-insets-requires
     run-between-requires
     fill-run-requires
     around-fill-requires

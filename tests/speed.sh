@@ -1,0 +1,38 @@
+#!/bin/sh
+# The library's painting timed beside the original Rust's, on five scenes (docs/SPEED.md):
+#
+#   sh tests/speed.sh [SOURCE]            the table: microseconds a call, and the ratios
+#   sh tests/speed.sh --check [SOURCE]    only that all ways of painting leave the same bytes; no times
+#
+# It proves and builds `exports`, builds the original without overflow checks into a folder of its own, and links
+# both into one program. Times are printed and not judged; it fails where bytes differ. Without rustc or the source
+# folder (oracle/build.sh says where it is looked for) it says so and ends with 0.
+set -eu
+root=$(cd "$(dirname "$0")/.." && pwd)
+mode=
+if [ "${1:-}" = --check ]; then
+    mode=check
+    shift
+fi
+source=${1:-${EG_SOURCE:-$root/../shared/docs/src}}
+if ! command -v rustc > /dev/null || [ ! -f "$source/src/primitives/mod.rs" ]; then
+    echo "speed.sh: skipped, there is no rustc or no source of the original"
+    exit 0
+fi
+
+work=$(mktemp -d)
+trap 'rm -rf "$work"' EXIT
+(cd "$root" && rt staticlib exports > "$work/log" 2>&1) || { tail -5 "$work/log" >&2; exit 1; }
+OVERFLOW_CHECKS=off sh "$root/oracle/build.sh" "$source" "$work/build" > "$work/log"
+
+# The oracle's program, with the driver in place of its queries.
+sed -e "s|^fn main() {|#[path = \"$root/oracle/bench.rs\"]\nmod bench;\nfn main() {|" \
+    -e 's/query::main()/bench::main()/' "$work/build/oracle.rs" > "$work/build/bench.rs"
+rustc --edition 2021 -C opt-level=3 -C overflow-checks=off -C codegen-units=1 \
+    -A dead_code -A unused_imports -A unexpected_cfgs -A private_interfaces \
+    --crate-type bin --crate-name bench \
+    --extern az="$work/build/libaz.rlib" \
+    --extern embedded_graphics_core="$work/build/libembedded_graphics_core.rlib" \
+    -L native="$root/target/staticlib" \
+    -o "$work/bench" "$work/build/bench.rs"
+"$work/bench" $mode
