@@ -12,8 +12,9 @@
  *     0           done
  *     1 .. 13     refused, by the lowest number that applies (below): no buffer differs
  *     100         the numbers are no record: a length, a kind, a paint or an alignment that there is not,
- *                 or a negative side, radius, stroke width or count: no buffer differs
- *     101         there is no such row, or the figure has no corners: no buffer differs
+ *                 or a negative side, radius, stroke width or count: no buffer differs. It comes before any
+ *                 refusal, and in a sheet before 7; in wunqaber_run_calls it comes after 6, 8 and 13
+ *     101         there is no such row, or the figure has no corners: no buffer differs. It needs no room
  * Where a call gives numbers it writes them from the start of `out`; what stands behind them stays. */
 #ifndef WUNQABER_H
 #define WUNQABER_H
@@ -44,19 +45,19 @@ enum { WUNQABER_ELLIPSE = 0, WUNQABER_CRATE_BOX = 1, WUNQABER_W3C_BOX = 2 };
 enum { WUNQABER_INSIDE = 0, WUNQABER_CENTER = 1, WUNQABER_OUTSIDE = 2 };
 enum { WUNQABER_ABSENT = -1 };
 
-/* 13 numbers. The radii are width and height of each corner, clockwise from the top-left; an ellipse
- * has none, its eight are 0 or more and not looked at. */
+/* 13 numbers. The radii are width and height of each corner, clockwise from the top-left. An ellipse has
+ * none: its eight must not be negative and play no part, so set them to 0 where a call wrote the first five. */
 typedef struct {
     int32_t kind, x, y, width, height;
     int32_t radii[8];
 } wunqaber_figure;
 
-/* 4 numbers. A paint is a colour from 0 to 255, or WUNQABER_ABSENT. */
+/* 4 numbers. A paint is a colour from 0 to 255, or WUNQABER_ABSENT. There is no alignment by default. */
 typedef struct {
     int32_t stroke, fill, stroke_width, alignment;
 } wunqaber_style;
 
-/* 291 numbers, made by wunqaber_sheet_open. */
+/* 291 numbers, made by wunqaber_sheet_open. Unused places hold records too. */
 typedef struct {
     int32_t width, height, count;
     struct {
@@ -85,7 +86,8 @@ uint32_t wunqaber_row(const int32_t *figure, size_t figure_length, int32_t y,
 uint32_t wunqaber_points(const int32_t *figure, size_t figure_length, int32_t *list, size_t list_length,
                          int32_t *out, size_t out_length);
 
-/* The figure offset by k: 5 numbers for an ellipse, 13 for a box. Refused by 1, 2, 3, 5, 13. */
+/* The figure offset by k: 5 numbers for an ellipse, 13 for a box, of which the radii of a crate box are not
+ * confined. It may lie beyond the limits. Refused by 1, 2, 3, 5, 13. */
 uint32_t wunqaber_offset(const int32_t *figure, size_t figure_length, int32_t k,
                          int32_t *out, size_t out_length);
 
