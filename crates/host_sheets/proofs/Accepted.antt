@@ -2,7 +2,7 @@
 -- Assumes nothing.
 use mathlib.Core.Path.{_≡_, ap}
 use mathlib.Core.List.{List, []}
-use Prim.Native.Nat.{ℕ, _<_}
+use Prim.Native.Nat.{ℕ, _<_, _≤_}
 use native.Mathlib.Omega.{arith}
 use lib.IntN.{ℤ}
 use Rattle.book.specs.Book.{accepted, paint}
@@ -29,6 +29,12 @@ painted-place numbers i canvas e =
     let within = told .within in
     let few = kept-few (s .width) (s .height) (s .count) (s .layers) (sixteen numbers) (told .rules) in
     omega arith
+
+pub painted-few : (numbers : List ℤ) (i : ℕ) (canvas : List ℕ) → sheetAnswer (sheetOf numbers) canvas (paint i) ≡ accepted → sheetOf numbers .count ≤ 16
+painted-few numbers i canvas e =
+    let s = sheetOf numbers in
+    kept-few (s .width) (s .height) (s .count) (s .layers) (sixteen numbers)
+    (painted-accepted (s .width) (s .height) (s .count) (s .layers) (sixteen numbers) i canvas e .rules)
 
 -- and the new count is small
 pub added-count : (numbers figure style : List ℤ) → sheetAnswer (sheetOf numbers) [] (addOf figure style) ≡ accepted

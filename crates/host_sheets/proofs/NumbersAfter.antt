@@ -1,12 +1,14 @@
 -- The numbers after a call are a sheet's again, and of the sheet after it.
 -- Assumes nothing.
-use mathlib.Core.Path.{_≡_, refl, ap, _∙_}
+use mathlib.Core.Path.{_≡_, refl, sym, ap, _∙_}
 use mathlib.Core.Bool.{true, _&&_}
 use mathlib.Core.List.{[]}
+use Prim.Native.Nat.{ℕ, _+_}
 use native.Mathlib.Omega.{arith}
+use lib.Dec.{eqb}
 use lib.IntN.{ℤ, pos}
-use lib.ListN.{getD}
-use lib.Seq.{getD-set-same}
+use lib.ListN.{getD, length-set}
+use lib.Seq.{sets, getD-set-same, length-sets}
 use lib.Signed.{leZ}
 use Rattle.signed.specs.Signed.{floor0}
 use Rattle.signed.proofs.Laws.{int}
@@ -18,11 +20,11 @@ use Rattle.layers.specs.Layers.{blankLayer}
 use Rattle.sheet.specs.Sheet.{openedSheet, sheetAnswer, withLayer, addedLayer, paintedLayer, carriedOutSheet, sheetAfter}
 use Rattle.record_numbers.specs.RecordNumbers.{isFigure, isStyle, listFrom, allFrom, noneNegative, figureOf, styleOf, paintOf, alignmentOf}
 use Rattle.record_numbers.proofs.Records.{figure-length, style-length}
-use Rattle.sheet_record.specs.SheetRecord.{isSheet, sheetOf}
-use Rattle.sheet_record.proofs.Parts.{sheet-length, sixteen}
-use Rattle.sheet_record.proofs.ReadBack.{row-kept, row-read-back, layer-kept, layer-read-back}
-use Rattle.host_sheets.specs.Sheets.{unusedPlaces, nextRow, addOf, addNumbers, paintNumbers, OpenReadsBack, AddReadsBack, PaintReadsBack}
-use Rattle.host_sheets.proofs.Accepted.{added-place, painted-place}
+use Rattle.sheet_record.specs.SheetRecord.{isSheet, holdsRecords, sheetOf, placeAt, layerPut}
+use Rattle.sheet_record.proofs.Parts.{sheet-length, sixteen, records-of-few, count-of-records}
+use Rattle.sheet_record.proofs.ReadBack.{row-read-back, layer-read-back}
+use Rattle.host_sheets.specs.Sheets.{unusedPlaces, openedNumbers, nextRow, addOf, addNumbers, paintNumbers, OpenReadsBack, AddReadsBack, PaintReadsBack}
+use Rattle.host_sheets.proofs.Accepted.{added-place, painted-place, painted-few}
 
 pub paint-reads-back : PaintReadsBack
 unfolding paintNumbers carriedOutSheet
@@ -33,13 +35,14 @@ paint-reads-back numbers i canvas is = by (sheetAnswer (sheetOf numbers) canvas 
     by (refused n) e = rw (is, e) (is, refl)
     by accepted e =
         let place = painted-place numbers i canvas e in
+        let few = painted-few numbers i canvas e in
         let long = sheet-length numbers is in
         let row : nextRow (carriedOutSheet (sheetOf numbers) (paint i)) i ≡ paintedLayer (getD (sheetOf numbers .layers) i blankLayer) .«next_row» =
         ap (λ (l : Layer). l .«next_row»)
         (getD-set-same (sheetOf numbers .layers) i (paintedLayer (getD (sheetOf numbers .layers) i blankLayer)) blankLayer (omega (arith, sixteen numbers))) in
         rw (is, e) (
-          row-kept numbers long i place _ is,
-          row-read-back numbers long i place _
+          ap (λ (n : ℕ). eqb n 291) (length-set numbers (placeAt i + 17) _) ∙ is,
+          row-read-back numbers long i place _ (records-of-few numbers few)
               ∙ ap (λ (z : ℤ).
               withLayer (sheetOf numbers) (sheetOf numbers .count) i
               (record { figure = getD (sheetOf numbers .layers) i blankLayer .figure; style = getD (sheetOf numbers .layers) i blankLayer .style; «next_row» = z })) row,
@@ -64,24 +67,31 @@ add-reads-back numbers figure style all = by (sheetAnswer (sheetOf numbers) [] (
     by accepted e =
         let place = added-place numbers figure style e in
         let long = sheet-length numbers is in
-        let new : Layer = addedLayer (styledFigure (figureOf figure) (styleOf style)) in
+        let records = records-of-few numbers (omega (arith, place)) in
         let row : nextRow (carriedOutSheet (sheetOf numbers) (addOf figure style)) (sheetOf numbers .count)
         ≡ addedLayer (styledFigure (figureOf figure) (styleOf style)) .«next_row» =
         ap (λ (l : Layer). l .«next_row»)
         (getD-set-same (sheetOf numbers .layers) (sheetOf numbers .count) (addedLayer (styledFigure (figureOf figure) (styleOf style))) blankLayer (omega (arith, sixteen numbers, place))) in
         rw (is, is-figure, is-style, e) (
-          layer-kept numbers long (sheetOf numbers .count) place figure style _ _ (figure-length figure is-figure) (style-length style is-style) is is-figure is-style,
+          ap (λ (n : ℕ). eqb n 291)
+          (length-set (layerPut numbers (sheetOf numbers .count) figure style _) 2 _
+          ∙ length-set (sets (sets numbers (placeAt (sheetOf numbers .count)) figure) (placeAt (sheetOf numbers .count) + 13) style) (placeAt (sheetOf numbers .count) + 17) _
+          ∙ length-sets (sets numbers (placeAt (sheetOf numbers .count)) figure) (placeAt (sheetOf numbers .count) + 13) style
+          ∙ length-sets numbers (placeAt (sheetOf numbers .count)) figure)
+          ∙ is,
           layer-read-back numbers long (sheetOf numbers .count) place figure style _ _ (figure-length figure is-figure) (style-length style is-style)
+          records (sym (count-of-records numbers records)) refl is-figure is-style
               ∙ ap (λ (z : ℤ).
               withLayer (sheetOf numbers) (carriedOutSheet (sheetOf numbers) (addOf figure style) .count) (sheetOf numbers .count)
               (record { figure = figureOf figure; style = styleOf style; «next_row» = z })) row,
         )
 
 pub open-reads-back : OpenReadsBack
-unfolding unusedPlaces isSheet sheetOf listFrom allFrom noneNegative isFigure isStyle figureOf styleOf paintOf alignmentOf
+unfolding unusedPlaces holdsRecords sheetOf listFrom allFrom noneNegative isFigure isStyle figureOf styleOf paintOf alignmentOf
 open-reads-back W H =
     let w : leZ (pos 0) (pos W) ≡ true = omega (arith, int) in
     let h : leZ (pos 0) (pos H) ≡ true = omega (arith, int) in
     let width : floor0 (pos W) ≡ W = omega arith in
     let height : floor0 (pos H) ≡ H = omega arith in
-    (rw (w, h), λ k. record { width = width k; height = height k; count = 0; layers = openedSheet W H .layers })
+    let records : holdsRecords (openedNumbers W H) ≡ true = rw (w, h) in
+    (refl, λ k. record { width = width k; height = height k; count = count-of-records (openedNumbers W H) records k; layers = openedSheet W H .layers })

@@ -1,7 +1,7 @@
 -- The part of a list that is lent for a place, and what all places make.
 -- Assumes nothing.
 use mathlib.Core.Path.{_≡_, refl, ap}
-use mathlib.Core.Bool.{true}
+use mathlib.Core.Bool.{Bool, true, false, cond}
 use mathlib.Core.List.{List}
 use Prim.Native.Nat.{ℕ, _+_, _*_, _-_, _<_, _≤_}
 use native.Mathlib.Omega.{arith}
@@ -10,11 +10,11 @@ use borrow.Author.Tests.{eqb-true}
 use lib.IntN.{ℤ}
 use lib.ListN.{length, take, drop, set, replicate, length-take, length-drop}
 use lib.Seq.{sets}
-use Rattle.record_numbers.specs.RecordNumbers.{listFrom}
-use Rattle.record_numbers.proofs.Records.{first-true}
+use Rattle.signed.specs.Signed.{floor0}
+use Rattle.record_numbers.specs.RecordNumbers.{numberAt, listFrom}
 use Rattle.record_numbers.proofs.Walks.{list-from-here, list-from-past}
 use Rattle.layers.specs.declared.Layer.{Layer}
-use Rattle.sheet_record.specs.SheetRecord.{layerLength, sheetLength, placeNumbers, isSheet, sheetOf}
+use Rattle.sheet_record.specs.SheetRecord.{layerLength, sheetLength, placeNumbers, isSheet, holdsRecords, countOf, sheetOf}
 
 module _ (numbers : List ℤ) (j : ℕ) where
   pub place-part : take (3 + 18 * j + 18 - (3 + 18 * j)) (drop (3 + 18 * j) numbers) ≡ placeNumbers numbers j
@@ -41,9 +41,24 @@ module _ (f : ℕ → Layer) where
 
 -- ---- numbers that are a sheet have its length, and what they are has 16 places
 pub sheet-length : (numbers : List ℤ) → isSheet numbers ≡ true → length numbers ≡ sheetLength
-unfolding isSheet
-sheet-length numbers is = eqb-true (length numbers) sheetLength (first-true _ _ is)
+sheet-length numbers is = eqb-true (length numbers) sheetLength is
 
 pub sixteen : (numbers : List ℤ) → length (sheetOf numbers .layers) ≡ 16
 unfolding sheetOf listFrom
 sixteen numbers = refl
+
+-- ---- numbers that say 16 layers or fewer hold records
+module _ (numbers : List ℤ) where
+  pub records-of-few : sheetOf numbers .count ≤ 16 → holdsRecords numbers ≡ true
+  unfolding sheetOf
+  records-of-few few = by (holdsRecords numbers) refl
+    where
+      by : (t : Bool) → holdsRecords numbers ≡ t → holdsRecords numbers ≡ true
+      by true holds = holds
+      by false lacking =
+          let many : countOf numbers ≡ 17 = ap (λ (t : Bool). cond t (floor0 (numberAt numbers 2)) 17) lacking in
+          absurd (omega arith)
+
+  pub count-of-records : holdsRecords numbers ≡ true → sheetOf numbers .count ≡ floor0 (numberAt numbers 2)
+  unfolding sheetOf
+  count-of-records holds = ap (λ (t : Bool). cond t (floor0 (numberAt numbers 2)) 17) holds

@@ -4,9 +4,9 @@ use mathlib.Core.Path.{_≡_, refl, sym, ap, ap₂, _∙_}
 use mathlib.Core.Bool.{Bool, true, false, _&&_}
 use mathlib.Core.List.{List, [], _∷_, _++_}
 use mathlib.Core.Logic.{_≢_}
-use Prim.Native.Nat.{ℕ, zero, suc, _+_, _<_, _≤_}
+use Prim.Native.Nat.{ℕ, zero, suc, _+_, _<_, _≤_, min}
 use native.Mathlib.Omega.{arith}
-use borrow.Author.Tests.{leb-true, leb-false, eq-eqb, eqb-true, eqb-false}
+use borrow.Author.Tests.{leb-true, leb-false, eqb-true, eqb-false}
 use lib.Dec.{leb, eqb}
 use lib.IntN.{ℤ, pos}
 use lib.ListN.{length, take, drop, set, getD, length-take, length-drop, length-set}
@@ -19,7 +19,8 @@ use Rattle.book.proofs.Tests.{and-true-parts}
 use Rattle.layers.specs.declared.Layer.{Layer}
 use Rattle.layers.specs.Layers.{blankLayer}
 use Rattle.sheet.specs.Sheet.{withLayer}
-use Rattle.sheet_record.specs.SheetRecord.{placeAt, placeNumbers, isLayer, isSheet, layerOf, sheetOf, layerPut}
+use Rattle.sheet_record.specs.SheetRecord.{placeAt, placeNumbers, isLayer, holdsRecords, layerOf, sheetOf, layerPut}
+use Rattle.sheet_record.proofs.Parts.{count-of-records}
 use Rattle.sheet_record.proofs.Windows.{drop-sets-before, drop-sets-add, take-sets-behind, part-before, part-behind}
 
 -- ---- Lists that differ in one place.
@@ -72,7 +73,7 @@ apart i j other true order P after before =
     after (omega arith)
 apart i j other false order P after before = before (leb-false i j order)
 
--- ---- The numbers are a sheet's afterwards too.
+-- ---- The numbers hold records afterwards too.
 none-negative-set : (l : List ℤ) (k n : ℕ) → noneNegative l ≡ true → noneNegative (set l k (pos n)) ≡ true
 unfolding noneNegative
 none-negative-set [] k n none = none
@@ -83,27 +84,28 @@ none-negative-set (v ∷ l) (suc k) n none =
     let parts = and-true-parts (leZ (pos 0) v) (noneNegative l) none in
     ap₂ _&&_ (parts .0) (none-negative-set l k n (parts .1))
 
-module _ (before after : List ℤ) (sheet : isSheet before ≡ true) where
-  pub places-before : (j : ℕ) → j < 16 → isLayer (placeNumbers before j) ≡ true
-  unfolding isSheet
+-- how many places are used
+abbrev used : List ℤ → ℕ
+used numbers = min (floor0 (numberAt numbers 2)) 16
+
+module _ (before after : List ℤ) (records : holdsRecords before ≡ true) where
+  places-before : (j : ℕ) → j < used before → isLayer (placeNumbers before j) ≡ true
+  unfolding holdsRecords
   places-before j within =
       let here : 0 + j ≡ j = omega arith in
       ap (λ (k : ℕ). isLayer (placeNumbers before k)) (sym here)
-      ∙ each-of-all (λ k. isLayer (placeNumbers before k)) 16 0 j within
-      (and-true-parts (noneNegative (take 3 before)) (allFrom (λ k. isLayer (placeNumbers before k)) 0 16)
-      (and-true-parts (eqb (length before) 291) (noneNegative (take 3 before) && allFrom (λ k. isLayer (placeNumbers before k)) 0 16) sheet .1) .1)
+      ∙ each-of-all (λ k. isLayer (placeNumbers before k)) (used before) 0 j within
+      (and-true-parts (noneNegative (take 3 before)) (allFrom (λ k. isLayer (placeNumbers before k)) 0 (used before)) records .1)
 
-  pub sides-before : noneNegative (take 3 before) ≡ true
-  unfolding isSheet
-  sides-before =
-      and-true-parts (noneNegative (take 3 before)) (allFrom (λ k. isLayer (placeNumbers before k)) 0 16)
-      (and-true-parts (eqb (length before) 291) (noneNegative (take 3 before) && allFrom (λ k. isLayer (placeNumbers before k)) 0 16) sheet .1) .0
+  sides-before : noneNegative (take 3 before) ≡ true
+  unfolding holdsRecords
+  sides-before = and-true-parts (noneNegative (take 3 before)) (allFrom (λ k. isLayer (placeNumbers before k)) 0 (used before)) records .0
 
-  pub still-sheet : length after ≡ 291 → noneNegative (take 3 after) ≡ true → ((j : ℕ) → j < 16 → isLayer (placeNumbers after j) ≡ true)
-      → isSheet after ≡ true
-  unfolding isSheet
-  still-sheet long sides places =
-      rw (eq-eqb (length after) 291 long, sides) (all-of-each (λ k. isLayer (placeNumbers after k)) 16 0 (λ j within. places j within))
+  still-records : noneNegative (take 3 after) ≡ true → ((j : ℕ) → j < used after → isLayer (placeNumbers after j) ≡ true)
+      → holdsRecords after ≡ true
+  unfolding holdsRecords
+  still-records sides places =
+      rw sides (all-of-each (λ k. isLayer (placeNumbers after k)) (used after) 0 (λ j within. places j (omega arith)))
 
 -- ---- A next row.
 module _ (numbers : List ℤ) (long : length numbers ≡ 291) (i : ℕ) (place : i < 16) (row : ℤ) where
@@ -146,29 +148,35 @@ module _ (numbers : List ℤ) (long : length numbers ≡ 291) (i : ℕ) (place :
   other-number : (k : ℕ) → k < 20 → numberAt written k ≡ numberAt numbers k
   other-number k small = getD-set-other numbers (placeAt i + 17) k row (pos 0) (omega arith)
 
-  pub row-kept : isSheet numbers ≡ true → isSheet written ≡ true
-  row-kept sheet =
-      still-sheet numbers written sheet (length-set numbers (placeAt i + 17) row ∙ long)
-      (ap noneNegative (take-set-le 3 numbers (placeAt i + 17) row (omega arith)) ∙ sides-before numbers written sheet)
-      (λ j within. by-place j within (eqb j i) refl)
+  pub row-kept : holdsRecords numbers ≡ true → holdsRecords written ≡ true
+  row-kept records =
+      still-records numbers written records
+      (ap noneNegative (take-set-le 3 numbers (placeAt i + 17) row (omega arith)) ∙ sides-before numbers written records)
+      (λ j within. by-place j (before j within) (eqb j i) refl)
     where
-      by-place : (j : ℕ) → j < 16 → (t : Bool) → eqb j i ≡ t → isLayer (placeNumbers written j) ≡ true
-      by-place j within false order = ap (λ (p : List ℤ). isLayer p) (same-place j (eqb-false j i order)) ∙ places-before numbers written sheet j within
+      before : (j : ℕ) → j < used written → j < used numbers
+      before j within =
+          let same = ap (λ (z : ℤ). min (floor0 z) 16) (other-number 2 (omega arith)) in
+          omega arith
+
+      by-place : (j : ℕ) → j < used numbers → (t : Bool) → eqb j i ≡ t → isLayer (placeNumbers written j) ≡ true
+      by-place j within false order = ap (λ (p : List ℤ). isLayer p) (same-place j (eqb-false j i order)) ∙ places-before numbers written records j within
       by-place j within true order =
           let p = placeNumbers numbers i in
           let style = ap (take 4) (drop-set-add 13 p 4 row) ∙ take-set-le 4 (drop 13 p) 4 row (omega arith) in
-          ap (λ (k : ℕ). isLayer (placeNumbers written k)) (eqb-true j i order)
+          let here = eqb-true j i order in
+          ap (λ (k : ℕ). isLayer (placeNumbers written k)) here
           ∙ ap (λ (q : List ℤ). isLayer q) this-place
           ∙ ap₂ (λ (f s : List ℤ). isFigure f && isStyle s) (take-set-le 13 p 17 row (omega arith)) style
-          ∙ places-before numbers written sheet i place
+          ∙ places-before numbers written records i (omega arith)
 
-  pub row-read-back : sheetOf written ≡ withLayer (sheetOf numbers) (sheetOf numbers .count) i new
+  pub row-read-back : holdsRecords numbers ≡ true → sheetOf written ≡ withLayer (sheetOf numbers) (sheetOf numbers .count) i new
   unfolding sheetOf
-  row-read-back k =
+  row-read-back records k =
       record {
         width = floor0 (other-number 0 (omega arith) k);
         height = floor0 (other-number 1 (omega arith) k);
-        count = floor0 (other-number 2 (omega arith) k);
+        count = (count-of-records written (row-kept records) ∙ ap (λ (z : ℤ). floor0 z) (other-number 2 (omega arith)) ∙ sym (count-of-records numbers records)) k;
         layers = (but-one (λ j. layerOf (placeNumbers numbers j)) (λ j. layerOf (placeNumbers written j)) i (λ j other. ap layerOf (same-place j other)) 16 0 i (omega arith)
             ∙ ap (set (sheetOf numbers .layers) i) this-layer) k;
       }
@@ -270,40 +278,43 @@ module _ (numbers : List ℤ) (long : length numbers ≡ 291) (i : ℕ) (place :
   put-long : length (layerPut numbers i figure style row) ≡ 291
   put-long = simp length-set (length-sets (sets numbers at figure) (at + 13) style ∙ length-sets numbers at figure ∙ long)
 
-  pub layer-kept : isSheet numbers ≡ true → isFigure figure ≡ true → isStyle style ≡ true → isSheet added ≡ true
-  layer-kept sheet is-figure is-style =
-      still-sheet numbers added sheet (length-set (layerPut numbers i figure style row) 2 (pos count) ∙ put-long) sides
-      (λ j within. by-place j within (eqb j i) refl)
-    where
-      sides : noneNegative (take 3 added) ≡ true
-      sides =
-          ap noneNegative
-          (take-set-lt 3 (layerPut numbers i figure style row) 2 (pos count) (omega arith)
-          ∙ ap (λ (l : List ℤ). set l 2 (pos count))
-          (take-set-le 3 (sets (sets numbers at figure) (at + 13) style) (at + 17) row (omega arith)
-          ∙ take-sets-behind 3 (at + 13) (sets numbers at figure) style (omega arith)
-          ∙ take-sets-behind 3 at numbers figure (omega arith)))
-          ∙ none-negative-set (take 3 numbers) 2 count (sides-before numbers added sheet)
+  module _ (records : holdsRecords numbers ≡ true) (first-free : floor0 (numberAt numbers 2) ≡ i) (one-more : count ≡ i + 1)
+      (is-figure : isFigure figure ≡ true) (is-style : isStyle style ≡ true) where
+    count-read : floor0 (numberAt added 2) ≡ count
+    count-read =
+        let read : floor0 (pos count) ≡ count = omega arith in
+        ap (λ (z : ℤ). floor0 z) (getD-set-same (layerPut numbers i figure style row) 2 (pos count) (pos 0) (omega (arith, put-long))) ∙ read
 
-      by-place : (j : ℕ) → j < 16 → (t : Bool) → eqb j i ≡ t → isLayer (placeNumbers added j) ≡ true
-      by-place j within false order =
-          ap (λ (p : List ℤ). isLayer p) (added-elsewhere j (eqb-false j i order)) ∙ places-before numbers added sheet j within
-      by-place j within true order =
-          ap (λ (k : ℕ). isLayer (placeNumbers added k)) (eqb-true j i order)
-          ∙ ap (λ (q : List ℤ). isLayer q) own-numbers
-          ∙ ap₂ (λ (f s : List ℤ). isFigure f && isStyle s) own-figure own-style
-          ∙ rw (is-figure, is-style)
+    pub layer-kept : holdsRecords added ≡ true
+    layer-kept = still-records numbers added records sides (λ j within. by-place j within (eqb j i) refl)
+      where
+        sides : noneNegative (take 3 added) ≡ true
+        sides =
+            ap noneNegative
+            (take-set-lt 3 (layerPut numbers i figure style row) 2 (pos count) (omega arith)
+            ∙ ap (λ (l : List ℤ). set l 2 (pos count))
+            (take-set-le 3 (sets (sets numbers at figure) (at + 13) style) (at + 17) row (omega arith)
+            ∙ take-sets-behind 3 (at + 13) (sets numbers at figure) style (omega arith)
+            ∙ take-sets-behind 3 at numbers figure (omega arith)))
+            ∙ none-negative-set (take 3 numbers) 2 count (sides-before numbers added records)
 
-  pub layer-read-back : sheetOf added ≡ withLayer (sheetOf numbers) count i put
-  unfolding sheetOf
-  layer-read-back k =
-      record {
-        width = floor0 (first-numbers 0 (omega arith) k);
-        height = floor0 (first-numbers 1 (omega arith) k);
-        count = (ap (λ (z : ℤ). floor0 z) (getD-set-same (layerPut numbers i figure style row) 2 (pos count) (pos 0) (omega (arith, put-long))) ∙ count-read) k;
-        layers = (but-one (λ j. layerOf (placeNumbers numbers j)) (λ j. layerOf (placeNumbers added j)) i (λ j other. ap layerOf (added-elsewhere j other)) 16 0 i (omega arith)
-            ∙ ap (set (sheetOf numbers .layers) i) added-here) k;
-      }
-    where
-      count-read : floor0 (pos count) ≡ count
-      count-read = omega arith
+        by-place : (j : ℕ) → j < used added → (t : Bool) → eqb j i ≡ t → isLayer (placeNumbers added j) ≡ true
+        by-place j within false order =
+            let other = eqb-false j i order in
+            ap (λ (p : List ℤ). isLayer p) (added-elsewhere j other) ∙ places-before numbers added records j (omega (arith, count-read))
+        by-place j within true order =
+            ap (λ (k : ℕ). isLayer (placeNumbers added k)) (eqb-true j i order)
+            ∙ ap (λ (q : List ℤ). isLayer q) own-numbers
+            ∙ ap₂ (λ (f s : List ℤ). isFigure f && isStyle s) own-figure own-style
+            ∙ rw (is-figure, is-style)
+
+    pub layer-read-back : sheetOf added ≡ withLayer (sheetOf numbers) count i put
+    unfolding sheetOf
+    layer-read-back k =
+        record {
+          width = floor0 (first-numbers 0 (omega arith) k);
+          height = floor0 (first-numbers 1 (omega arith) k);
+          count = (count-of-records added layer-kept ∙ count-read) k;
+          layers = (but-one (λ j. layerOf (placeNumbers numbers j)) (λ j. layerOf (placeNumbers added j)) i (λ j other. ap layerOf (added-elsewhere j other)) 16 0 i (omega arith)
+              ∙ ap (set (sheetOf numbers .layers) i) added-here) k;
+        }

@@ -2,11 +2,11 @@
 -- record and not its numbers.
 --     0, 1, 2               W, H, and how many of the places hold a layer
 --     3 + 18 j to 20 + 18 j   place j, for j from 0 to 15: the figure's 13 numbers, the style's 4, and the next row
--- Figures and styles are written as in `record_numbers`, in unused places too.
+-- Figures and styles are written as in `record_numbers`.
 -- Assumes nothing.
-use mathlib.Core.Bool.{Bool, _&&_}
+use mathlib.Core.Bool.{Bool, cond, _&&_}
 use mathlib.Core.List.{List}
-use Prim.Native.Nat.{ℕ, _+_, _*_}
+use Prim.Native.Nat.{ℕ, suc, _+_, _*_, min}
 use lib.Dec.{eqb}
 use lib.IntN.{ℤ}
 use lib.ListN.{length, take, drop, set}
@@ -31,30 +31,39 @@ placeAt j = 3 + layerLength * j
 abbrev pub placeNumbers : List ℤ → ℕ → List ℤ
 placeNumbers numbers j = take layerLength (drop (placeAt j) numbers)
 
--- ---- Which numbers are a layer, and a sheet.
-abbrev pub isLayer : List ℤ → Bool
-isLayer numbers = isFigure (take figureLength numbers) && isStyle (take styleLength (drop 13 numbers))
+-- ---- Which numbers are a sheet: those of its length. What stands in them may still be no record, and then breaks a rule.
+abbrev pub isSheet : List ℤ → Bool
+isSheet numbers = eqb (length numbers) sheetLength
 
-unfoldable pub isSheet : List ℤ → Bool
-isSheet numbers =
-    eqb (length numbers) sheetLength
-    && (noneNegative (take 3 numbers) && allFrom (λ j. isLayer (placeNumbers numbers j)) 0 maxLayers)
+-- the numbers of a layer
+abbrev pub isLayer : List ℤ → Bool
+isLayer numbers = isFigure (take figureLength numbers) && isStyle (take styleLength (drop figureLength numbers))
+
+-- W, H and the count are not negative, and each place that holds a layer has a layer's numbers. Unused places are not looked at
+unfoldable pub holdsRecords : List ℤ → Bool
+holdsRecords numbers =
+    noneNegative (take 3 numbers) && allFrom (λ j. isLayer (placeNumbers numbers j)) 0 (min (floor0 (numberAt numbers 2)) maxLayers)
 
 -- ---- Which they are.
 abbrev pub layerOf : List ℤ → Layer
 layerOf numbers =
     record {
       figure = figureOf (take figureLength numbers);
-      style = styleOf (take styleLength (drop 13 numbers));
+      style = styleOf (take styleLength (drop figureLength numbers));
       «next_row» = numberAt numbers 17;
     }
 
+-- numbers that hold something else than records are read as a sheet that says 17 layers, and so breaks the rule on their number
+abbrev pub countOf : List ℤ → ℕ
+countOf numbers = cond (holdsRecords numbers) (floor0 (numberAt numbers 2)) (suc maxLayers)
+
+-- the sheet
 unfoldable pub sheetOf : List ℤ → Sheet
 sheetOf numbers =
     record {
       width = floor0 (numberAt numbers 0);
       height = floor0 (numberAt numbers 1);
-      count = floor0 (numberAt numbers 2);
+      count = countOf numbers;
       layers = listFrom (λ j. layerOf (placeNumbers numbers j)) 0 maxLayers;
     }
 

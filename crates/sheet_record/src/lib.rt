@@ -12,7 +12,7 @@ ghost use mathlib.Core.Path.{_≡_};
 ghost use Prim.Native.Nat.{_<_};
 ghost use lib.ListN.{length};
 ghost use Rattle.record_numbers.specs.RecordNumbers.{figureLength, styleLength};
-ghost use Rattle.sheet_record.specs.SheetRecord.{layerLength, sheetLength, isLayer, isSheet, layerOf, sheetOf, layerPut};
+ghost use Rattle.sheet_record.specs.SheetRecord.{layerLength, sheetLength, isLayer, isSheet, holdsRecords, countOf, layerOf, sheetOf, layerPut};
 
 // How many numbers a layer has, and a sheet.
 pub const LAYER_LENGTH: usize = 18;
@@ -34,14 +34,20 @@ fn is_layer(numbers: &[i32]) -> bool
 pub fn is_sheet(numbers: &[i32]) -> bool
     ensures { λ r. ⌜ r ≡ isSheet (now (numbers .entry)) ⌝ }
 {
-    if numbers.len() != SHEET_LENGTH {
-        return false;
-    }
+    numbers.len() == SHEET_LENGTH
+}
+
+// Whether the numbers hold records: unused places are not looked at.
+fn holds_records(numbers: &[i32]) -> bool
+    requires { ⌜ length (now numbers) ≡ sheetLength ⌝ }
+    ensures { λ r. ⌜ r ≡ holdsRecords (now (numbers .entry)) ⌝ }
+{
     if !none_negative(&numbers[0..3]) {
         return false;
     }
+    let used = signed::least(signed::floor0(numbers[2]), Layer::MAX_LAYERS) as usize;
     let mut j: usize = 0;
-    while j < 16 {
+    while j < used {
         let at = 3 + LAYER_LENGTH * j;
         let end = at + LAYER_LENGTH;
         if !is_layer(&numbers[at..end]) {
@@ -50,6 +56,17 @@ pub fn is_sheet(numbers: &[i32]) -> bool
         j += 1;
     }
     true
+}
+
+// How many layers the numbers say: one more than there may be where they hold no records.
+fn count_of(numbers: &[i32]) -> u32
+    requires { ⌜ length (now numbers) ≡ sheetLength ⌝ }
+    ensures { λ r. ⌜ r ≡ countOf (now (numbers .entry)) ⌝ }
+{
+    if holds_records(numbers) {
+        return signed::floor0(numbers[2]);
+    }
+    17
 }
 
 // The layer that the numbers are.
@@ -81,7 +98,7 @@ pub fn sheet_of(numbers: &[i32]) -> Sheet
     Sheet {
         width: signed::floor0(numbers[0]),
         height: signed::floor0(numbers[1]),
-        count: signed::floor0(numbers[2]),
+        count: count_of(numbers),
         layers: places,
     }
 }

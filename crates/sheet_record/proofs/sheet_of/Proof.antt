@@ -3,6 +3,7 @@
 use mathlib.Core.Path.{_≡_, refl, sym, ap, _∙_}
 use mathlib.Core.List.{List}
 use Prim.Native.Nat.{_+_, _-_, _≤_}
+use borrow.Author.Needs.{needs}
 use lib.IntN.{ℤ}
 use lib.ListN.{length, set, length-set}
 use lib.Seq.{sets}
@@ -13,7 +14,6 @@ use Rattle.layers.specs.declared.Layer.{Layer}
 use Rattle.sheet_record.specs.SheetRecord.{placeNumbers, layerOf, sheetOf}
 use Rattle.sheet_record.proofs.Parts.{place-part, place-part-length, put-place, all-put, whole}
 use native.Mathlib.Omega.{arith}
-use borrow.Author.Needs.{needs}
 use Rattle.signed.proofs.Laws.{int}
 use Rattle.sheet_record.proofs.sheet_of.Statement.{statement}
 use Rattle.sheet_record.proofs.sheet_of.Tie as tie
@@ -69,13 +69,11 @@ loop-less c = omega (arith, int)
 loop-again : tie.Need-loop-again Inv-loop μ-loop
 loop-again c =
     let numbers = c .before .before .before .before .before .args .numbers .now in
-    let walk = c .before .before .before .loop in (
-      omega arith,
-      simp length-set (walk .inv .1),
+    let walk = c .before .before .before .loop in
+    (omega arith, simp length-set (walk .inv .1),
       ap (λ (l : Layer). sets (set (walk .places) (walk .j) l) (walk .j + 1) (listFrom (λ k. layerOf (placeNumbers numbers k)) (walk .j + 1) (16 - (walk .j + 1))))
-          (c .layer-of .ensures ∙ ap (λ (p : List ℤ). layerOf p) (place-part numbers (walk .j)))
-          ∙ sym (put-place (λ k. layerOf (placeNumbers numbers k)) (walk .places) (walk .j) (c .before .before .loop-test .taken)) ∙ walk .inv .2,
-    )
+      (c .layer-of .ensures ∙ ap (λ (p : List ℤ). layerOf p) (place-part numbers (walk .j)))
+      ∙ sym (put-place (λ k. layerOf (placeNumbers numbers k)) (walk .places) (walk .j) (c .before .before .loop-test .taken)) ∙ walk .inv .2)
 
 shared-slice-copy-out-floor0 : tie.Need-shared-slice-copy-out-floor0 Inv-loop μ-loop
 shared-slice-copy-out-floor0 c = omega (arith, int)
@@ -89,22 +87,19 @@ shared-slice-copy-out-floor0-2 c = omega (arith, int)
 floor0-requires-2 : tie.Need-floor0-requires-2 Inv-loop μ-loop
 floor0-requires-2 c κs = omega (arith, int)
 
-shared-slice-copy-out-floor0-3 : tie.Need-shared-slice-copy-out-floor0-3 Inv-loop μ-loop
-shared-slice-copy-out-floor0-3 c = omega (arith, int)
-
-floor0-requires-3 : tie.Need-floor0-requires-3 Inv-loop μ-loop
-floor0-requires-3 c κs = omega (arith, int)
+count-of-requires : tie.Need-count-of-requires Inv-loop μ-loop
+count-of-requires c κs = search needs
 
 returns : tie.Need-returns Inv-loop μ-loop
 unfolding sheetOf
 returns c i =
-    let numbers = c .before .before .before .before .before .before .before .before .before .args .numbers .now in
-    let walk = c .before .before .before .before .before .before .before .loop in
+    let numbers = c .before .before .before .before .before .before .before .before .args .numbers .now in
+    let walk = c .before .before .before .before .before .before .loop in
     record {
-      width = (c .before .before .before .before .floor0 .ensures ∙ ap (λ (z : ℤ). floor0 z) (read-back numbers 0 (c .before .before .before .before .before .floor0-arg .given))) i;
-      height = (c .before .before .floor02 .ensures ∙ ap (λ (z : ℤ). floor0 z) (read-back numbers 1 (c .before .before .before .floor0-arg2 .given))) i;
-      count = (c .floor03 .ensures ∙ ap (λ (z : ℤ). floor0 z) (read-back numbers 2 (c .before .floor0-arg3 .given))) i;
-      layers = (sym (all-put (λ k. layerOf (placeNumbers numbers k)) (walk .places) (walk .j) (c .before .before .before .before .before .before .loop-test .left)) ∙ walk .inv .2) i;
+      width = (c .before .before .before .floor0 .ensures ∙ ap (λ (z : ℤ). floor0 z) (read-back numbers 0 (c .before .before .before .before .floor0-arg .given))) i;
+      height = (c .before .floor02 .ensures ∙ ap (λ (z : ℤ). floor0 z) (read-back numbers 1 (c .before .before .floor0-arg2 .given))) i;
+      count = c .count-of .ensures i;
+      layers = (sym (all-put (λ k. layerOf (placeNumbers numbers k)) (walk .places) (walk .j) (c .before .before .before .before .before .loop-test .left)) ∙ walk .inv .2) i;
     }
 
 pub sheet-of-spec : {M : Type 1} → statement M
@@ -132,6 +127,5 @@ sheet-of-spec =
     floor0-requires
     shared-slice-copy-out-floor0-2
     floor0-requires-2
-    shared-slice-copy-out-floor0-3
-    floor0-requires-3
+    count-of-requires
     returns)
