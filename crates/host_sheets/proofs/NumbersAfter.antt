@@ -74,13 +74,13 @@ add-reads-back numbers figure style all = by (sheetAnswer (sheetOf numbers) [] (
         (getD-set-same (sheetOf numbers .layers) (sheetOf numbers .count) (addedLayer (styledFigure (figureOf figure) (styleOf style))) blankLayer (omega (arith, sixteen numbers, place))) in
         rw (is, is-figure, is-style, e) (
           ap (λ (n : ℕ). eqb n 291)
-          (length-set (layerPut numbers (sheetOf numbers .count) figure style _) 2 _
-          ∙ length-set (sets (sets numbers (placeAt (sheetOf numbers .count)) figure) (placeAt (sheetOf numbers .count) + 13) style) (placeAt (sheetOf numbers .count) + 17) _
-          ∙ length-sets (sets numbers (placeAt (sheetOf numbers .count)) figure) (placeAt (sheetOf numbers .count) + 13) style
-          ∙ length-sets numbers (placeAt (sheetOf numbers .count)) figure)
-          ∙ is,
+              (length-set (layerPut numbers (sheetOf numbers .count) figure style _) 2 _
+              ∙ length-set (sets (sets numbers (placeAt (sheetOf numbers .count)) figure) (placeAt (sheetOf numbers .count) + 13) style) (placeAt (sheetOf numbers .count) + 17) _
+              ∙ length-sets (sets numbers (placeAt (sheetOf numbers .count)) figure) (placeAt (sheetOf numbers .count) + 13) style
+              ∙ length-sets numbers (placeAt (sheetOf numbers .count)) figure)
+              ∙ is,
           layer-read-back numbers long (sheetOf numbers .count) place figure style _ _ (figure-length figure is-figure) (style-length style is-style)
-          records (sym (count-of-records numbers records)) refl is-figure is-style
+              records (sym (count-of-records numbers records)) refl is-figure is-style
               ∙ ap (λ (z : ℤ).
               withLayer (sheetOf numbers) (carriedOutSheet (sheetOf numbers) (addOf figure style) .count) (sheetOf numbers .count)
               (record { figure = figureOf figure; style = styleOf style; «next_row» = z })) row,

@@ -22,7 +22,8 @@ use Rattle.book.specs.Whole.{paintRows, paintWhole}
 use Rattle.figure.specs.declared.Figure.{Figure}
 use Rattle.styled.specs.Styled.{styledRow}
 use Rattle.drawing.specs.Rows.{strokeRows}
-use Rattle.paint.specs.Rows.{rowsBy, rowsAbove, visibleRows}
+use Rattle.paint_rows.specs.Rows.{rowsBy}
+use Rattle.paint.specs.Rows.{rowsAbove, visibleRows}
 use Rattle.paint.proofs.Painted.{rows-by-figure}
 
 module _ (rowAt : ℤ → StyledRow) (style : Style) (W H : ℕ) where

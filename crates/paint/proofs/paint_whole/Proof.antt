@@ -8,7 +8,7 @@ use Rattle.styled.specs.Styled.{styledRow}
 use Rattle.styled_shape.specs.declared.StyledShape.{StyledShape}
 use Rattle.styled_shape.specs.declared.StyledShape.the-variants as styled
 use Rattle.styled_shape.specs.Ready.{rowOf, Ready}
-use Rattle.paint.specs.Rows.{rowsBy}
+use Rattle.paint_rows.specs.Rows.{rowsBy}
 use Rattle.paint.proofs.OnCanvas.{visible-rows-whole, lacking-whole}
 use Rattle.paint.proofs.paint_whole.Statement.{statement}
 use Rattle.paint.proofs.paint_whole.Tie as tie

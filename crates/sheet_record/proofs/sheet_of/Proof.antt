@@ -69,11 +69,13 @@ loop-less c = omega (arith, int)
 loop-again : tie.Need-loop-again Inv-loop μ-loop
 loop-again c =
     let numbers = c .before .before .before .before .before .args .numbers .now in
-    let walk = c .before .before .before .loop in
-    (omega arith, simp length-set (walk .inv .1),
+    let walk = c .before .before .before .loop in (
+      omega arith,
+      simp length-set (walk .inv .1),
       ap (λ (l : Layer). sets (set (walk .places) (walk .j) l) (walk .j + 1) (listFrom (λ k. layerOf (placeNumbers numbers k)) (walk .j + 1) (16 - (walk .j + 1))))
-      (c .layer-of .ensures ∙ ap (λ (p : List ℤ). layerOf p) (place-part numbers (walk .j)))
-      ∙ sym (put-place (λ k. layerOf (placeNumbers numbers k)) (walk .places) (walk .j) (c .before .before .loop-test .taken)) ∙ walk .inv .2)
+          (c .layer-of .ensures ∙ ap (λ (p : List ℤ). layerOf p) (place-part numbers (walk .j)))
+          ∙ sym (put-place (λ k. layerOf (placeNumbers numbers k)) (walk .places) (walk .j) (c .before .before .loop-test .taken)) ∙ walk .inv .2,
+    )
 
 shared-slice-copy-out-floor0 : tie.Need-shared-slice-copy-out-floor0 Inv-loop μ-loop
 shared-slice-copy-out-floor0 c = omega (arith, int)

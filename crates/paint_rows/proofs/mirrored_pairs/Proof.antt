@@ -1,13 +1,12 @@
--- `paint::mirrored_pairs` meets its contract: none, or the tests have said that the rows are all of the area's.
+-- `paint_rows::mirrored_pairs` meets its contract: none, or the tests have said that the rows are all of the area's.
 -- Assumes nothing.
-use mathlib.Core.Path.{_≡_}
 use native.Mathlib.Omega.{arith}
 use mir.Syntax.{w32}
 use mir.Val.{SFits}
 use borrow.Author.Needs.{needs}
 use Rattle.signed.proofs.Laws.{int}
-use Rattle.paint.proofs.mirrored_pairs.Statement.{statement}
-use Rattle.paint.proofs.mirrored_pairs.Tie as tie
+use Rattle.paint_rows.proofs.mirrored_pairs.Statement.{statement}
+use Rattle.paint_rows.proofs.mirrored_pairs.Tie as tie
 
 returns : tie.Need-returns
 returns c = record { half = omega arith; from-top = λ p. absurd (omega arith); all-rows = λ p. absurd (omega arith) }

@@ -1,4 +1,4 @@
--- `paint::paint_ellipse_rows` meets its contract. The invariant: the rows that are left, painted on the canvas as it is now, make the whole.
+-- `paint_rows::paint_ellipse_rows` meets its contract. The invariant: the rows that are left, painted on the canvas as it is now, make the whole.
 -- Assumes nothing.
 use native.Mathlib.Omega.{arith}
 use Rattle.signed.proofs.Laws.{int}
@@ -16,10 +16,10 @@ use Rattle.geometry.specs.Bounds.{widePoint}
 use Rattle.ellipse_styled.specs.EllipseStyled.{ellipseStyledRow}
 use Rattle.drawing.specs.Drawing.{paintBy}
 use Rattle.drawing.proofs.PaintRow.{paint-by-row}
-use Rattle.paint.specs.Rows.{rowsBy}
-use Rattle.paint.proofs.Painted.{RowsLeft, rows-start, rows-turn, rows-end}
-use Rattle.paint.proofs.paint_ellipse_rows.Statement.{statement}
-use Rattle.paint.proofs.paint_ellipse_rows.Tie as tie
+use Rattle.paint_rows.specs.Rows.{rowsBy}
+use Rattle.paint_rows.proofs.InTurn.{RowsLeft, rows-start, rows-turn, rows-end}
+use Rattle.paint_rows.proofs.paint_ellipse_rows.Statement.{statement}
+use Rattle.paint_rows.proofs.paint_ellipse_rows.Tie as tie
 
 abbrev Inv-loop : tie.InvT-loop
 Inv-loop canvas₀ size ellipse style y count hints₀ dy₀ canvas hints dy =

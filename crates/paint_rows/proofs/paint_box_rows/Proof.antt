@@ -1,4 +1,4 @@
--- `paint::paint_box_rows` meets its contract. The invariant: the rows that are left, painted on the canvas as it is now, make the whole. A
+-- `paint_rows::paint_box_rows` meets its contract. The invariant: the rows that are left, painted on the canvas as it is now, make the whole. A
 -- turn paints as many rows as are alike.
 -- Assumes nothing.
 use native.Mathlib.Omega.{arith}
@@ -15,10 +15,10 @@ use Rattle.signed.specs.Signed.{Near}
 use Rattle.signed.proofs.Laws.{add-law}
 use Rattle.styled_shape.specs.StyledRow.{boxStyledRow}
 use Rattle.styled_shape.specs.Ready.{strokeBox, fillBox}
-use Rattle.paint.specs.Rows.{widePainted, rowsBy}
-use Rattle.paint.proofs.Painted.{painted-near, rows-by-alike, RowsLeft, rows-start, rows-turns, rows-end}
-use Rattle.paint.proofs.paint_box_rows.Statement.{statement}
-use Rattle.paint.proofs.paint_box_rows.Tie as tie
+use Rattle.paint_rows.specs.Rows.{widePainted, rowsBy}
+use Rattle.paint_rows.proofs.InTurn.{painted-near, rows-by-alike, RowsLeft, rows-start, rows-turns, rows-end}
+use Rattle.paint_rows.proofs.paint_box_rows.Statement.{statement}
+use Rattle.paint_rows.proofs.paint_box_rows.Tie as tie
 
 abbrev Inv-loop : tie.InvT-loop
 Inv-loop canvas₀ size b style y count hints₀ dy₀ canvas hints dy =

@@ -1,4 +1,4 @@
--- `paint::paint_ellipse` meets its contract. The invariant: the rows between those that are done, painted on the canvas as it is now, make
+-- `paint_rows::paint_ellipse` meets its contract. The invariant: the rows between those that are done, painted on the canvas as it is now, make
 -- the whole.
 -- Assumes nothing.
 use native.Mathlib.Omega.{arith}
@@ -17,11 +17,11 @@ use Rattle.figure.specs.Bounds.{wideAreaPosition}
 use Rattle.ellipse_styled.specs.EllipseStyled.{ellipseStyledRow}
 use Rattle.drawing.specs.Drawing.{paintBy}
 use Rattle.drawing.proofs.PaintRow.{paint-by-row}
-use Rattle.paint.specs.Rows.{widePainted, rowsBy}
-use Rattle.paint.proofs.Painted.{painted-near}
-use Rattle.paint.proofs.Mirror.{row-mirrored-from, PairsLeft, pairs-start, pairs-turn}
-use Rattle.paint.proofs.paint_ellipse.Statement.{statement}
-use Rattle.paint.proofs.paint_ellipse.Tie as tie
+use Rattle.paint_rows.specs.Rows.{widePainted, rowsBy}
+use Rattle.paint_rows.proofs.InTurn.{painted-near}
+use Rattle.paint_rows.proofs.Mirror.{row-mirrored-from, PairsLeft, pairs-start, pairs-turn}
+use Rattle.paint_rows.proofs.paint_ellipse.Statement.{statement}
+use Rattle.paint_rows.proofs.paint_ellipse.Tie as tie
 
 abbrev Inv-loop : tie.InvT-loop
 Inv-loop canvas₀ size ellipse style y count pairs hints₀ dy₀ canvas hints dy =

@@ -30,8 +30,8 @@ use Rattle.book.proofs.Picture.{paint-row-length, paint-row-here, paint-row-oth
 use Rattle.canvas.specs.Canvas.{overpaint}
 use Rattle.canvas.proofs.Overpaint.{overpaint-length}
 use Rattle.drawing.specs.Drawing.{paintBy}
-use Rattle.paint.specs.Rows.{rowsBy}
-use Rattle.paint.proofs.Painted.{rows-by-parts}
+use Rattle.paint_rows.specs.Rows.{rowsBy}
+use Rattle.paint_rows.proofs.InTurn.{rows-by-parts}
 
 -- ---- rows that mirror each other
 module _ (area : Rectangle) (sides : Size) where

@@ -1,4 +1,4 @@
--- `paint::paint_alike_rows` meets its contract. The invariant: the rows that are left, painted on the canvas as it is now, make the whole.
+-- `paint_rows::paint_alike_rows` meets its contract. The invariant: the rows that are left, painted on the canvas as it is now, make the whole.
 -- Assumes nothing.
 use native.Mathlib.Omega.{arith}
 use Rattle.signed.proofs.Laws.{int, add-law}
@@ -13,10 +13,10 @@ use borrow.Author.Needs.{needs}
 use Rattle.signed.specs.Signed.{Near}
 use Rattle.geometry.specs.Bounds.{widePoint}
 use Rattle.drawing.specs.Drawing.{paintBy}
-use Rattle.paint.specs.Rows.{rowsBy}
-use Rattle.paint.proofs.Painted.{RowsLeft, rows-start, rows-turn, rows-end}
-use Rattle.paint.proofs.paint_alike_rows.Statement.{statement}
-use Rattle.paint.proofs.paint_alike_rows.Tie as tie
+use Rattle.paint_rows.specs.Rows.{rowsBy}
+use Rattle.paint_rows.proofs.InTurn.{RowsLeft, rows-start, rows-turn, rows-end}
+use Rattle.paint_rows.proofs.paint_alike_rows.Statement.{statement}
+use Rattle.paint_rows.proofs.paint_alike_rows.Tie as tie
 
 abbrev Inv-loop : tie.InvT-loop
 Inv-loop canvas₀ size row style y count dy₀ canvas dy =
