@@ -155,8 +155,8 @@ static const check checks[] = {
     {SHEET_ADD, FIGURE_LENGTH, 12, 100},
     {SHEET_ADD, STYLE_LENGTH, 3, 100},
     {SHEET_ADD, SHEET_LENGTH, 290, 100},
-    {SHEET_ADD, SHEET_COUNT, -1, 100},
-    {SHEET_ADD, SHEET_LAYER_KIND, 3, 100},
+    {SHEET_ADD, SHEET_COUNT, -1, 7},
+    {SHEET_ADD, SHEET_LAYER_KIND, 3, 7},
 
     {SHEET_PAINT, AS_IS, 0, 0},
     {SHEET_PAINT, SHEET_COUNT, 17, 7},
@@ -227,21 +227,20 @@ static buffers lent(const check *c)
     memset(&b, 0x5a, sizeof b);
     if (c->call == SHEET_OPEN)
         return b;
-    memset(&b.sheet, 0, sizeof b.sheet);
+    /* The unused places keep what the memset left: no call looks at them. */
     b.sheet.width = b.sheet.height = 4;
     b.sheet.count = 2;
-    for (i = 0; i < 16; i++)
-        b.sheet.layers[i].style.stroke = b.sheet.layers[i].style.fill = WUNQABER_ABSENT;
     for (i = 0; i < 2; i++) {
         b.sheet.layers[i].figure = oval;
         b.sheet.layers[i].style = filled;
+        b.sheet.layers[i].next_row = 0;
     }
     return b;
 }
 
 static void change(const check *c, arguments *a, buffers *b)
 {
-    int32_t value = c->value;
+    int32_t value = c->value, i;
 
     switch (c->change) {
     case AS_IS: break;
@@ -264,7 +263,11 @@ static void change(const check *c, arguments *a, buffers *b)
     case FILE_LENGTH: a->file_length = (size_t)value; break;
     case OUT_LENGTH: a->out_length = (size_t)value; break;
     case ANSWERS_LENGTH: a->answers_length = (size_t)value; break;
-    case SHEET_COUNT: b->sheet.count = value; break;
+    case SHEET_COUNT:
+        b->sheet.count = value;
+        for (i = 2; i < value && i < 16; i++)
+            b->sheet.layers[i] = b->sheet.layers[1];
+        break;
     case SHEET_NEXT_ROW: b->sheet.layers[0].next_row = value; break;
     case SHEET_LAYER_KIND: b->sheet.layers[0].figure.kind = value; break;
     case SHEET_LENGTH: a->sheet_length = (size_t)value; break;
@@ -358,6 +361,7 @@ static void written(enum call call, buffers *b)
     case SHEET_ADD:
         b->sheet.layers[2].figure = oval;
         b->sheet.layers[2].style = filled;
+        b->sheet.layers[2].next_row = 0;
         b->sheet.count = 3;
         break;
     case SHEET_PAINT:

@@ -91,7 +91,7 @@ pub fn read_calls(n: &[i32]) -> Option<Vec<Call>> {
     n.chunks(CALL_LENGTH).map(read_call).collect()
 }
 
-/// A sheet as a record: width, height, count, and the 16 places with their next rows.
+/// A sheet as a record: width, height, count, and the used places with their next rows.
 pub struct Record {
     pub w: i64,
     pub h: i64,
@@ -99,13 +99,21 @@ pub struct Record {
     pub places: Vec<(Figure, Style, i64)>,
 }
 
+/// The sheet that the numbers are, as crate sheet_record reads it: unused places are not looked at, and numbers that hold something
+/// else than records are a sheet that says 17 layers.
 pub fn read_sheet(n: &[i32]) -> Option<Record> {
-    if n.len() != SHEET_LENGTH || n[..3].iter().any(|v| *v < 0) {
+    if n.len() != SHEET_LENGTH {
         return None;
     }
     let place = |n: &[i32]| Some((read_figure(&n[..13])?, read_style(&n[13..17])?, n[17] as i64));
-    let places = n[3..].chunks(LAYER_LENGTH).map(place).collect::<Option<Vec<_>>>()?;
-    Some(Record { w: n[0] as i64, h: n[1] as i64, count: n[2] as i64, places })
+    let used = n[2].clamp(0, 16) as usize;
+    let places = n[3..].chunks(LAYER_LENGTH).take(used).map(place).collect::<Option<Vec<_>>>();
+    let negative = n[..3].iter().any(|v| *v < 0);
+    let (count, places) = match places {
+        Some(places) if !negative => (n[2] as i64, places),
+        _ => (17, Vec::new()),
+    };
+    Some(Record { w: n[0] as i64, h: n[1] as i64, count, places })
 }
 
 /// Where the numbers of a layer begin.

@@ -210,6 +210,9 @@ impl Held {
     }
 }
 
+/// How many random rounds are made at least.
+const LEAST_ROUNDS: u64 = 20;
+
 /// At limits, one past them, and at the type's ends.
 #[rustfmt::skip]
 const LIMITS: [i64; 30] = [
@@ -510,8 +513,10 @@ pub fn run(seed: u64, effort: u64, seconds: u64) {
     });
     part("a sheet, each of its numbers at each limit", &mut |r| each_number_of_a_sheet(r, &mut rng));
     let mut rounds = 0;
+    let first_round = Instant::now();
     part("random rounds", &mut |r| {
-        while rounds < effort && start.elapsed().as_secs() < seconds {
+        // some rounds are made however slow the machine is
+        while rounds < effort && (rounds < LEAST_ROUNDS || first_round.elapsed().as_secs() < seconds) {
             round(r, &mut rng, rounds);
             rounds += 1;
         }

@@ -12,9 +12,9 @@ library=${1:-${WUNQABER_LIBRARY:-}}
 source=${EG_SOURCE:-$root/../shared/docs/src}
 cc=${CC:-cc}
 cxx=${CXX:-c++}
-# What the random rounds of the comparison may take, and when it is ended.
-seconds=90
-limit=150
+# What the random rounds of the comparison may take, and when it is taken to hang.
+seconds=60
+limit=900
 
 work=$(mktemp -d)
 trap 'rm -rf "$work"' EXIT
@@ -77,5 +77,5 @@ elif [ "$status" != 0 ]; then
     tail -n 4 "$work/scale" >&2
     fail 'the comparison at scale found a difference'
 fi
-sed -n '/^equal/,/^refused/p' "$work/scale"
+sed -n '/^seed/p; /^equal/,/^refused/p' "$work/scale"
 echo "hosts.sh: $(tail -n 1 "$work/scale")"
