@@ -12,8 +12,9 @@
  *     0           done
  *     1 .. 13     refused, by the lowest number that applies (below): no buffer differs
  *     100         the numbers are no record: a length, a kind, a paint or an alignment that there is not,
- *                 or a negative side, radius, stroke width or count: no buffer differs. It comes before any
- *                 refusal, and in a sheet before 7; in wunqaber_run_calls it comes after 6, 8 and 13
+ *                 or a negative side, radius, stroke width or layer: no buffer differs. It comes before any
+ *                 refusal, but in wunqaber_run_calls after 6, 8 and 13. What stands in a sheet's numbers and is
+ *                 no record breaks a rule: that is 7
  *     101         there is no such row, or the figure has no corners: no buffer differs. It needs no room
  * Where a call gives numbers it writes them from the start of `out`; what stands behind them stays. */
 #ifndef WUNQABER_H
@@ -57,7 +58,7 @@ typedef struct {
     int32_t stroke, fill, stroke_width, alignment;
 } wunqaber_style;
 
-/* 291 numbers, made by wunqaber_sheet_open. Unused places hold records too. */
+/* 291 numbers, made by wunqaber_sheet_open. Places from `count` on are not looked at. */
 typedef struct {
     int32_t width, height, count;
     struct {
