@@ -2,7 +2,7 @@
 //! answer, on any numbers: 100, 101 and the lowest refusal by the header and the reference; values by the
 //! ORIGINAL where it finishes, else by the reference, which also has what the original lacks (W3C boxes,
 //! sheets, lists of calls, P5). Answers, values and every number and byte of every buffer are compared, with
-//! some right behind the part that is lent; after a refusal none may differ. The first difference is printed
+//! some right behind the part that is lent for values; after a refusal none may differ. The first difference is printed
 //! whole and ends the program with status 1.
 
 use crate::{

@@ -1,7 +1,6 @@
 // Answers handed to a host as numbers: one u32 that says how a call went, and the values written
 // into a lent list.
 use refusal::Checked;
-use refusal::Refusal;
 use refusal::check_room;
 ghost use mathlib.Core.Path.{_≡_};
 ghost use Prim.Native.Nat.{_+_, _≤_};
@@ -29,16 +28,6 @@ pub fn held(n: u32) -> i32
     }
     let above = signed::from_u32(n - 2147483648);
     signed::sub(signed::sub(above, 2147483647), 1)
-}
-
-// The number that stands for a check: 0 for passed.
-pub fn number_of(check: Checked) -> u32
-    ensures { λ r. ⌜ r ≡ checkNumber check ⌝ }
-{
-    match check {
-        Checked::Refused(refusal) => refusal.number(),
-        Checked::Passed => DONE,
-    }
 }
 
 // Writes the values from a place of the list on.

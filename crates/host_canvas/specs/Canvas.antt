@@ -16,11 +16,12 @@ use Rattle.sheet_calls.specs.SheetCalls.{RunSays, allRan, notCalls, refusedBy, 
 use Rattle.record_numbers.specs.RecordNumbers.{isFigure, isStyle, figureOf, styleOf}
 use Rattle.host_answers.specs.HostAnswers.{noRecord, ofRecord, ifRecord, afterCheck}
 
--- `paint_figure`, and the canvas after it
+-- `paint_figure`
 abbrev pub paintSaid : List ℤ → List ℤ → ℕ → ℕ → List ℕ → Outcome
 paintSaid figure style W H canvas =
     ofRecord (isFigure figure && isStyle style) (paintCall (figureOf figure) (styleOf style) W H canvas)
 
+-- the canvas after it
 abbrev pub paintedAfter : List ℤ → List ℤ → ℕ → ℕ → List ℕ → List ℕ
 paintedAfter figure style W H canvas =
     ifRecord (isFigure figure && isStyle style) canvas (canvasAfter (figureOf figure) (styleOf style) W H canvas)
@@ -41,6 +42,7 @@ abbrev pub writeRoom : ℕ → ℕ → List ℕ → ℕ → Checked
 writeRoom W H canvas room =
     orElse (orElse (canvasSizeCheck W H) (canvasLengthCheck W H (length canvas))) (roomCheck 1 room)
 
+-- what it says
 abbrev pub writeSaid : ℕ → ℕ → List ℕ → List ℕ → ℕ → Outcome
 writeSaid W H canvas file room = afterCheck (writeRoom W H canvas room) (writeCall W H canvas file)
 

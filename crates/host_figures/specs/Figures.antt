@@ -24,6 +24,7 @@ rowSaid figure y = ofRecord (isFigure figure) (rowCall (figureOf figure) y)
 abbrev pub pointsRoom : List ℤ → ℕ → Checked
 pointsRoom figure room = orElse (figureCheck (figureOf figure)) (roomCheck 1 room)
 
+-- what it says
 abbrev pub pointsSaid : List ℤ → List ℤ → ℕ → Outcome
 pointsSaid figure list room = ofRecord (isFigure figure) (afterCheck (pointsRoom figure room) (pointsCall (figureOf figure) list))
 

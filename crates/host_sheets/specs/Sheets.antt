@@ -25,13 +25,16 @@ use Rattle.host_answers.specs.HostAnswers.{noRecord, ifRecord}
 abbrev pub unusedPlace : List ℤ
 unusedPlace = replicate 13 (pos 0) ++ negsuc 0 ∷ negsuc 0 ∷ replicate 3 (pos 0)
 
+-- n of them
 unfoldable pub unusedPlaces : ℕ → List ℤ
 unusedPlaces zero = []
 unusedPlaces (suc n) = unusedPlace ++ unusedPlaces n
 
+-- the numbers of a sheet without layers (`openedSheet`)
 abbrev pub openedNumbers : ℕ → ℕ → List ℤ
 openedNumbers W H = pos W ∷ pos H ∷ pos 0 ∷ unusedPlaces maxLayers
 
+-- `Sheet::open`: they are written into the host's list
 abbrev pub openSaid : ℕ → ℕ → Outcome
 openSaid W H = unless (canvasSizeCheck W H) (openedNumbers W H)
 
@@ -51,34 +54,40 @@ nextRow s i = getD (s .layers) i blankLayer .«next_row»
 abbrev pub addOf : List ℤ → List ℤ → Call StyledFigure
 addOf figure style = add (styledFigure (figureOf figure) (styleOf style))
 
-abbrev pub areAll : List ℤ → List ℤ → List ℤ → Bool
-areAll sheet figure style = isSheet sheet && (isFigure figure && isStyle style)
+-- the numbers given to it are a sheet's, a figure's and a style's
+abbrev pub areRecords : List ℤ → List ℤ → List ℤ → Bool
+areRecords sheet figure style = isSheet sheet && (isFigure figure && isStyle style)
 
 -- `Sheet::add`: the layer's numbers as given and its next row in the first unused place, and the new count
 abbrev pub withAdded : List ℤ → List ℤ → List ℤ → Sheet → List ℤ
 withAdded numbers figure style after =
     set (layerPut numbers (sheetOf numbers .count) figure style (nextRow after (sheetOf numbers .count))) 2 (pos (after .count))
 
+-- what the host is told of it: 1, 2, 3, 5, 7, 9, or done
 unfoldable pub addTold : List ℤ → List ℤ → List ℤ → ℕ
-addTold sheet figure style = toldOf (areAll sheet figure style) (sheetAnswer (sheetOf sheet) [] (addOf figure style))
+addTold sheet figure style = toldOf (areRecords sheet figure style) (sheetAnswer (sheetOf sheet) [] (addOf figure style))
 
+-- the sheet's numbers after it
 unfoldable pub addNumbers : List ℤ → List ℤ → List ℤ → List ℤ
 addNumbers sheet figure style =
-    numbersAfter (areAll sheet figure style) (sheetAnswer (sheetOf sheet) [] (addOf figure style)) sheet
+    numbersAfter (areRecords sheet figure style) (sheetAnswer (sheetOf sheet) [] (addOf figure style)) sheet
     (withAdded sheet figure style (sheetAfter (sheetOf sheet) [] (addOf figure style)))
 
 -- `Sheet::paint`: the layer's new next row, and the canvas
 abbrev pub withPainted : List ℤ → ℕ → Sheet → List ℤ
 withPainted numbers i after = set numbers (placeAt i + 17) (nextRow after i)
 
+-- what the host is told of it: 7, 8, 10, 11, 12, or done
 unfoldable pub paintTold : List ℤ → ℕ → List ℕ → ℕ
 paintTold sheet i canvas = toldOf (isSheet sheet) (sheetAnswer (sheetOf sheet) canvas (paint i))
 
+-- the sheet's numbers after it
 unfoldable pub paintNumbers : List ℤ → ℕ → List ℕ → List ℤ
 paintNumbers sheet i canvas =
     numbersAfter (isSheet sheet) (sheetAnswer (sheetOf sheet) canvas (paint i)) sheet
     (withPainted sheet i (sheetAfter (sheetOf sheet) canvas (paint i)))
 
+-- the canvas after it
 unfoldable pub paintCanvas : List ℤ → ℕ → List ℕ → List ℕ
 paintCanvas sheet i canvas = ifRecord (isSheet sheet) canvas (canvasAfter (sheetOf sheet) canvas (paint i))
 
@@ -89,7 +98,7 @@ OpenReadsBack = (W H : ℕ) → (isSheet (openedNumbers W H) ≡ true) × (sheet
 
 abbrev pub AddReadsBack : Type 0
 AddReadsBack =
-    (sheet figure style : List ℤ) → areAll sheet figure style ≡ true
+    (sheet figure style : List ℤ) → areRecords sheet figure style ≡ true
     → (isSheet (addNumbers sheet figure style) ≡ true)
     × (sheetOf (addNumbers sheet figure style) ≡ sheetAfter (sheetOf sheet) [] (addOf figure style))
 

@@ -19,7 +19,8 @@ ghost use mathlib.Core.Path.{_≡_};
 ghost use Rattle.host_answers.specs.HostAnswers.{Tells};
 ghost use Rattle.host_sheets.specs.Sheets.{openSaid, addTold, addNumbers, paintTold, paintNumbers, paintCanvas};
 
-// A sheet without layers, its width and height left 0: 16 unused places, a line each.
+// A sheet without layers, its width and height left 0: behind them and the count 16 unused places of 18
+// numbers.
 const UNUSED: [i32; 291] = [
     0,
     0,

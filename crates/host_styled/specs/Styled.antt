@@ -8,9 +8,10 @@ use Rattle.styled.specs.Calls.{styledRowCall, styledBoundingBoxCall}
 use Rattle.record_numbers.specs.RecordNumbers.{isFigure, isStyle, figureOf, styleOf}
 use Rattle.host_answers.specs.HostAnswers.{ofRecord}
 
--- `styled_row` and `styled_bounding_box`: the figure and the style are both read
+-- `styled_row`: the figure and the style are both read
 abbrev pub styledRowSaid : List ℤ → List ℤ → ℤ → Outcome
 styledRowSaid figure style y = ofRecord (isFigure figure && isStyle style) (styledRowCall (figureOf figure) (styleOf style) y)
 
+-- the same of `styled_bounding_box`
 abbrev pub styledBoundingBoxSaid : List ℤ → List ℤ → Outcome
 styledBoundingBoxSaid figure style = ofRecord (isFigure figure && isStyle style) (styledBoundingBoxCall (figureOf figure) (styleOf style))

@@ -71,16 +71,21 @@ isStyle numbers =
     && (within (negsuc 0) (pos 255) (numberAt numbers 0) && (within (negsuc 0) (pos 255) (numberAt numbers 1)
     && (leZ (pos 0) (numberAt numbers 2) && within (pos 0) (pos 2) (numberAt numbers 3))))
 
--- ---- Which record it is, by the numbers above: a paint, an alignment, a size, a rectangle, radii, a box, a figure, a style.
+-- ---- Which record it is, by the numbers above.
+
+-- a paint
 unfoldable pub paintOf : ℤ → Paint
 paintOf v = cond (ltZ v (pos 0)) Absent (Colour (floor0 v % 256))
 
+-- an alignment
 unfoldable pub alignmentOf : ℤ → StrokeAlignment
 alignmentOf v = cond (ltZ v (pos 1)) Inside (cond (ltZ v (pos 2)) Center Outside)
 
+-- a size
 abbrev pub sizeOf : ℤ → ℤ → Size
 sizeOf w h = record { width = floor0 w; height = floor0 h }
 
+-- a figure's rectangle
 abbrev pub rectangleOf : List ℤ → Rectangle
 rectangleOf numbers =
     record {
@@ -88,6 +93,7 @@ rectangleOf numbers =
       size = sizeOf (numberAt numbers 3) (numberAt numbers 4);
     }
 
+-- its radii
 abbrev pub cornersOf : List ℤ → CornerRadii
 cornersOf numbers =
     record {
@@ -97,14 +103,17 @@ cornersOf numbers =
       «bottom_left» = sizeOf (numberAt numbers 11) (numberAt numbers 12);
     }
 
+-- both as a box
 abbrev pub boxOf : List ℤ → RoundedRectangle
 boxOf numbers = record { rectangle = rectangleOf numbers; corners = cornersOf numbers }
 
+-- the figure
 unfoldable pub figureOf : List ℤ → Figure
 figureOf numbers =
     cond (ltZ (numberAt numbers 0) (pos 1)) (Ellipse (rectangleOf numbers))
     (cond (ltZ (numberAt numbers 0) (pos 2)) (CrateBox (boxOf numbers)) (W3cBox (boxOf numbers)))
 
+-- the style
 unfoldable pub styleOf : List ℤ → Style
 styleOf numbers =
     record {

@@ -17,17 +17,19 @@ use Rattle.record_numbers.specs.RecordNumbers.{figureLength, styleLength, numbe
 use Rattle.layers.specs.declared.Layer.{Layer}
 use Rattle.sheet.specs.declared.Sheet.{Sheet}
 
--- how many numbers a layer has, and a sheet
+-- how many numbers a layer has
 abbrev pub layerLength : ℕ
 layerLength = 18
 
+-- how many numbers a sheet has
 abbrev pub sheetLength : ℕ
 sheetLength = 291
 
--- where place j begins, and its numbers
+-- where place j begins
 abbrev pub placeAt : ℕ → ℕ
 placeAt j = 3 + layerLength * j
 
+-- the numbers of place j
 abbrev pub placeNumbers : List ℤ → ℕ → List ℤ
 placeNumbers numbers j = take layerLength (drop (placeAt j) numbers)
 
@@ -45,6 +47,8 @@ holdsRecords numbers =
     noneNegative (take 3 numbers) && allFrom (λ j. isLayer (placeNumbers numbers j)) 0 (min (floor0 (numberAt numbers 2)) maxLayers)
 
 -- ---- Which they are.
+
+-- the layer
 abbrev pub layerOf : List ℤ → Layer
 layerOf numbers =
     record {
