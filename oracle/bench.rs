@@ -10,8 +10,10 @@
 //!   bench check      the bytes alone; prints no times
 
 use crate::{
+    numbers::{figure_numbers, style_numbers},
     original::Original,
     query::{Answers, Figure, Kind, Style},
+    wunqaber::{self as library, FIGURE_LENGTH, NO_ROW_LEFT, SHEET_LENGTH, STYLE_LENGTH},
 };
 use std::{
     hint::black_box,
@@ -19,44 +21,10 @@ use std::{
     time::{Duration, Instant},
 };
 
-// include/wunqaber.h
-#[link(name = "exports", kind = "static")]
-extern "C" {
-    fn wunqaber_paint_figure(
-        figure: *const i32,
-        figure_length: usize,
-        style: *const i32,
-        style_length: usize,
-        width: u32,
-        height: u32,
-        canvas: *mut u8,
-        canvas_length: usize,
-    ) -> u32;
-    fn wunqaber_sheet_open(width: u32, height: u32, sheet: *mut i32, sheet_length: usize) -> u32;
-    fn wunqaber_sheet_add(
-        sheet: *mut i32,
-        sheet_length: usize,
-        figure: *const i32,
-        figure_length: usize,
-        style: *const i32,
-        style_length: usize,
-    ) -> u32;
-    fn wunqaber_sheet_paint(
-        sheet: *mut i32,
-        sheet_length: usize,
-        layer: u32,
-        canvas: *mut u8,
-        canvas_length: usize,
-    ) -> u32;
-}
-
 /// How long one batch of calls takes, at least.
 const BATCH: Duration = Duration::from_micros(400);
 /// How often each way of painting gets a batch; the best one counts.
 const ROUNDS: usize = 400;
-
-const SHEET_NUMBERS: usize = 291;
-const NO_ROW_LEFT: u32 = 11;
 
 /// Figures from the lowest to the uppermost, on a canvas of `w` by `h`.
 struct Scene {
@@ -144,29 +112,14 @@ fn scenes() -> Vec<Scene> {
 }
 
 /// A figure and its style as the C interface takes them.
-#[derive(Clone, Copy)]
+#[derive(Clone)]
 struct Numbers {
-    figure: [i32; 13],
-    style: [i32; 4],
+    figure: [i32; FIGURE_LENGTH],
+    style: [i32; STYLE_LENGTH],
 }
 
 fn numbers((f, s): &(Figure, Style)) -> Numbers {
-    let kind = match f.kind {
-        Kind::Ellipse => 0,
-        Kind::Crate => 1,
-        Kind::W3c => 2,
-    };
-    let mut figure = [0; 13];
-    figure[..5].copy_from_slice(&[kind, f.x as i32, f.y as i32, f.w as i32, f.h as i32]);
-    for (i, (a, b)) in f.radii.iter().enumerate() {
-        figure[5 + 2 * i] = *a as i32;
-        figure[6 + 2 * i] = *b as i32;
-    }
-    let paint = |p: Option<u8>| p.map_or(-1, i32::from);
-    Numbers {
-        figure,
-        style: [paint(s.stroke), paint(s.fill), s.width as i32, s.align as i32],
-    }
+    Numbers { figure: figure_numbers(f), style: style_numbers(s) }
 }
 
 fn must(answer: u32, call: &str) {
@@ -180,45 +133,26 @@ fn must(answer: u32, call: &str) {
 fn one_call(w: i64, h: i64, figures: &[Numbers], canvas: &mut [u8]) {
     for n in figures {
         let n = black_box(n);
-        let answer = unsafe {
-            wunqaber_paint_figure(
-                n.figure.as_ptr(),
-                n.figure.len(),
-                n.style.as_ptr(),
-                n.style.len(),
-                w as u32,
-                h as u32,
-                canvas.as_mut_ptr(),
-                canvas.len(),
-            )
-        };
-        must(answer, "wunqaber_paint_figure");
+        must(library::paint_figure(&n.figure, &n.style, w as u32, h as u32, canvas), "paint_figure");
     }
 }
 
 /// The library, by a sheet: the figures are added, then each layer is painted to its end, a row a
 /// call, the last of which finds no row left.
 fn by_sheet(w: i64, h: i64, figures: &[Numbers], canvas: &mut [u8]) {
-    let mut sheet = [0i32; SHEET_NUMBERS];
-    let at = sheet.as_mut_ptr();
-    unsafe {
-        must(wunqaber_sheet_open(w as u32, h as u32, at, SHEET_NUMBERS), "wunqaber_sheet_open");
-        for n in figures {
-            let n = black_box(n);
-            let (f, s) = (&n.figure, &n.style);
-            let answer =
-                wunqaber_sheet_add(at, SHEET_NUMBERS, f.as_ptr(), f.len(), s.as_ptr(), s.len());
-            must(answer, "wunqaber_sheet_add");
-        }
-        for layer in 0..figures.len() as u32 {
-            loop {
-                let bytes = canvas.as_mut_ptr();
-                let answer = wunqaber_sheet_paint(at, SHEET_NUMBERS, layer, bytes, canvas.len());
-                if answer == NO_ROW_LEFT {
-                    break;
-                }
-                must(answer, "wunqaber_sheet_paint");
+    let mut sheet = [0; SHEET_LENGTH];
+    must(library::sheet_open(w as u32, h as u32, &mut sheet), "sheet_open");
+    for n in figures {
+        let n = black_box(n);
+        must(library::sheet_add(&mut sheet, &n.figure, &n.style), "sheet_add");
+    }
+    for layer in 0..figures.len() as u32 {
+        loop {
+            let answer = library::sheet_paint(&mut sheet, layer, canvas);
+            if answer == NO_ROW_LEFT {
+                break;
             }
+            must(answer, "sheet_paint");
         }
     }
 }

@@ -23,7 +23,8 @@ fi
 work=$(mktemp -d)
 trap 'rm -rf "$work"' EXIT
 (cd "$root" && rt staticlib exports > "$work/log" 2>&1) || { tail -5 "$work/log" >&2; exit 1; }
-OVERFLOW_CHECKS=off sh "$root/oracle/build.sh" "$source" "$work/build" > "$work/log"
+library=$root/target/staticlib/libexports.a
+LIBRARY=$library OVERFLOW_CHECKS=off sh "$root/oracle/build.sh" "$source" "$work/build" > "$work/log"
 
 # The oracle's program, with the driver in place of its queries.
 sed -e "s|^fn main() {|#[path = \"$root/oracle/bench.rs\"]\nmod bench;\nfn main() {|" \
@@ -33,6 +34,6 @@ rustc --edition 2021 -C opt-level=3 -C overflow-checks=off -C codegen-units=1 \
     --crate-type bin --crate-name bench \
     --extern az="$work/build/libaz.rlib" \
     --extern embedded_graphics_core="$work/build/libembedded_graphics_core.rlib" \
-    -L native="$root/target/staticlib" \
+    --cfg library -C "link-arg=$library" \
     -o "$work/bench" "$work/build/bench.rs"
 "$work/bench" $mode
