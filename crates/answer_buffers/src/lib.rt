@@ -6,7 +6,9 @@ use query_records::is_letter;
 use query_records::plus;
 use query_records::token;
 use query_records::u32_at;
+ghost use mathlib.Core.Path.{_≡_};
 ghost use Prim.Native.Nat.{_≤_};
+ghost use Rattle.answer_buffers.specs.Buffers.{lentLength, canvasArea};
 
 // The bytes of a canvas.
 pub const CANVAS: usize = 36864;
@@ -17,6 +19,7 @@ pub fn put_too_large(out: &mut [u8], at: usize) -> usize {
 
 // A length that is lent from a canvas or list: the one asked for, and none where it is too large.
 pub fn lent(asked: usize, most: usize) -> usize
+    ensures { λ r. ⌜ r ≡ lentLength asked most ⌝ }
     ensures { λ r. ⌜ r ≤ most ⌝ }
 {
     if asked <= most {
@@ -25,8 +28,9 @@ pub fn lent(asked: usize, most: usize) -> usize
     0
 }
 
+// A number as a length.
 pub fn long(n: u32) -> usize
-    ensures { λ r. ⌜ r ≤ 4294967295 ⌝ }
+    ensures { λ r. ⌜ (r ≡ n) × (r ≤ 4294967295) ⌝ }
 {
     n as usize
 }
@@ -43,7 +47,9 @@ pub fn fill(canvas: &mut [u8], seed: u32) {
 }
 
 // The bytes of a canvas with sides within the limit, and 0 for others.
-pub fn area(width: u32, height: u32) -> usize {
+pub fn area(width: u32, height: u32) -> usize
+    ensures { λ r. ⌜ r ≡ canvasArea width height ⌝ }
+{
     if 1024 < width {
         return 0;
     }

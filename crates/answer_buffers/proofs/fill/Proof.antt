@@ -1,9 +1,8 @@
 -- `answer_buffers::fill` ends and stays within the canvas, whose length it keeps.
 -- Assumes nothing.
-use lib.ListN.{length, length-set}
+use lib.ListN.{length}
 use mathlib.Core.Path.{_≡_}
-use Prim.Native.Nat.{_+_, _*_, _-_, _≤_, _<_}
-use native.Mathlib.Omega.{arith}
+use Prim.Native.Nat.{_-_, _≤_}
 use borrow.Author.Needs.{needs}
 use Rattle.answer_buffers.proofs.fill.Statement.{statement}
 use Rattle.answer_buffers.proofs.fill.Tie as tie
