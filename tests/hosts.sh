@@ -32,6 +32,10 @@ quietly() { # what fails, the command
     }
 }
 
+if [ "$(uname -m)" != x86_64 ]; then
+    echo 'hosts.sh: skipped, the library is compiled for x86-64 alone'
+    exit 0
+fi
 if [ -z "$library" ]; then
     quietly 'exports is not proved, or its library is not built' sh -c 'cd "$1" && rt staticlib exports' sh "$root"
     library=$root/target/staticlib/libexports.a
@@ -55,6 +59,8 @@ echo "hosts.sh: $(cat "$work/log")"
 if command -v "$cxx" > /dev/null; then
     echo '#include "wunqaber.h"' > "$work/header.cc"
     quietly 'include/wunqaber.h is not compiled as C++' "$cxx" -Wall -Wextra -Werror -pedantic -fsyntax-only -I"$root/include" "$work/header.cc"
+else
+    echo "hosts.sh: skipped, there is no C++ compiler '$cxx': the header read as C++"
 fi
 
 if ! command -v rustc > /dev/null; then
