@@ -1,21 +1,27 @@
--- What an accepted call says of the sheet given: an added layer has a place, and a painted one is in one.
+-- What an accepted call says of the sheet given: an added layer has a place, and a painted one is in one; and what is written of a
+-- painted one.
 -- Assumes nothing.
-use mathlib.Core.Path.{_≡_, ap}
+use mathlib.Core.Path.{_≡_, sym, ap, _∙_}
 use mathlib.Core.List.{List, []}
-use Prim.Native.Nat.{ℕ, _<_, _≤_}
+use Prim.Native.Nat.{ℕ, _+_, _<_, _≤_}
 use native.Mathlib.Omega.{arith}
 use lib.IntN.{ℤ}
+use lib.ListN.{set, getD}
+use lib.Seq.{getD-set-same}
 use Rattle.book.specs.Book.{accepted, paint}
 use Rattle.sheet_checks.proofs.Places.{kept-few}
 use Rattle.sheet_checks.proofs.Answers.{added-room, painted-accepted}
 use Rattle.sheet.specs.declared.Sheet.{Sheet}
-use Rattle.sheet.specs.Sheet.{sheetAnswer, carriedOutSheet, sheetAfter}
+use Rattle.layers.specs.declared.Layer.{Layer}
+use Rattle.layers.specs.Layers.{blankLayer}
+use Rattle.sheet.specs.Sheet.{sheetAnswer, paintedLayer, carriedOutSheet, sheetAfter}
 use Rattle.sheet.proofs.Records.{added-record}
 use Rattle.record_numbers.specs.RecordNumbers.{figureOf, styleOf}
 use Rattle.drawing.specs.Drawing.{styledFigure}
-use Rattle.sheet_record.specs.SheetRecord.{sheetOf}
+use Rattle.sheet_record.specs.SheetRecord.{placeAt, sheetOf, rowPainted}
 use Rattle.sheet_record.proofs.Parts.{sixteen}
-use Rattle.host_sheets.specs.Sheets.{addOf}
+use Rattle.sheet_record.proofs.ReadBack.{layer-in-place}
+use Rattle.host_sheets.specs.Sheets.{addOf, nextRow, withPainted}
 
 pub added-place : (numbers figure style : List ℤ) → sheetAnswer (sheetOf numbers) [] (addOf figure style) ≡ accepted → sheetOf numbers .count < 16
 added-place numbers figure style e =
@@ -35,6 +41,21 @@ painted-few numbers i canvas e =
     let s = sheetOf numbers in
     kept-few (s .width) (s .height) (s .count) (s .layers) (sixteen numbers)
     (painted-accepted (s .width) (s .height) (s .count) (s .layers) (sixteen numbers) i canvas e .rules)
+
+-- a painted layer's next row is the one below
+pub painted-next : (numbers : List ℤ) (i : ℕ) → i < 16
+    → nextRow (carriedOutSheet (sheetOf numbers) (paint i)) i ≡ paintedLayer (getD (sheetOf numbers .layers) i blankLayer) .«next_row»
+unfolding carriedOutSheet
+painted-next numbers i place =
+    ap (λ (l : Layer). l .«next_row»)
+    (getD-set-same (sheetOf numbers .layers) i (paintedLayer (getD (sheetOf numbers .layers) i blankLayer)) blankLayer (omega (arith, sixteen numbers)))
+
+pub painted-numbers : (numbers : List ℤ) (i : ℕ) (canvas : List ℕ) → sheetAnswer (sheetOf numbers) canvas (paint i) ≡ accepted
+    → rowPainted numbers i ≡ withPainted numbers i (carriedOutSheet (sheetOf numbers) (paint i))
+painted-numbers numbers i canvas e =
+    let place = painted-place numbers i canvas e in
+    ap (λ (z : ℤ). set numbers (placeAt i + 17) z)
+    (sym (painted-next numbers i place ∙ ap (λ (l : Layer). paintedLayer l .«next_row») (layer-in-place numbers i place)))
 
 -- and the new count is small
 pub added-count : (numbers figure style : List ℤ) → sheetAnswer (sheetOf numbers) [] (addOf figure style) ≡ accepted

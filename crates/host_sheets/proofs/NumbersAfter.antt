@@ -24,7 +24,7 @@ use Rattle.sheet_record.specs.SheetRecord.{isSheet, holdsRecords, sheetOf, plac
 use Rattle.sheet_record.proofs.Parts.{sheet-length, sixteen, records-of-few, count-of-records}
 use Rattle.sheet_record.proofs.ReadBack.{row-read-back, layer-read-back}
 use Rattle.host_sheets.specs.Sheets.{unusedPlaces, openedNumbers, nextRow, addOf, addNumbers, paintNumbers, OpenReadsBack, AddReadsBack, PaintReadsBack}
-use Rattle.host_sheets.proofs.Accepted.{added-place, painted-place, painted-few}
+use Rattle.host_sheets.proofs.Accepted.{added-place, painted-place, painted-few, painted-next}
 
 pub paint-reads-back : PaintReadsBack
 unfolding paintNumbers carriedOutSheet
@@ -37,9 +37,7 @@ paint-reads-back numbers i canvas is = by (sheetAnswer (sheetOf numbers) canvas 
         let place = painted-place numbers i canvas e in
         let few = painted-few numbers i canvas e in
         let long = sheet-length numbers is in
-        let row : nextRow (carriedOutSheet (sheetOf numbers) (paint i)) i ≡ paintedLayer (getD (sheetOf numbers .layers) i blankLayer) .«next_row» =
-        ap (λ (l : Layer). l .«next_row»)
-        (getD-set-same (sheetOf numbers .layers) i (paintedLayer (getD (sheetOf numbers .layers) i blankLayer)) blankLayer (omega (arith, sixteen numbers))) in
+        let row = painted-next numbers i place in
         rw (is, e) (
           ap (λ (n : ℕ). eqb n 291) (length-set numbers (placeAt i + 17) _) ∙ is,
           row-read-back numbers long i place _ (records-of-few numbers few)

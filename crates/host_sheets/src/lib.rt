@@ -1,5 +1,5 @@
-// The calls on a sheet for a host that keeps it as numbers: it is read from them, the call made, and
-// what the call changed is written back. Answers are one number; only where it is 0 has anything been
+// The calls on a sheet for a host that keeps it as numbers: what the call needs is read from them, and
+// what it changed is written back. Answers are one number; only where it is 0 has anything been
 // written.
 use canvas_size::CanvasSize;
 use host_answers::DONE;
@@ -10,6 +10,8 @@ use record_numbers::figure_of;
 use record_numbers::is_figure;
 use record_numbers::is_style;
 use record_numbers::style_of;
+use record_paint::check_paint;
+use record_paint::paint_next;
 use refusal::Checked;
 use sheet::SheetAnswer;
 use sheet_record::is_sheet;
@@ -372,18 +374,9 @@ pub fn paint(sheet: &mut [i32], layer: u32, canvas: &mut [u8]) -> u32
     if !is_sheet(sheet) {
         return NO_RECORD;
     }
-    let made = sheet_of(sheet).paint(layer, canvas);
-    let answer = made.answer;
-    match answer {
-        SheetAnswer::Refused(refusal) => refusal.number(),
-        SheetAnswer::Accepted => {
-            let after = made.sheet;
-            let places = after.layers;
-            let place = layer as usize;
-            let painted = places[place];
-            let row = painted.next_row;
-            sheet[3 + sheet_record::LAYER_LENGTH * place + 17] = row;
-            DONE
-        }
-    }
+    let Checked::Refused(refusal) = check_paint(sheet, layer, canvas.len()) else {
+        paint_next(sheet, layer, canvas);
+        return DONE;
+    };
+    refusal.number()
 }

@@ -16,7 +16,7 @@ use mir.Val.{SFits, toZ, ofZ}
 use mir.Facts.{toZ-ofZ}
 use Rattle.signed.proofs.Laws.{int}
 use Rattle.layer_rows.specs.declared.LayerRows.{LayerRows}
-use Rattle.layer_rows.specs.LayerRows.{rowsOwe, someRowsOwe, rowsOvertake, noRowsOvertake}
+use Rattle.layer_rows.specs.LayerRows.{rowsOwe, someRowsOwe, rowsOvertake, noRowsOvertake, rowsInOrder}
 
 -- ---- a test of two numbers as they are held is one of the numbers
 module _ {a b : ℤ} {t : Bool} (a-fits : SFits w32 a) (b-fits : SFits w32 b) where
@@ -56,6 +56,10 @@ module _ (r : LayerRows) (y : ℤ) where
         rw (first, end)
 
 -- ---- two layers
+pub and-false : (a : Bool) → (a && false) ≡ false
+and-false true = refl
+and-false false = refl
+
 module _ (earlier later : LayerRows) where
   pub overtakes-none-painted : leZ (later .next) (later .first) ≡ true → false ≡ rowsOvertake earlier later
   unfolding rowsOvertake
@@ -87,6 +91,18 @@ module _ (earlier later : LayerRows) where
           let reached : ltZ (later .first) (earlier .end) ≡ true = omega (arith, int) in
           let ahead : ltZ (earlier .next) (later .next) ≡ true = omega (arith, int) in
           rw (painted, reached, ahead)
+
+-- a layer that owes nothing is overtaken by none
+overtakes-none-owed : (earlier later : LayerRows) → leZ (earlier .end) (earlier .next) ≡ true → rowsOvertake earlier later ≡ false
+unfolding rowsOvertake
+overtakes-none-owed earlier later done =
+    let owed : ltZ (earlier .next) (earlier .end) ≡ false = omega (arith, int) in
+    rw (owed, and-false (ltZ (earlier .next) (later .next)), and-false (ltZ (later .first) (later .next) && ltZ (later .first) (earlier .end)))
+
+pub none-owed : (earlier : LayerRows) (rest : List LayerRows) → leZ (earlier .end) (earlier .next) ≡ true → noRowsOvertake earlier rest ≡ true
+unfolding noRowsOvertake
+none-owed earlier [] done = refl
+none-owed earlier (later ∷ rest) done = rw (overtakes-none-owed earlier later done) (none-owed earlier rest done)
 
 -- ---- a walk over the first n places
 module _ {A : Type 0} (places : List A) (n i : ℕ) where
@@ -135,6 +151,16 @@ module _ (places : List LayerRows) (n i : ℕ) where
   pub overtake-past : (r : LayerRows) → n ≤ i → noRowsOvertake r (drop i (take n places)) ≡ true
   unfolding noRowsOvertake
   overtake-past r past = rw (place-past places n i past)
+
+  pub order-here : i < n → n ≤ length places
+      → rowsInOrder (drop i (take n places))
+      ≡ (noRowsOvertake (getD places i noRows) (drop (i + 1) (take n places)) && rowsInOrder (drop (i + 1) (take n places)))
+  unfolding rowsInOrder
+  order-here here enough = rw (place-here places n i noRows here enough)
+
+  pub order-past : n ≤ i → rowsInOrder (drop i (take n places)) ≡ true
+  unfolding rowsInOrder
+  order-past past = rw (place-past places n i past)
 
 -- rows are equal by their parts
 pub rows-by-fields : {a b : LayerRows} → a .first ≡ b .first → a .next ≡ b .next → a .end ≡ b .end → a ≡ b

@@ -22,3 +22,8 @@ rowsOvertake earlier later =
 unfoldable pub noRowsOvertake : LayerRows → List LayerRows → Bool
 noRowsOvertake r [] = true
 noRowsOvertake r (later ∷ rest) = not (rowsOvertake r later) && noRowsOvertake r rest
+
+-- none of a list overtakes an earlier one: what `layersKeepRules` of `book` asks of two layers ('Sheet')
+unfoldable pub rowsInOrder : List LayerRows → Bool
+rowsInOrder [] = true
+rowsInOrder (r ∷ rest) = noRowsOvertake r rest && rowsInOrder rest

@@ -4,7 +4,7 @@ ghost use mathlib.Core.Path.{_≡_};
 ghost use Prim.Native.Nat.{_≤_};
 ghost use lib.ListN.{take, drop};
 ghost use Rattle.geometry.specs.Limits.{maxLayers};
-ghost use Rattle.layer_rows.specs.LayerRows.{rowsOwe, someRowsOwe, rowsOvertake, noRowsOvertake};
+ghost use Rattle.layer_rows.specs.LayerRows.{rowsOwe, someRowsOwe, rowsOvertake, noRowsOvertake, rowsInOrder};
 
 // The rows of a layer: the first of its stroke area, its next row, and the one after its last.
 pub struct LayerRows {
@@ -61,12 +61,16 @@ pub fn some_owes(rows: [LayerRows; 16], layers: usize, y: i32) -> bool
     false
 }
 
-// Whether no layer from this place up to the count overtakes an earlier one.
+// Whether no layer from this place up to the count overtakes an earlier one. One that is painted to its
+// end owes nothing.
 pub fn none_overtakes(earlier: LayerRows, rows: [LayerRows; 16], from: usize, count: usize) -> bool
     requires { ⌜ from ≤ count ⌝ }
     requires { ⌜ count ≤ maxLayers ⌝ }
     ensures { λ r. ⌜ r ≡ noRowsOvertake earlier (drop from (take count rows)) ⌝ }
 {
+    if earlier.end <= earlier.next {
+        return true;
+    }
     let mut i = from;
     while i < count {
         let later = rows[i];
@@ -74,6 +78,22 @@ pub fn none_overtakes(earlier: LayerRows, rows: [LayerRows; 16], from: usize, co
             return false;
         }
         i += 1;
+    }
+    true
+}
+
+// Whether none of the first layers overtakes an earlier one of them.
+pub fn in_order(rows: [LayerRows; 16], count: usize) -> bool
+    requires { ⌜ count ≤ maxLayers ⌝ }
+    ensures { λ r. ⌜ r ≡ rowsInOrder (take count rows) ⌝ }
+{
+    let mut i: usize = 0;
+    while i < count {
+        let earlier = rows[i];
+        i += 1;
+        if !none_overtakes(earlier, rows, i, count) {
+            return false;
+        }
     }
     true
 }

@@ -37,9 +37,9 @@ use Rattle.drawing.proofs.Rows.{rows-of-ellipse, rows-of-crate-box, rows-of-w3c
 use Rattle.layers.specs.declared.Layer.{Layer}
 use Rattle.layer_rows.specs.declared.LayerRows.{LayerRows}
 use Rattle.layers.specs.declared.RowsFound.the-variants.{Broken, Kept}
-use Rattle.layer_rows.specs.LayerRows.{rowsOwe, someRowsOwe, rowsOvertake, noRowsOvertake}
+use Rattle.layer_rows.specs.LayerRows.{rowsOwe, someRowsOwe, rowsOvertake, noRowsOvertake, rowsInOrder}
 use Rattle.layers.specs.Layers.{layerOf, blankLayer, layerRows}
-use Rattle.layer_rows.proofs.RowTests.{RowsFit, place-here, put-here}
+use Rattle.layer_rows.proofs.RowTests.{RowsFit, and-false, place-here, place-past, put-here}
 
 -- ---- one layer
 module _ (l : Layer) where
@@ -102,16 +102,39 @@ unfolding noneOvertakes noRowsOvertake overtakes rowsOvertake layerRows
 overtake-by-rows l [] = refl
 overtake-by-rows l (later ∷ rest) = ap (λ (t : Bool). not (rowsOvertake (layerRows l) (layerRows later)) && t) (overtake-by-rows l rest)
 
+-- ---- one by one and two by two
+
+-- each layer of a list keeps its own rules
+unfoldable pub eachKeeps : List Layer → Bool
+eachKeeps [] = true
+eachKeeps (l ∷ rest) = layerKeepsRules drawing (layerOf l) && eachKeeps rest
+
+regroup : (a b c d : Bool) → ((a && b) && (c && d)) ≡ ((a && c) && (b && d))
+regroup true true true d = refl
+regroup true true false d = refl
+regroup true false true d = refl
+regroup true false false d = refl
+regroup false b c d = refl
+
+pub kept-by-parts : (layers : List Layer)
+    → layersKeepRules drawing (map layerOf layers) ≡ (eachKeeps layers && rowsInOrder (map layerRows layers))
+unfolding layersKeepRules eachKeeps rowsInOrder
+kept-by-parts [] = refl
+kept-by-parts (l ∷ rest) =
+    rw (overtake-by-rows l rest, kept-by-parts rest)
+    (regroup (layerKeepsRules drawing (layerOf l)) (noRowsOvertake (layerRows l) (map layerRows rest)) (eachKeeps rest)
+    (rowsInOrder (map layerRows rest)))
+
 -- ---- what the test of one layer found
 module _ (t : Bool) (r : LayerRows) where
-  pub found-broken : Broken ≡ cond t (Kept r) Broken → t ≡ false
+  found-broken : Broken ≡ cond t (Kept r) Broken → t ≡ false
   found-broken e = by-test t e
     where
       by-test : (t : Bool) → Broken ≡ cond t (Kept r) Broken → t ≡ false
       by-test true e = let z : _≡_ {A = ℕ} 0 1 = cc in absurd (omega arith)
       by-test false e = refl
 
-  pub found-kept : (q : LayerRows) → Kept q ≡ cond t (Kept r) Broken → (t ≡ true) × (q ≡ r)
+  found-kept : (q : LayerRows) → Kept q ≡ cond t (Kept r) Broken → (t ≡ true) × (q ≡ r)
   found-kept q e = by-test t e
     where
       by-test : (t : Bool) → Kept q ≡ cond t (Kept r) Broken → (t ≡ true) × (q ≡ r)
@@ -119,18 +142,23 @@ module _ (t : Bool) (r : LayerRows) where
       by-test false e = let z : _≡_ {A = ℕ} 0 1 = cc in absurd (omega arith)
 
 -- ---- the places from one on
-and-false : (a : Bool) → (a && false) ≡ false
-and-false true = refl
-and-false false = refl
-
-pub rest-broken : (k : ℕ) (layers : List Layer) → layersKeepRules drawing (map layerOf (drop k layers)) ≡ false
-    → layersKeepRules drawing (map layerOf layers) ≡ false
-unfolding layersKeepRules
+rest-broken : (k : ℕ) (layers : List Layer) → eachKeeps (drop k layers) ≡ false → eachKeeps layers ≡ false
+unfolding eachKeeps
 rest-broken zero layers e = e
 rest-broken (suc k) [] e = e
-rest-broken (suc k) (l ∷ layers) e =
-    rw (rest-broken k layers e)
-    (and-false (layerKeepsRules drawing (layerOf l) && noneOvertakes drawing (layerOf l) (map layerOf layers)))
+rest-broken (suc k) (l ∷ layers) e = rw (rest-broken k layers e) (and-false (layerKeepsRules drawing (layerOf l)))
+
+-- From place i on the layers keep their own rules, and their rows were found.
+pub record FoundFrom (layers : List Layer) (count : ℕ) (rows : List LayerRows) (i : ℕ) : Type 0 where
+  pub each : eachKeeps (drop i (take count layers)) ≡ true
+  pub rows-are : drop i (take count rows) ≡ map layerRows (drop i (take count layers))
+
+-- nothing is to be found behind the last place
+pub found-none : (layers : List Layer) (count : ℕ) (rows : List LayerRows) → FoundFrom layers count rows count
+unfolding eachKeeps
+found-none layers count rows =
+    let none = place-past layers count count (omega arith) in
+    record { each = rw none; rows-are = rw (none, place-past rows count count (omega arith)) }
 
 -- i is a place, and next the one after it
 module _ (layers : List Layer) (count i next : ℕ) (step : i + 1 ≡ next) (here : i < count) (enough : count ≤ length layers) where
@@ -144,28 +172,35 @@ module _ (layers : List Layer) (count i next : ℕ) (step : i + 1 ≡ next) (her
   split : drop i (take count layers) ≡ at ∷ after
   split = place-here layers count i blankLayer here enough ∙ ap {B = List Layer} (λ n. at ∷ drop n (take count layers)) step
 
-  broken-whole : layersKeepRules drawing (map layerOf (at ∷ after)) ≡ false → layersKeepRules drawing (map layerOf (take count layers)) ≡ false
-  broken-whole e = rest-broken i (take count layers) (rw split e)
-
-  pub broken-here : layerKeepsRules drawing (layerOf at) ≡ false → layersKeepRules drawing (map layerOf (take count layers)) ≡ false
-  broken-here broken = broken-whole (unfold layersKeepRules in rw broken)
-
-  module _ (own : layerKeepsRules drawing (layerOf at) ≡ true) where
-    pub broken-order : noRowsOvertake (layerRows at) (map layerRows after) ≡ false
-        → layersKeepRules drawing (map layerOf (take count layers)) ≡ false
-    broken-order broken = broken-whole (unfold layersKeepRules in rw (own, overtake-by-rows at after, broken))
-
-    pub kept-here : noRowsOvertake (layerRows at) (map layerRows after) ≡ true → layersKeepRules drawing (map layerOf after) ≡ true
-        → layersKeepRules drawing (map layerOf (drop i (take count layers))) ≡ true
-    kept-here order rest = rw split (unfold layersKeepRules in rw (own, overtake-by-rows at after, order, rest))
+  pub broken-here : Broken ≡ cond (layerKeepsRules drawing (layerOf at)) (Kept (layerRows at)) Broken
+      → layersKeepRules drawing (map layerOf (take count layers)) ≡ false
+  broken-here found =
+      kept-by-parts (take count layers)
+      ∙ ap (λ (t : Bool). t && rowsInOrder (map layerRows (take count layers)))
+      (rest-broken i (take count layers) (rw split (unfold eachKeeps in rw (found-broken (layerKeepsRules drawing (layerOf at)) (layerRows at) found))))
 
   -- the rows found are put where they belong
-  pub rows-put : (rows : List LayerRows) → count ≤ length rows → drop next (take count rows) ≡ map layerRows after
-      → drop i (take count (set rows i (layerRows at))) ≡ map layerRows (drop i (take count layers))
-  rows-put rows room rest =
-      put-here rows count i (layerRows at) here (omega arith)
-      ∙ ap {B = List LayerRows} (λ t. layerRows at ∷ t) (ap (λ (n : ℕ). drop n (take count rows)) step ∙ rest)
-      ∙ sym (ap (map layerRows) split)
+  pub found-here : (rows : List LayerRows) → count ≤ length rows → FoundFrom layers count rows next
+      → (r : LayerRows) → Kept r ≡ cond (layerKeepsRules drawing (layerOf at)) (Kept (layerRows at)) Broken
+      → FoundFrom layers count (set rows i r) i
+  found-here rows room later r found =
+      let kept = found-kept (layerKeepsRules drawing (layerOf at)) (layerRows at) r found in
+      record {
+        each = rw split (unfold eachKeeps in rw (kept .0, later .each));
+        rows-are =
+            put-here rows count i r here (omega arith)
+            ∙ ap {B = List LayerRows} (λ t. r ∷ t) (ap (λ (n : ℕ). drop n (take count rows)) step ∙ later .rows-are)
+            ∙ ap (λ (q : LayerRows). q ∷ map layerRows after) (kept .1)
+            ∙ sym (ap (map layerRows) split);
+      }
+
+-- all rows are found, so the order alone decides
+pub found-all : (layers : List Layer) (count : ℕ) (rows : List LayerRows) → FoundFrom layers count rows 0
+    → rowsInOrder (take count rows) ≡ layersKeepRules drawing (map layerOf (take count layers))
+found-all layers count rows found =
+    ap rowsInOrder (found .rows-are)
+    ∙ ap (λ (t : Bool). t && rowsInOrder (map layerRows (take count layers))) (sym (found .each))
+    ∙ sym (kept-by-parts (take count layers))
 
 -- ---- what the rules bound
 pub answer-passed : (check : Checked) → answerOf check ≡ accepted → check ≡ Passed

@@ -4,7 +4,7 @@ use figure::Figure;
 use geometry::Point;
 use geometry::Size;
 use layer_rows::LayerRows;
-use layer_rows::none_overtakes;
+use layer_rows::in_order;
 use rectangle::Rectangle;
 use refusal::Checked;
 use style::Paint;
@@ -113,8 +113,8 @@ impl Layer {
     }
 }
 
-// Tests the rules of the first layers, one by one and two by two, from the last to the first: so
-// the rows of all that come later are at hand.
+// Tests the rules of the first layers: one by one, from the last to the first, and then two by two, by
+// the rows that were found.
 pub fn test_rules(layers: [Layer; 16], count: usize) -> RulesTested
     requires { ⌜ count ≤ maxLayers ⌝ }
     ensures { λ r. ⌜ r .kept ≡ layersKeepRules drawing (map layerOf (take count layers)) ⌝ }
@@ -128,25 +128,15 @@ pub fn test_rules(layers: [Layer; 16], count: usize) -> RulesTested
     let mut rows = [none; 16];
     let mut i = count;
     while 0 < i {
-        let from = i;
         i -= 1;
         let layer = layers[i];
         let RowsFound::Kept(found) = layer.rows() else {
-            return RulesTested {
-                kept: false,
-                rows: rows,
-            };
+            return RulesTested::broken();
         };
-        if !none_overtakes(found, rows, from, count) {
-            return RulesTested {
-                kept: false,
-                rows: rows,
-            };
-        }
         rows[i] = found;
     }
     RulesTested {
-        kept: true,
+        kept: in_order(rows, count),
         rows: rows,
     }
 }

@@ -107,6 +107,13 @@ module _ (before after : List ℤ) (records : holdsRecords before ≡ true) wher
   still-records sides places =
       rw sides (all-of-each (λ k. isLayer (placeNumbers after k)) (used after) 0 (λ j within. places j (omega arith)))
 
+-- ---- The layer in a place.
+pub layer-in-place : (numbers : List ℤ) (i : ℕ) → i < 16 → getD (sheetOf numbers .layers) i blankLayer ≡ layerOf (placeNumbers numbers i)
+unfolding sheetOf
+layer-in-place numbers i place =
+    let here : 0 + i ≡ i = omega arith in
+    get-list-from (λ j. layerOf (placeNumbers numbers j)) blankLayer 16 0 i place ∙ ap (λ (j : ℕ). layerOf (placeNumbers numbers j)) here
+
 -- ---- A next row.
 module _ (numbers : List ℤ) (long : length numbers ≡ 291) (i : ℕ) (place : i < 16) (row : ℤ) where
   abbrev written : List ℤ
@@ -132,10 +139,7 @@ module _ (numbers : List ℤ) (long : length numbers ≡ 291) (i : ℕ) (place :
   place-length = simp (length-take, length-drop) (omega arith)
 
   old-is : old ≡ layerOf (placeNumbers numbers i)
-  unfolding sheetOf
-  old-is =
-      let here : 0 + i ≡ i = omega arith in
-      get-list-from (λ j. layerOf (placeNumbers numbers j)) blankLayer 16 0 i place ∙ ap (λ (j : ℕ). layerOf (placeNumbers numbers j)) here
+  old-is = layer-in-place numbers i place
 
   this-layer : layerOf (placeNumbers written i) ≡ new
   this-layer =

@@ -8,7 +8,7 @@ use mathlib.Core.Bool.{Bool, cond, _&&_}
 use mathlib.Core.List.{List}
 use Prim.Native.Nat.{ℕ, suc, _+_, _*_, min}
 use lib.Dec.{eqb}
-use lib.IntN.{ℤ}
+use lib.IntN.{ℤ, pos, _+ℤ_}
 use lib.ListN.{length, take, drop, set}
 use lib.Seq.{sets}
 use Rattle.signed.specs.Signed.{floor0}
@@ -74,3 +74,7 @@ sheetOf numbers =
 -- ---- Numbers with a layer put in a place: its figure's, its style's, and its next row.
 abbrev pub layerPut : List ℤ → ℕ → List ℤ → List ℤ → ℤ → List ℤ
 layerPut numbers j figure style row = set (sets (sets numbers (placeAt j) figure) (placeAt j + 13) style) (placeAt j + 17) row
+
+-- ---- Numbers whose layer i has painted one row more: its next row is the one below.
+abbrev pub rowPainted : List ℤ → ℕ → List ℤ
+rowPainted numbers i = set numbers (placeAt i + 17) (layerOf (placeNumbers numbers i) .«next_row» +ℤ pos 1)

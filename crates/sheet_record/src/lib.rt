@@ -1,5 +1,6 @@
 // A sheet written as numbers, as a host keeps it in its own memory (specs/SheetRecord.antt lists the
 // places).
+use canvas_size::CanvasSize;
 use host_answers::put_from;
 use layers::Layer;
 use record_numbers::figure_of;
@@ -11,8 +12,9 @@ use sheet::Sheet;
 ghost use mathlib.Core.Path.{_≡_};
 ghost use Prim.Native.Nat.{_<_};
 ghost use lib.ListN.{length};
+ghost use Rattle.geometry.specs.Limits.{maxLayers};
 ghost use Rattle.record_numbers.specs.RecordNumbers.{figureLength, styleLength};
-ghost use Rattle.sheet_record.specs.SheetRecord.{layerLength, sheetLength, isLayer, isSheet, holdsRecords, countOf, layerOf, sheetOf, layerPut};
+ghost use Rattle.sheet_record.specs.SheetRecord.{layerLength, sheetLength, isLayer, isSheet, holdsRecords, countOf, layerOf, placeNumbers, sheetOf, layerPut};
 
 // How many numbers a layer has, and a sheet.
 pub const LAYER_LENGTH: usize = 18;
@@ -59,7 +61,7 @@ fn holds_records(numbers: &[i32]) -> bool
 }
 
 // How many layers the numbers say: one more than there may be where they hold no records.
-fn count_of(numbers: &[i32]) -> u32
+pub fn count_of(numbers: &[i32]) -> u32
     requires { ⌜ length (now numbers) ≡ sheetLength ⌝ }
     ensures { λ r. ⌜ r ≡ countOf (now (numbers .entry)) ⌝ }
 {
@@ -81,6 +83,27 @@ fn layer_of(numbers: &[i32]) -> Layer
     }
 }
 
+// The layer in place j.
+pub fn layer_at(numbers: &[i32], j: usize) -> Layer
+    requires { ⌜ (length (now numbers) ≡ sheetLength) × (j < maxLayers) ⌝ }
+    ensures { λ r. ⌜ r ≡ layerOf (placeNumbers (now (numbers .entry)) j) ⌝ }
+{
+    let at = 3 + LAYER_LENGTH * j;
+    let end = at + LAYER_LENGTH;
+    layer_of(&numbers[at..end])
+}
+
+// The size of the sheet's canvas.
+pub fn size_of(numbers: &[i32]) -> CanvasSize
+    requires { ⌜ length (now numbers) ≡ sheetLength ⌝ }
+    ensures { λ r. ⌜ (r .width ≡ sheetOf (now (numbers .entry)) .width) × (r .height ≡ sheetOf (now (numbers .entry)) .height) ⌝ }
+{
+    CanvasSize {
+        width: signed::floor0(numbers[0]),
+        height: signed::floor0(numbers[1]),
+    }
+}
+
 // The sheet that the numbers are.
 pub fn sheet_of(numbers: &[i32]) -> Sheet
     requires { ⌜ length (now numbers) ≡ sheetLength ⌝ }
@@ -90,14 +113,13 @@ pub fn sheet_of(numbers: &[i32]) -> Sheet
     let mut places = [blank; 16];
     let mut j: usize = 0;
     while j < 16 {
-        let at = 3 + LAYER_LENGTH * j;
-        let end = at + LAYER_LENGTH;
-        places[j] = layer_of(&numbers[at..end]);
+        places[j] = layer_at(numbers, j);
         j += 1;
     }
+    let size = size_of(numbers);
     Sheet {
-        width: signed::floor0(numbers[0]),
-        height: signed::floor0(numbers[1]),
+        width: size.width,
+        height: size.height,
         count: count_of(numbers),
         layers: places,
     }

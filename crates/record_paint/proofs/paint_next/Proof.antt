@@ -1,0 +1,139 @@
+-- `record_paint::paint_next` meets its contract: a call that is accepted has a layer within bounds, whose row is painted.
+-- Assumes nothing.
+use mathlib.Core.Path.{_≡_, refl, sym, ap, ap₂, subst, _∙_}
+use mathlib.Core.List.{List}
+use Prim.Native.Nat.{ℕ, _+_, _*_, _<_, _≤_}
+use native.Mathlib.Omega.{arith}
+use borrow.Author.Needs.{needs}
+use lib.IntN.{ℤ, pos, _+ℤ_}
+use lib.ListN.{length, set, getD, length-set}
+use mir.Syntax.{w32}
+use mir.Val.{toZ, ofZ}
+use mir.Facts.{toZ-ofZ}
+use Rattle.signed.specs.Signed.{Near}
+use Rattle.signed.proofs.Laws.{int}
+use Rattle.geometry.specs.Bounds.{widePoint, wideSide}
+use Rattle.figure.specs.Bounds.{wideOffset, OwnFigure}
+use Rattle.book.specs.Sheet.{paintRow}
+use Rattle.drawing.specs.Drawing.{styledFigure, drawing}
+use Rattle.layers.specs.declared.Layer.{Layer}
+use Rattle.layers.specs.Layers.{blankLayer}
+use Rattle.layers.proofs.LayerRules.{LayerWithin}
+use Rattle.sheet_checks.proofs.Places.{kept-few, kept-layer, kept-width}
+use Rattle.sheet_checks.proofs.Answers.{PaintAccepted, painted-accepted}
+use Rattle.sheet.specs.declared.Sheet.{Sheet}
+use Rattle.sheet.proofs.Records.{painted-canvas}
+use Rattle.sheet_record.specs.SheetRecord.{layerOf, placeAt, placeNumbers, sheetOf}
+use Rattle.sheet_record.proofs.Parts.{sixteen}
+use Rattle.sheet_record.proofs.ReadBack.{layer-in-place}
+use Rattle.record_paint.proofs.paint_next.Statement.{statement}
+use Rattle.record_paint.proofs.paint_next.Tie as tie
+
+abbrev sheet : tie.Start → Sheet
+sheet c = sheetOf (c .args .numbers .now)
+
+told : (c : tie.Start) → PaintAccepted (sheet c .width) (sheet c .height) (sheet c .count) (sheet c .layers) (sixteen (c .args .numbers .now)) (c .args .layer) (c .args .canvas .now)
+told c = painted-accepted (sheet c .width) (sheet c .height) (sheet c .count) (sheet c .layers) (sixteen (c .args .numbers .now)) (c .args .layer) (c .args .canvas .now) (c .pre .1)
+
+place : (c : tie.Start) → c .args .layer < 16
+place c =
+    let few = kept-few (sheet c .width) (sheet c .height) (sheet c .count) (sheet c .layers) (sixteen (c .args .numbers .now)) (told c .rules) in
+    let within = told c .within in
+    omega arith
+
+narrow : (c : tie.Start) → sheet c .width ≤ wideSide
+narrow c = omega (arith, kept-width (sheet c .width) (sheet c .height) (sheet c .count) (sheet c .layers) (sixteen (c .args .numbers .now)) (told c .rules))
+
+-- the layer that is read is within bounds
+abbrev entry : tie.After-layer-at → tie.Start
+entry c = c .before .before .before
+
+chosen-is : (c : tie.After-layer-at) → c .layer-at .result ≡ getD (sheet (entry c) .layers) (entry c .args .layer) blankLayer
+chosen-is c = c .layer-at .ensures ∙ sym (layer-in-place (entry c .args .numbers .now) (entry c .args .layer) (place (entry c)))
+
+within : (c : tie.After-layer-at) → LayerWithin (c .layer-at .result)
+within c =
+    let e = entry c in
+    subst LayerWithin (sym (chosen-is c))
+    (kept-layer (sheet e .width) (sheet e .height) (sheet e .count) (sheet e .layers) (sixteen (e .args .numbers .now)) (told e .rules) (e .args .layer) (told e .within))
+
+layer-at-requires : tie.Need-layer-at-requires
+layer-at-requires c κs = (c .before .before .pre .0, place (c .before .before))
+
+size-of-requires : tie.Need-size-of-requires
+size-of-requires c κs = search needs
+
+paint-row-requires : tie.Need-paint-row-requires
+paint-row-requires c κs =
+    let read = c .before .before .before .before .before in
+    let size = c .size-of .ensures in
+    let next = within read .next in (
+      told (entry read) .size ∙ sym (ap₂ _*_ (size .0) (size .1)),
+      (rw (size .0) (narrow (entry read)), (within read .figure, (within read .stroke, rw (toZ-ofZ (next .fits)) next))),
+    )
+
+add-requires : tie.Need-add-requires
+add-requires c κs =
+    let next = within (c .before .before .before .before .before .before .before .before) .next in
+    rw (toZ-ofZ (next .fits)) (omega (arith, int))
+
+mul-t18 : tie.Need-mul-t18
+mul-t18 c = search needs
+
+add-t19 : tie.Need-add-t19
+add-t19 c = search needs
+
+add-t20 : tie.Need-add-t20
+add-t20 c = search needs
+
+mul-t21 : tie.Need-mul-t21
+mul-t21 c = search needs
+
+slice-set-from-numbers : tie.Need-slice-set-from-numbers
+slice-set-from-numbers c =
+    let e = c .before .before .before .before .before .before .before .before .before .before .before .before in
+    let within = place e in
+    let long = e .pre .0 in
+    omega arith
+
+same-length : tie.Need-same-length
+same-length c = simp length-set (search needs)
+
+same-length-2 : tie.Need-same-length-2
+same-length-2 c = search needs
+
+-- the canvas with a layer's row at its next row, on a canvas of this size
+abbrev written : List ℕ → ℕ → ℕ → Layer → List ℕ
+written canvas W H l = paintRow drawing W H (styledFigure (l .figure) (l .style)) (l .«next_row») canvas
+
+returns : tie.Need-returns
+returns c =
+    let read = c .before .before .before .before .before .before .before .before .before in
+    let e = entry read in
+    let a = e .args in
+    let size = c .before .before .before .before .size-of .ensures in
+    let held = toZ-ofZ (within read .next .fits) in (
+      ap (λ (z : ℤ). set (a .numbers .now) (placeAt (a .layer) + 17) z)
+          (toZ-ofZ (c .add .ensures .fits) ∙ c .add .ensures .is ∙ ap (λ (z : ℤ). z +ℤ pos 1) (held ∙ ap (λ (l : Layer). l .«next_row») (read .layer-at .ensures))),
+      c .before .before .before .paint-row .ensures
+          ∙ ap (λ (y : ℤ). paintRow drawing (c .before .before .before .before .size-of .result .width) (c .before .before .before .before .size-of .result .height) (styledFigure (read .layer-at .result .figure) (read .layer-at .result .style)) y (a .canvas .now)) held
+          ∙ (λ k. written (a .canvas .now) (size .0 k) (size .1 k) (chosen-is read k))
+          ∙ sym (painted-canvas (sheet e) (sixteen (a .numbers .now)) (a .canvas .now) (a .layer) (e .pre .1)),
+    )
+
+pub paint-next-spec : {M : Type 1} → statement M
+paint-next-spec =
+    tie.close
+    (tie.spec
+    layer-at-requires
+    size-of-requires
+    paint-row-requires
+    add-requires
+    mul-t18
+    add-t19
+    add-t20
+    mul-t21
+    slice-set-from-numbers
+    same-length
+    same-length-2
+    returns)

@@ -1,0 +1,192 @@
+-- `sheet_checks::check_tested` meets its contract: the tests made are those of the answer, in the table's order, with the rows that
+-- the test of the rules found.
+-- Assumes nothing.
+use borrow.Author.Needs.{needs}
+use mathlib.Core.Path.{_≡_, sym, ap, ap₂, subst, _∙_}
+use mathlib.Core.Bool.{Bool, true}
+use mathlib.Core.List.{List, map}
+use Prim.Native.Nat.{ℕ, _≤_}
+use native.Mathlib.Omega.{arith}
+use borrow.Author.Tests.{not-true, not-false}
+use lib.ListN.{length, take, getD}
+use lib.Signed.{leZ}
+use mir.Syntax.{w32}
+use mir.Val.{toZ, ofZ}
+use mir.Facts.{toZ-ofZ}
+use Rattle.refusal.specs.declared.Checked.the-variants.{Passed}
+use Rattle.canvas_size.specs.CanvasSize.{canvasLengthCheck}
+use Rattle.book.specs.Sheet.{keepsRules}
+use Rattle.drawing.specs.Drawing.{drawing}
+use Rattle.layers.specs.declared.Layer.{Layer}
+use Rattle.layer_rows.specs.declared.LayerRows.{LayerRows}
+use Rattle.layer_rows.specs.LayerRows.{someRowsOwe}
+use Rattle.layers.specs.Layers.{blankLayer, layersOf, layerRows}
+use Rattle.layer_rows.proofs.RowTests.{noRows, RowsFit, le-held}
+use Rattle.sheet_checks.specs.Checks.{RulesFound}
+use Rattle.sheet_checks.proofs.Places.{kept-layer}
+use Rattle.sheet_checks.proofs.Answers.{paint-broken, paint-length, paint-no-layer, paint-finished, paint-owed, paint-free, rows-at, rows-before}
+use Rattle.sheet_checks.proofs.check_tested.Statement.{statement}
+use Rattle.sheet_checks.proofs.check_tested.Tie as tie
+
+abbrev start : tie.Else1 → tie.Start
+start c = c .before .before
+
+few : (c : tie.Else1) → start c .args .count ≤ 16
+few c = start c .pre (not-false _ (c .if1 .left))
+
+-- the canvas has its length
+size : (c : tie.After-enum-told) (canvas : List ℕ) → length canvas ≡ start (c .before .before .before .before) .args .bytes
+    → canvasLengthCheck (start (c .before .before .before .before) .args .size .width) (start (c .before .before .before .before) .args .size .height) (length canvas) ≡ Passed
+size c canvas long =
+    let a = start (c .before .before .before .before) .args in
+    ap (canvasLengthCheck (a .size .width) (a .size .height)) long ∙ sym (c .before .before .check-length .ensures) ∙ c .enum-told .given .1
+
+abbrev kept : tie.After-own → tie.Else1
+kept c = c .before .before .before .before .before .before
+
+-- the rows found for the layer
+abbrev own : tie.After-own → LayerRows
+own c = getD (start (kept c) .args .tested .rows) (start (kept c) .args .layer) noRows
+
+-- ---- of places whose rules were tested
+abbrev Found : List Layer → tie.Else1 → Type 0
+Found places c = RulesFound (start c .args .size .width) (start c .args .size .height) (start c .args .count) places (start c .args .tested)
+
+module _ (places : List Layer) (sixteen : length places ≡ 16) where
+  rules : (c : tie.Else1) → Found places c → keepsRules drawing (start c .args .size .width) (start c .args .size .height) (layersOf (start c .args .count) places) ≡ true
+  rules c found = sym (found .0) ∙ not-false _ (c .if1 .left)
+
+  abbrev layer : tie.After-own → Layer
+  layer c = getD places (start (kept c) .args .layer) blankLayer
+
+  module _ (c : tie.After-own) (found : Found places (kept c)) where
+    rows-are : take (start (kept c) .args .count) (start (kept c) .args .tested .rows) ≡ map layerRows (take (start (kept c) .args .count) places)
+    rows-are = found .1 (not-false _ (kept c .if1 .left))
+
+    own-is : own c ≡ layerRows (layer c)
+    own-is =
+        let a = start (kept c) .args in
+        rows-at (a .count) (a .layer) (c .before .if2 .left) (a .tested .rows) places rows-are (omega (arith, few (kept c), sixteen))
+
+    own-fits : RowsFit (own c)
+    own-fits =
+        let a = start (kept c) .args in
+        let within = kept-layer (a .size .width) (a .size .height) (a .count) places sixteen (rules (kept c) found) (a .layer) (c .before .if2 .left) in
+        subst RowsFit (sym own-is) (within .rows)
+
+    -- whether it has a row left is tested as the definition does
+    by-end : {t : Bool} → leZ (toZ w32 (ofZ w32 (own c .end))) (toZ w32 (ofZ w32 (own c .next))) ≡ t
+        → leZ (layerRows (layer c) .end) (layerRows (layer c) .next) ≡ t
+    by-end test =
+        sym (ap (λ (r : LayerRows). leZ (r .end) (r .next)) own-is) ∙ le-held (own-fits .end) (own-fits .next) test
+
+  -- whether an earlier layer owes the row is what was asked
+  owed : (c : tie.After-some-owes) → Found places (kept (c .before .before .before .before .before))
+      → someRowsOwe (map layerRows (take (start (kept (c .before .before .before .before .before)) .args .layer) places))
+      (layerRows (layer (c .before .before .before .before .before)) .next)
+      ≡ c .some-owes .result
+  owed c found =
+      let mine = c .before .before .before .before .before in
+      let a = start (kept mine) .args in
+      sym (c .some-owes .ensures
+      ∙ ap₂ someRowsOwe (rows-before (a .count) (a .layer) (mine .before .if2 .left) (a .tested .rows) places (rows-are mine found))
+      (toZ-ofZ (own-fits mine found .next) ∙ ap (λ (r : LayerRows). r .next) (own-is mine found)))
+
+-- 7
+returns : tie.Need-returns
+returns c =
+    let a = c .before .before .args in
+    λ places canvas sixteen found long. sym (paint-broken (a .size .width) (a .size .height) (a .count) places sixteen (a .layer) canvas
+    (sym (found .0) ∙ not-true _ (c .if1 .taken)))
+
+check-length-requires : tie.Need-check-length-requires
+check-length-requires c κs = search needs
+
+enum-known-refusal : tie.Need-enum-known-refusal
+enum-known-refusal c = search needs
+
+enum-told : tie.Need-enum-told
+enum-told c = search needs
+
+-- 10
+returns-2 : tie.Need-returns-2
+returns-2 c =
+    let told = c .before in
+    let kept = told .before .before .before .before in
+    let a = start kept .args in
+    λ places canvas sixteen found long. sym (paint-no-layer (a .size .width) (a .size .height) (a .count) places sixteen (a .layer) canvas
+    (rules places sixteen kept found) (size told canvas long) (c .if2 .taken))
+
+mul-own : tie.Need-mul-own
+mul-own c = search needs
+
+array-copy-out-own : tie.Need-array-copy-out-own
+array-copy-out-own c =
+    let within = c .if2 .left in
+    omega (arith, few (c .before .before .before .before .before))
+
+-- 11
+returns-3 : tie.Need-returns-3
+returns-3 c =
+    let own = c .before .before .before .before in
+    let told = own .before .before in
+    let a = start (kept own) .args in
+    λ places canvas sixteen found long.
+    sym (paint-finished (a .size .width) (a .size .height) (a .count) places sixteen (a .layer) canvas
+    (rules places sixteen (kept own) found) (size told canvas long)
+    (own .before .if2 .left) (by-end places sixteen own found (c .if3 .taken)))
+
+some-owes-requires : tie.Need-some-owes-requires
+some-owes-requires c κs =
+    let own = c .before .before .before .before in
+    let within = own .before .if2 .left in
+    omega (arith, few (kept own))
+
+-- 12
+returns-4 : tie.Need-returns-4
+returns-4 c =
+    let own = c .before .before .before .before .before .before in
+    let told = own .before .before in
+    let a = start (kept own) .args in
+    λ places canvas sixteen found long.
+    sym (paint-owed (a .size .width) (a .size .height) (a .count) places sixteen (a .layer) canvas
+    (rules places sixteen (kept own) found) (size told canvas long)
+    (own .before .if2 .left) (by-end places sixteen own found (c .before .before .if3 .left))
+    (owed places sixteen (c .before) found ∙ c .if4 .taken))
+
+-- 8
+returns-5 : tie.Need-returns-5
+returns-5 c =
+    let kept = c .before .before .before .before .before in
+    let a = start kept .args in
+    λ places canvas sixteen found long. sym (paint-length (a .size .width) (a .size .height) (a .count) places sixteen (a .layer) canvas
+    (rules places sixteen kept found) _
+    (ap (canvasLengthCheck (a .size .width) (a .size .height)) long ∙ sym (c .before .before .before .check-length .ensures) ∙ c .before .refusal .given .1))
+
+returns-6 : tie.Need-returns-6
+returns-6 c =
+    let own = c .before .before .before .before .before .before in
+    let told = own .before .before in
+    let a = start (kept own) .args in
+    λ places canvas sixteen found long.
+    sym (paint-free (a .size .width) (a .size .height) (a .count) places sixteen (a .layer) canvas
+    (rules places sixteen (kept own) found) (size told canvas long)
+    (own .before .if2 .left) (by-end places sixteen own found (c .before .before .if3 .left))
+    (owed places sixteen (c .before) found ∙ c .if4 .left))
+
+pub check-tested-spec : {M : Type 1} → statement M
+check-tested-spec =
+    tie.close
+    (tie.spec
+    returns
+    check-length-requires
+    enum-known-refusal
+    enum-told
+    returns-2
+    mul-own
+    array-copy-out-own
+    returns-3
+    some-owes-requires
+    returns-4
+    returns-5
+    returns-6)

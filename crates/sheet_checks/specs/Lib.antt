@@ -1,0 +1,3 @@
+-- What the checks of a sheet go by.
+-- Assumes nothing.
+pub mod Checks
