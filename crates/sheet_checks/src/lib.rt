@@ -8,15 +8,12 @@ use refusal::Refusal;
 ghost use mathlib.Core.Path.{_≡_};
 ghost use mathlib.Core.Bool.{true};
 ghost use mathlib.Core.List.{List, map};
-ghost use Prim.Native.Nat.{ℕ, _≤_};
+ghost use Prim.Native.Nat.{ℕ};
 ghost use lib.ListN.{length, take};
-ghost use Rattle.geometry.specs.Limits.{maxLayers};
 ghost use Rattle.book.specs.Book.{_orElse_, add as Call·add, paint as Call·paint};
 ghost use Rattle.book.specs.Sheet.{keepsRules, answer};
 ghost use Rattle.drawing.specs.Drawing.{StyledFigure, answerOf, drawing};
-ghost use Rattle.layers.specs.declared.Layer.{Layer};
 ghost use Rattle.layers.specs.Layers.{layersOf, stateOf, layerRows};
-ghost use Rattle.sheet_checks.specs.Checks.{RulesFound};
 
 // Tests all rules of a sheet: its size, the number of its layers, and the layers.
 pub fn test_rules(size: CanvasSize, count: u32, places: [Layer; 16]) -> RulesTested
@@ -48,22 +45,21 @@ pub fn check_add(size: CanvasSize, count: u32, places: [Layer; 16]) -> Checked
     Checked::Passed
 }
 
-// Refusals 7, 8, 10, 11 and 12 of painting on a canvas that is so many bytes long, by what the test of
-// all rules found.
-pub fn check_tested(
-    tested: RulesTested,
+// Refusals 7, 8, 10, 11 and 12 of painting on a canvas that is so many bytes long.
+pub fn check_paint(
     size: CanvasSize,
     count: u32,
+    places: [Layer; 16],
     layer: u32,
     bytes: usize,
 ) -> Checked
-    requires { ⌜ (tested .kept ≡ true → count ≤ maxLayers) ⌝ }
-    ensures { λ r. ⌜ ((places : List Layer) (canvas : List ℕ) → length places ≡ maxLayers → RulesFound (size .width) (size .height) count places tested → length canvas ≡ bytes → answerOf r ≡ answer drawing (size .width) (size .height) (stateOf count places canvas) (Call·paint layer)) ⌝ }
+    ensures { λ r. ⌜ ((canvas : List ℕ) → length canvas ≡ bytes → answerOf r ≡ answer drawing (size .width) (size .height) (stateOf count places canvas) (Call·paint layer)) ⌝ }
 {
+    let tested = test_rules(size, count, places);
+    let rows = tested.rows;
     if !tested.kept {
         return Checked::Refused(Refusal::SheetRule);
     }
-    let rows = tested.rows;
     match size.check_length(bytes) {
         Checked::Refused(refusal) => Checked::Refused(refusal),
         Checked::Passed => {
@@ -82,17 +78,4 @@ pub fn check_tested(
             Checked::Passed
         }
     }
-}
-
-// The same of a sheet with its size, its count and its places.
-pub fn check_paint(
-    size: CanvasSize,
-    count: u32,
-    places: [Layer; 16],
-    layer: u32,
-    bytes: usize,
-) -> Checked
-    ensures { λ r. ⌜ ((canvas : List ℕ) → length canvas ≡ bytes → answerOf r ≡ answer drawing (size .width) (size .height) (stateOf count places canvas) (Call·paint layer)) ⌝ }
-{
-    check_tested(test_rules(size, count, places), size, count, layer, bytes)
 }

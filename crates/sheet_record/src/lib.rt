@@ -104,10 +104,10 @@ pub fn size_of(numbers: &[i32]) -> CanvasSize
     }
 }
 
-// The sheet that the numbers are.
-pub fn sheet_of(numbers: &[i32]) -> Sheet
+// The layers in all places.
+pub fn places_of(numbers: &[i32]) -> [Layer; 16]
     requires { ⌜ length (now numbers) ≡ sheetLength ⌝ }
-    ensures { λ r. ⌜ r ≡ sheetOf (now (numbers .entry)) ⌝ }
+    ensures { λ r. ⌜ r ≡ sheetOf (now (numbers .entry)) .layers ⌝ }
 {
     let blank = Layer::blank();
     let mut places = [blank; 16];
@@ -116,12 +116,20 @@ pub fn sheet_of(numbers: &[i32]) -> Sheet
         places[j] = layer_at(numbers, j);
         j += 1;
     }
+    places
+}
+
+// The sheet that the numbers are.
+pub fn sheet_of(numbers: &[i32]) -> Sheet
+    requires { ⌜ length (now numbers) ≡ sheetLength ⌝ }
+    ensures { λ r. ⌜ r ≡ sheetOf (now (numbers .entry)) ⌝ }
+{
     let size = size_of(numbers);
     Sheet {
         width: size.width,
         height: size.height,
         count: count_of(numbers),
-        layers: places,
+        layers: places_of(numbers),
     }
 }
 
