@@ -13,7 +13,7 @@ use Rattle.range.specs.declared.Range.{Range}
 use Rattle.geometry.specs.Bounds.{widePoint}
 use Rattle.scanline.specs.Points.{runLength, EndsWithin}
 use Rattle.corner.specs.Bounds.{wideStrokeSide}
-use Rattle.figure.specs.Bounds.{wideAreaPosition}
+use Rattle.box_rules.specs.Bounds.{wideAreaPosition}
 
 -- a run that keeps to w columns from left on has at most w columns, and its ends are near
 module _ (left : ℤ) (w : ℕ) (r : Range) (near : Near wideAreaPosition left) (small : w ≤ wideStrokeSide) (ends : EndsWithin left w r) where

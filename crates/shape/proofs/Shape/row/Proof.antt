@@ -1,17 +1,17 @@
--- `figure::Shape::row` meets its contract: the variant matched is the case of `rowOfShape`.
+-- `shape::Shape::row` meets its contract: the variant matched is the case of `rowOfShape`.
 -- Assumes nothing.
 use mathlib.Core.Path.{ap, sym, subst, _∙_}
 use mir.Facts.{toZ-ofZ}
 use Rattle.ellipse_points.specs.EllipsePoints.{row as Ellipse·row}
 use Rattle.rounded_rectangle.specs.RoundedRectangle.{row as RoundedRectangle·row}
 use Rattle.scanline.specs.Points.{RowWithin}
-use Rattle.figure.specs.declared.Shape.{Shape}
-use Rattle.figure.specs.Figure.{rectangle}
-use Rattle.figure.specs.Bounds.{BoundedShape}
-use Rattle.figure.proofs.Within.{area-bounded, area-box-bounded}
+use Rattle.shape.specs.declared.Shape.{Shape}
+use Rattle.shape.specs.Shape.{rectangle}
+use Rattle.shape.specs.Bounds.{BoundedShape}
+use Rattle.box_rules.proofs.Within.{area-bounded, area-box-bounded}
 use borrow.Author.Needs.{needs}
-use Rattle.figure.proofs.Shape.row.Statement.{statement}
-use Rattle.figure.proofs.Shape.row.Tie as tie
+use Rattle.shape.proofs.Shape.row.Statement.{statement}
+use Rattle.shape.proofs.Shape.row.Tie as tie
 
 enum-known-self : tie.Need-enum-known-self
 enum-known-self c = search needs

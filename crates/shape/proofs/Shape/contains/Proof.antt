@@ -1,11 +1,11 @@
--- `figure::Shape::contains` meets its contract: the variant matched is the case of `containsShape`.
+-- `shape::Shape::contains` meets its contract: the variant matched is the case of `containsShape`.
 -- Assumes nothing.
 use mathlib.Core.Path.{subst}
-use Rattle.figure.specs.Bounds.{BoundedShape}
-use Rattle.figure.proofs.Within.{area-bounded, area-box-bounded}
+use Rattle.shape.specs.Bounds.{BoundedShape}
+use Rattle.box_rules.proofs.Within.{area-bounded, area-box-bounded}
 use borrow.Author.Needs.{needs}
-use Rattle.figure.proofs.Shape.contains.Statement.{statement}
-use Rattle.figure.proofs.Shape.contains.Tie as tie
+use Rattle.shape.proofs.Shape.contains.Statement.{statement}
+use Rattle.shape.proofs.Shape.contains.Tie as tie
 
 enum-known-self : tie.Need-enum-known-self
 enum-known-self c = search needs
