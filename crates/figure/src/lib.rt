@@ -7,6 +7,7 @@ use box_rules::check_box;
 use box_rules::confined;
 use box_rules::confined_w3c;
 use box_rules::offset_box;
+use box_rules::offset_w3c_box;
 use rectangle::Rectangle;
 use refusal::Checked;
 use rounded_rectangle::RoundedRectangle;
@@ -47,7 +48,7 @@ impl Figure {
         match self {
             Figure::Ellipse(rectangle) => Figure::Ellipse(rectangle::bounded::offset(rectangle, k)),
             Figure::CrateBox(b) => Figure::CrateBox(offset_box(b, k)),
-            Figure::W3cBox(b) => Figure::W3cBox(confined_w3c(offset_box(confined_w3c(b), k))),
+            Figure::W3cBox(b) => Figure::W3cBox(offset_w3c_box(b, k)),
         }
     }
 
