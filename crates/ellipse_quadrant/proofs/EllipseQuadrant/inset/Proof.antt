@@ -1,14 +1,14 @@
--- `rounded_rectangle::ellipse_quadrant::EllipseQuadrant::inset` meets its contract: the search is the definition's, and a corner
+-- `ellipse_quadrant::EllipseQuadrant::inset` meets its contract: the search is the definition's, and a corner
 -- without width has nothing inside.
 -- Assumes nothing.
 use mathlib.Core.Path.{sym, subst, _∙_}
 use Prim.Native.Nat.{ℕ, _≤_}
 use Rattle.scanline.specs.declared.Place.the-variants.{At, Nowhere}
-use Rattle.rounded_rectangle.proofs.Rows.{inset-le, inset-no-width, inset-found}
+use Rattle.ellipse_quadrant.proofs.Insets.{inset-le, inset-no-width, inset-found}
 use borrow.Author.Needs.{needs}
 use native.Mathlib.Omega.{arith}
-use Rattle.rounded_rectangle.proofs.ellipse_quadrant.EllipseQuadrant.inset.Statement.{statement}
-use Rattle.rounded_rectangle.proofs.ellipse_quadrant.EllipseQuadrant.inset.Tie as tie
+use Rattle.ellipse_quadrant.proofs.EllipseQuadrant.inset.Statement.{statement}
+use Rattle.ellipse_quadrant.proofs.EllipseQuadrant.inset.Tie as tie
 
 returns : tie.Need-returns
 returns c = (inset-no-width _ _ _ (c .if1 .taken), omega arith)

@@ -1,11 +1,11 @@
--- `rounded_rectangle::side_inset` meets its contract: the tests on the row say which corner of `sideInset` decides.
+-- `ellipse_quadrant::side_inset` meets its contract: the tests on the row say which corner of `sideInset` decides.
 -- Assumes nothing.
 use mathlib.Core.Path.{_∙_}
-use Rattle.rounded_rectangle.proofs.Rows.{side-by-upper, side-by-lower, side-straight}
+use Rattle.ellipse_quadrant.proofs.Insets.{side-by-upper, side-by-lower, side-straight}
 use borrow.Author.Needs.{needs}
 use native.Mathlib.Omega.{arith}
-use Rattle.rounded_rectangle.proofs.side_inset.Statement.{statement}
-use Rattle.rounded_rectangle.proofs.side_inset.Tie as tie
+use Rattle.ellipse_quadrant.proofs.side_inset.Statement.{statement}
+use Rattle.ellipse_quadrant.proofs.side_inset.Tie as tie
 
 inset-requires : tie.Need-inset-requires
 inset-requires c κs = search needs

@@ -1,5 +1,6 @@
 // A corner of a box: the test of the whole ellipse of twice its radii, by columns and rows counted
-// from the corner inward, after embedded-graphics 0.8.2 `rounded_rectangle/ellipse_quadrant.rs`.
+// from the corner inward, after embedded-graphics 0.8.2 `rounded_rectangle/ellipse_quadrant.rs`; and
+// the inset on a side of the box by its two corners. `rounded_rectangle` has all four.
 use ellipse::EllipseContains;
 use geometry::Size;
 use scanline::Place;
@@ -8,7 +9,7 @@ ghost use mathlib.Core.Bool.{true};
 ghost use Prim.Native.Nat.{_<_, _≤_};
 ghost use Rattle.geometry.specs.Bounds.{wideSide, SizeUpTo};
 ghost use Rattle.corner.specs.Bounds.{wideRadius};
-ghost use Rattle.rounded_rectangle.specs.Relative.{Ready, insideCorner, inQuadrant, inset as Relative·inset};
+ghost use Rattle.ellipse_quadrant.specs.Quadrant.{Ready, insideCorner, inQuadrant, inset as Quadrant·inset, sideInset};
 
 pub struct EllipseQuadrant {
     pub radius: Size,
@@ -56,7 +57,7 @@ impl EllipseQuadrant {
     pub fn inset(self, e: u32, n: u32, hint: u32) -> u32
         requires { ⌜ Ready self ⌝ }
         requires { ⌜ (e < self .radius .height) × (n ≤ wideSide) ⌝ }
-        ensures { λ r. ⌜ (r ≡ Relative·inset (self .radius) e n) × (r ≤ n) ⌝ }
+        ensures { λ r. ⌜ (r ≡ Quadrant·inset (self .radius) e n) × (r ≤ n) ⌝ }
     {
         let radius = self.radius;
         if radius.width == 0 {
@@ -69,4 +70,30 @@ impl EllipseQuadrant {
         };
         k
     }
+}
+
+// The inset on one side of the box, on its row dy of h, of n columns: by the upper corner, else by
+// the lower, else 0.
+pub fn side_inset(
+    upper: EllipseQuadrant,
+    lower: EllipseQuadrant,
+    h: u32,
+    n: u32,
+    dy: u32,
+    hint: u32,
+) -> u32
+    requires { ⌜ Ready upper ⌝ }
+    requires { ⌜ Ready lower ⌝ }
+    requires { ⌜ (dy < h) × (n ≤ wideSide) ⌝ }
+    ensures { λ r. ⌜ (r ≡ sideInset (upper .radius) (lower .radius) h n dy) × (r ≤ n) ⌝ }
+{
+    let above = upper.radius;
+    if dy < above.height {
+        return upper.inset(dy, n, hint);
+    }
+    let below = lower.radius;
+    if h - 1 - dy < below.height {
+        return lower.inset(h - 1 - dy, n, hint);
+    }
+    0
 }

@@ -1,9 +1,9 @@
--- `rounded_rectangle::ellipse_quadrant::in_quadrant` meets its contract: the tests are the definition's own.
+-- `ellipse_quadrant::in_quadrant` meets its contract: the tests are the definition's own.
 -- Assumes nothing.
 use borrow.Author.Tests.{lt-ltb, le-ltb}
-use Rattle.rounded_rectangle.specs.Relative.{inQuadrant}
-use Rattle.rounded_rectangle.proofs.ellipse_quadrant.in_quadrant.Statement.{statement}
-use Rattle.rounded_rectangle.proofs.ellipse_quadrant.in_quadrant.Tie as tie
+use Rattle.ellipse_quadrant.specs.Quadrant.{inQuadrant}
+use Rattle.ellipse_quadrant.proofs.in_quadrant.Statement.{statement}
+use Rattle.ellipse_quadrant.proofs.in_quadrant.Tie as tie
 
 returns : tie.Need-returns
 unfolding inQuadrant

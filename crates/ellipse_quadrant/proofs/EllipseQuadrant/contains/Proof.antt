@@ -1,15 +1,15 @@
--- `rounded_rectangle::ellipse_quadrant::EllipseQuadrant::contains` meets its contract: the distances are the gaps of the column
+-- `ellipse_quadrant::EllipseQuadrant::contains` meets its contract: the distances are the gaps of the column
 -- and the row in the whole ellipse.
 -- Assumes nothing.
 use mathlib.Core.Path.{_∙_}
 use Rattle.ellipse.specs.Relative.{belowThreshold}
 use Rattle.ellipse_search.specs.Search.{columnInside}
-use Rattle.rounded_rectangle.specs.Relative.{insideCorner}
-use Rattle.rounded_rectangle.proofs.Contains.{in-quadrant-row, in-quadrant-column}
+use Rattle.ellipse_quadrant.specs.Quadrant.{insideCorner}
+use Rattle.ellipse_quadrant.proofs.Within.{in-quadrant-row, in-quadrant-column}
 use borrow.Author.Needs.{needs}
 use native.Mathlib.Omega.{arith}
-use Rattle.rounded_rectangle.proofs.ellipse_quadrant.EllipseQuadrant.contains.Statement.{statement}
-use Rattle.rounded_rectangle.proofs.ellipse_quadrant.EllipseQuadrant.contains.Tie as tie
+use Rattle.ellipse_quadrant.proofs.EllipseQuadrant.contains.Statement.{statement}
+use Rattle.ellipse_quadrant.proofs.EllipseQuadrant.contains.Tie as tie
 
 mul-gap : tie.Need-mul-gap
 mul-gap c = search needs
