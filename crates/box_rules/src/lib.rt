@@ -48,6 +48,15 @@ pub fn offset_box(b: RoundedRectangle, k: i32) -> RoundedRectangle
     }
 }
 
+// A W3C box offset: confined, offset like a crate box, and confined again.
+pub fn offset_w3c_box(b: RoundedRectangle, k: i32) -> RoundedRectangle
+    requires { ⌜ OwnBox b ⌝ }
+    requires { ⌜ Near wideOffset k ⌝ }
+    ensures { λ r. ⌜ (r ≡ confinedW3c (offsetBox (confinedW3c b) k)) × AreaBox r ⌝ }
+{
+    confined_w3c(offset_box(confined_w3c(b), k))
+}
+
 // Refusals 1, 2 and 3 of a box.
 pub fn check_box(b: RoundedRectangle) -> Checked
     ensures { λ r. ⌜ r ≡ boxCheck b ⌝ }

@@ -23,8 +23,8 @@ use Rattle.corner.specs.Bounds.{wideStrokeSide}
 use Rattle.rounded_rectangle.specs.declared.RoundedRectangle.{RoundedRectangle}
 use Rattle.figure.specs.declared.Figure.the-variants.{Ellipse, CrateBox, W3cBox}
 use Rattle.rounded_rectangle.specs.RoundedRectangle.{row as RoundedRectangle·row}
-use Rattle.figure.specs.declared.Shape.{Shape}
-use Rattle.figure.specs.declared.Shape.the-variants as shape-of
+use Rattle.shape.specs.declared.Shape.{Shape}
+use Rattle.shape.specs.declared.Shape.the-variants as shape-of
 use Rattle.figure.specs.Figure.{confined, confinedW3c, offsetBox, shape}
 use Rattle.figure.specs.Bounds.{wideAreaPosition, AreaRectangle}
 use Rattle.style.specs.declared.Style.{Style}

@@ -4,8 +4,8 @@ use Rattle.rectangle.specs.declared.Rectangle.{Rectangle}
 use Rattle.rectangle.specs.Rectangle.{rows}
 use Rattle.ellipse_points.specs.EllipsePoints.{rowCount}
 use Rattle.figure.specs.declared.Figure.{Figure}
-use Rattle.figure.specs.declared.Shape.{Shape}
-use Rattle.figure.specs.declared.Shape.the-variants as shape-of
+use Rattle.shape.specs.declared.Shape.{Shape}
+use Rattle.shape.specs.declared.Shape.the-variants as shape-of
 use Rattle.figure.specs.Figure.{shape}
 use Rattle.style.specs.declared.Style.{Style}
 use Rattle.styled.specs.Styled.{strokeArea}

@@ -1,3 +1,2 @@
--- `Within` carries bounds from a passed check through offsets and confinement; `Runs` says that the run of an area has near ends.
+-- `Within` carries bounds from a passed check through offsets and confinement.
 pub mod Within
-pub mod Runs

@@ -17,10 +17,10 @@ use Rattle.geometry.specs.Checks.{sizeCheck, positionCheck}
 use Rattle.rectangle.specs.Rectangle.{withCenter}
 use Rattle.rounded_rectangle.specs.declared.RoundedRectangle.{RoundedRectangle}
 use Rattle.box_rules.proofs.Within.{own-box-passed, own-rectangle-passed}
-pub use Rattle.box_rules.proofs.Within.{point-wider, size-wider, own-area, own-box-bounded, area-bounded, area-box-bounded, offset-area, offset-box-bounded, confined-bounded, confined-w3c-bounded, confined-w3c-own}
+pub use Rattle.box_rules.proofs.Within.{point-wider, size-wider, own-area, own-box-bounded, area-bounded, area-box-bounded, offset-area, offset-box-bounded, confined-bounded, confined-w3c-bounded}
 use Rattle.figure.specs.declared.Figure.{Figure}
 use Rattle.figure.specs.declared.Figure.the-variants.{Ellipse, CrateBox, W3cBox}
-use Rattle.figure.specs.declared.Shape.the-variants as shape-of
+use Rattle.shape.specs.declared.Shape.the-variants as shape-of
 use Rattle.figure.specs.Figure.{confined, confinedW3c, shape}
 use Rattle.figure.specs.Bounds.{OwnFigure, BoundedFigure}
 use Rattle.figure.specs.Calls.{figureCheck, radiiValues, figureValues, confinedValues}

@@ -2,9 +2,9 @@
 -- Assumes nothing.
 use Rattle.figure.specs.declared.Figure.{Figure}
 use Rattle.figure.specs.declared.Figure.the-variants.{Ellipse, CrateBox, W3cBox}
-use Rattle.figure.specs.declared.Shape.{Shape}
-use Rattle.figure.specs.declared.Shape.the-variants as shape-of
 pub use Rattle.box_rules.specs.Bounds.{widePosition, wideOwnSide, wideOffset, OwnRectangle, OwnBox, wideAreaPosition, AreaRectangle, AreaBox}
+-- a shape of one of these areas
+pub use Rattle.shape.specs.Bounds.{BoundedShape}
 
 -- a figure as it is given
 abbrev pub OwnFigure : Figure → Type 0
@@ -17,7 +17,3 @@ abbrev pub BoundedFigure : Figure → Type 0
 BoundedFigure (Ellipse r) = AreaRectangle r
 BoundedFigure (CrateBox b) = AreaBox b
 BoundedFigure (W3cBox b) = AreaBox b
-
-abbrev pub BoundedShape : Shape → Type 0
-BoundedShape (shape-of.Ellipse r) = AreaRectangle r
-BoundedShape (shape-of.RoundedBox b) = AreaBox b

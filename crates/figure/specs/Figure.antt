@@ -5,19 +5,16 @@ use mathlib.Core.Bool.{Bool}
 use mathlib.Core.List.{List}
 use lib.IntN.{ℤ}
 use Rattle.geometry.specs.declared.Point.{Point}
-use Rattle.rectangle.specs.declared.Rectangle.{Rectangle}
-use Rattle.rectangle.specs.Rectangle.{rows, offset as Rectangle·offset}
+use Rattle.rectangle.specs.Rectangle.{offset as Rectangle·offset}
 use Rattle.scanline.specs.declared.Row.{Row}
-use Rattle.scanline.specs.Points.{pointsFrom}
-use Rattle.ellipse.specs.Ellipse.{contains as Ellipse·contains}
-use Rattle.ellipse_points.specs.EllipsePoints.{row as Ellipse·row}
-use Rattle.rounded_rectangle.specs.declared.RoundedRectangle.{RoundedRectangle}
-use Rattle.rounded_rectangle.specs.RoundedRectangle.{contains as RoundedRectangle·contains, row as RoundedRectangle·row}
 unfoldable pub use Rattle.box_rules.specs.BoxRules.{confined, confinedW3c, offsetBox}
 use Rattle.figure.specs.declared.Figure.{Figure}
 use Rattle.figure.specs.declared.Figure.the-variants.{Ellipse, CrateBox, W3cBox}
-use Rattle.figure.specs.declared.Shape.{Shape}
-use Rattle.figure.specs.declared.Shape.the-variants as shape-of
+use Rattle.shape.specs.declared.Shape.{Shape}
+use Rattle.shape.specs.declared.Shape.the-variants as shape-of
+-- a shape's rectangle, test, rows and points, by its kind
+pub use Rattle.shape.specs.Shape.{rectangle, containsShape, rowOfShape}
+unfoldable pub use Rattle.shape.specs.Shape.{pointsOfShape}
 
 -- a figure offset by k: a crate box is not confined; a W3C box is confined, offset like a crate box, confined again
 abbrev pub offset : Figure → ℤ → Figure
@@ -32,29 +29,14 @@ shape (Ellipse r) = shape-of.Ellipse r
 shape (CrateBox b) = shape-of.RoundedBox (confined b)
 shape (W3cBox b) = shape-of.RoundedBox (confinedW3c b)
 
-abbrev pub rectangle : Shape → Rectangle
-rectangle (shape-of.Ellipse r) = r
-rectangle (shape-of.RoundedBox b) = b .rectangle
-
--- `contains`, by the figure's kind
-abbrev pub containsShape : Shape → Point → Bool
-containsShape (shape-of.Ellipse r) p = Ellipse·contains r p
-containsShape (shape-of.RoundedBox b) p = RoundedRectangle·contains b (p .x) (p .y)
-
+-- `contains` of the shape
 abbrev pub contains : Figure → Point → Bool
 contains f p = containsShape (shape f) p
 
--- the row at y, by the figure's kind; 'no row' where the figure lacks it
-abbrev pub rowOfShape : Shape → ℤ → Row
-rowOfShape (shape-of.Ellipse r) y = Ellipse·row r y
-rowOfShape (shape-of.RoundedBox b) y = RoundedRectangle·row b y
-
+-- the row of the shape at y; 'no row' where the figure lacks it
 abbrev pub row : Figure → ℤ → Row
 row f y = rowOfShape (shape f) y
 
--- the points, row by row, up to the first empty row
-unfoldable pub pointsOfShape : Shape → List Point
-pointsOfShape s = pointsFrom (rowOfShape s) (rows (rectangle s) .start) (rectangle s .size .height)
-
+-- the points of the shape, row by row, up to the first empty row
 abbrev pub points : Figure → List Point
 points f = pointsOfShape (shape f)

@@ -1,37 +1,30 @@
 // Figures: an ellipse, a crate box or a W3C box. Where the Rust has traits and generics there is a
 // match on the figure. After embedded-graphics 0.8.2 `ellipse/mod.rs`, `rounded_rectangle/mod.rs`
 // (`OffsetOutline`, `confine_radii`); the W3C box is not in the source. The functions of this file
-// are for callers that have made the checks; those that a host calls are in calls.rt.
+// are for callers that have made the checks; those that a host calls are in calls.rt. The shape that
+// rows and tests go by is in `shape`.
 use box_rules::check_box;
 use box_rules::confined;
 use box_rules::confined_w3c;
 use box_rules::offset_box;
-use geometry::Point;
+use box_rules::offset_w3c_box;
 use rectangle::Rectangle;
 use refusal::Checked;
 use rounded_rectangle::RoundedRectangle;
-use scanline::Row;
+pub use shape::Shape;
 
 pub mod calls;
 
 ghost use mathlib.Core.Path.{_≡_};
 ghost use Rattle.signed.specs.Signed.{Near};
-ghost use Rattle.geometry.specs.Bounds.{widePoint, PointNear};
-ghost use Rattle.scanline.specs.Points.{RowWithin};
 ghost use Rattle.figure.specs.Bounds.{wideOffset, OwnFigure, BoundedFigure, BoundedShape};
-ghost use Rattle.figure.specs.Figure.{offset as Figure·offset, shape as Figure·shape, rectangle as Shape·rectangle, containsShape, rowOfShape};
+ghost use Rattle.figure.specs.Figure.{offset as Figure·offset, shape as Figure·shape};
 ghost use Rattle.figure.specs.Calls.{figureCheck};
 
 pub enum Figure {
     Ellipse(Rectangle),
     CrateBox(RoundedRectangle),
     W3cBox(RoundedRectangle),
-}
-
-// A figure whose radii are confined: what rows and tests go by.
-pub enum Shape {
-    Ellipse(Rectangle),
-    RoundedBox(RoundedRectangle),
 }
 
 impl Figure {
@@ -55,7 +48,7 @@ impl Figure {
         match self {
             Figure::Ellipse(rectangle) => Figure::Ellipse(rectangle::bounded::offset(rectangle, k)),
             Figure::CrateBox(b) => Figure::CrateBox(offset_box(b, k)),
-            Figure::W3cBox(b) => Figure::W3cBox(confined_w3c(offset_box(confined_w3c(b), k))),
+            Figure::W3cBox(b) => Figure::W3cBox(offset_w3c_box(b, k)),
         }
     }
 
@@ -68,40 +61,6 @@ impl Figure {
             Figure::Ellipse(rectangle) => Shape::Ellipse(rectangle),
             Figure::CrateBox(b) => Shape::RoundedBox(confined(b)),
             Figure::W3cBox(b) => Shape::RoundedBox(confined_w3c(b)),
-        }
-    }
-}
-
-impl Shape {
-    pub fn rectangle(self) -> Rectangle
-        ensures { λ r. ⌜ r ≡ Shape·rectangle self ⌝ }
-    {
-        match self {
-            Shape::Ellipse(rectangle) => rectangle,
-            Shape::RoundedBox(b) => b.rectangle,
-        }
-    }
-
-    pub fn contains(self, point: Point) -> bool
-        requires { ⌜ BoundedShape self ⌝ }
-        requires { ⌜ PointNear widePoint point ⌝ }
-        ensures { λ r. ⌜ r ≡ containsShape self point ⌝ }
-    {
-        match self {
-            Shape::Ellipse(rectangle) => ellipse::contains(rectangle, point),
-            Shape::RoundedBox(b) => b.contains(point),
-        }
-    }
-
-    // The row at y.
-    pub fn row(self, y: i32) -> Row
-        requires { ⌜ BoundedShape self ⌝ }
-        requires { ⌜ Near widePoint y ⌝ }
-        ensures { λ r. ⌜ (r ≡ rowOfShape self y) × RowWithin (Shape·rectangle self .«top_left» .x) (Shape·rectangle self .size .width) r ⌝ }
-    {
-        match self {
-            Shape::Ellipse(rectangle) => ellipse_points::row(rectangle, y),
-            Shape::RoundedBox(b) => b.row(y),
         }
     }
 }

@@ -21,8 +21,8 @@ use Rattle.scanline.specs.Points.{runLength, pointsFrom}
 use Rattle.scanline.proofs.Listing.{pointsAfter, points-after-none, length-after-run}
 use Rattle.corner.specs.Bounds.{wideStrokeSide}
 use Rattle.figure.specs.declared.Figure.{Figure}
-use Rattle.figure.specs.declared.Shape.{Shape}
-use Rattle.figure.specs.declared.Shape.the-variants.{Ellipse, RoundedBox}
+use Rattle.shape.specs.declared.Shape.{Shape}
+use Rattle.shape.specs.declared.Shape.the-variants.{Ellipse, RoundedBox}
 use Rattle.figure.specs.Bounds.{AreaRectangle, BoundedShape}
 use Rattle.figure.specs.Figure.{rectangle, rowOfShape, pointsOfShape, points}
 use Rattle.figure.specs.Calls.{figureCheck}

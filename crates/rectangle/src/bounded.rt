@@ -1,11 +1,10 @@
 // The operations on rectangles for callers that have tested the limits: each takes what `Bounds`
 // allows, which is more than the limits do, so that a stroke area passes too. After
-// embedded-graphics 0.8.2 `rectangle/mod.rs` (`OffsetOutline`).
+// embedded-graphics 0.8.2 `rectangle/mod.rs` (`OffsetOutline`); the sums are in `extent`.
 use crate::Rectangle;
 use geometry::Point;
 use geometry::Size;
 use range::Range;
-use side::center_term;
 use side::offset_side;
 ghost use mathlib.Core.Path.{_≡_};
 ghost use Prim.Native.Nat.{_*_};
@@ -18,12 +17,7 @@ pub fn center(rectangle: Rectangle) -> Point
     requires { ⌜ Bounded rectangle ⌝ }
     ensures { λ r. ⌜ r ≡ Rectangle·center rectangle ⌝ }
 {
-    let top_left = rectangle.top_left;
-    let size = rectangle.size;
-    Point {
-        x: signed::add(top_left.x, signed::from_u32(center_term(size.width))),
-        y: signed::add(top_left.y, signed::from_u32(center_term(size.height))),
-    }
+    extent::center(rectangle.top_left, rectangle.size)
 }
 
 pub fn with_center(center: Point, size: Size) -> Rectangle
@@ -31,12 +25,8 @@ pub fn with_center(center: Point, size: Size) -> Rectangle
     requires { ⌜ SizeUpTo (4 * wideSide) size ⌝ }
     ensures { λ r. ⌜ r ≡ withCenter center size ⌝ }
 {
-    let top_left = Point {
-        x: signed::sub(center.x, signed::from_u32(center_term(size.width))),
-        y: signed::sub(center.y, signed::from_u32(center_term(size.height))),
-    };
     Rectangle {
-        top_left: top_left,
+        top_left: extent::top_left_about(center, size),
         size: size,
     }
 }
@@ -45,24 +35,14 @@ pub fn rows(rectangle: Rectangle) -> Range
     requires { ⌜ Bounded rectangle ⌝ }
     ensures { λ r. ⌜ r ≡ Rectangle·rows rectangle ⌝ }
 {
-    let top_left = rectangle.top_left;
-    let size = rectangle.size;
-    Range {
-        start: top_left.y,
-        end: signed::add(top_left.y, signed::from_u32(size.height)),
-    }
+    extent::rows(rectangle.top_left, rectangle.size)
 }
 
 pub fn columns(rectangle: Rectangle) -> Range
     requires { ⌜ Bounded rectangle ⌝ }
     ensures { λ r. ⌜ r ≡ Rectangle·columns rectangle ⌝ }
 {
-    let top_left = rectangle.top_left;
-    let size = rectangle.size;
-    Range {
-        start: top_left.x,
-        end: signed::add(top_left.x, signed::from_u32(size.width)),
-    }
+    extent::columns(rectangle.top_left, rectangle.size)
 }
 
 pub fn offset(rectangle: Rectangle, k: i32) -> Rectangle

@@ -2,44 +2,22 @@
 -- the corners.
 -- Assumes nothing.
 use mathlib.Core.Path.{_≡_, refl, sym, ap, ap₂, _∙_}
-use mathlib.Core.Bool.{Bool, true, false, cond, _&&_, false≢true, and-false}
+use mathlib.Core.Bool.{Bool, true, false, cond, _&&_, and-false}
 use Prim.Native.Nat.{ℕ, _+_, _-_, _<_}
 use native.Mathlib.Omega.{arith}
-use borrow.Author.Tests.{ltb-true}
-use lib.Dec.{ltb}
 use lib.IntN.{ℤ, pos, _+ℤ_}
-use Rattle.geometry.specs.declared.Size.{Size}
 use Rattle.range.specs.Range.{contains as Range·contains}
 use Rattle.rectangle.specs.Rectangle.{rows, columns}
 use Rattle.scanline.specs.declared.Place.the-variants.{At, Nowhere}
 use Rattle.scanline.specs.Places.{Placed}
 use Rattle.scanline.proofs.Placed.{place-among}
+use Rattle.ellipse_quadrant.proofs.Within.{quadrant-has-rows}
 use Rattle.corner_radii.specs.declared.CornerRadii.{CornerRadii}
 use Rattle.rounded_rectangle.specs.declared.RoundedRectangle.{RoundedRectangle}
 use Rattle.rounded_rectangle.specs.Quadrants.{left, top, width, height, insideTopRight, insideBottomRight, insideBottomLeft}
 use Rattle.rounded_rectangle.specs.RoundedRectangle.{contains}
 use Rattle.rounded_rectangle.specs.Relative.{insideCorner, inQuadrant, containsAt}
 use Rattle.rounded_rectangle.proofs.Corners.{top-left-relative, top-right-relative, bottom-left-relative, bottom-right-relative, before-end-relative, from-start-relative}
-
--- ---- what lies within a quadrant
-and-first : (a b : Bool) → a && b ≡ true → a ≡ true
-and-first true b e = refl
-and-first false b e = absurd (false≢true e)
-
-and-second : (a b : Bool) → a && b ≡ true → b ≡ true
-and-second true b e = e
-and-second false b e = absurd (false≢true e)
-
-pub in-quadrant-row : (r : Size) (d e : ℕ) → inQuadrant r d e ≡ true → e < r .height
-unfolding inQuadrant
-in-quadrant-row r d e h = ltb-true _ _ (and-first (ltb e (r .height)) _ h)
-
-pub in-quadrant-column : (r : Size) (d e : ℕ) → inQuadrant r d e ≡ true → d < r .width
-unfolding inQuadrant
-in-quadrant-column r d e h = ltb-true _ _ (and-second (ltb e (r .height)) _ h)
-
-quadrant-has-rows : (e r : ℕ) (t : Bool) → ltb e r && t ≡ true → 0 < r
-quadrant-has-rows e r t h = omega (arith, ltb-true e r (and-first (ltb e r) t h))
 
 -- ---- from signed columns and rows to places
 -- one arm: the same test, and where it holds the same answer

@@ -3,9 +3,9 @@
 -- Assumes nothing.
 use mathlib.Core.Path.{_≡_, refl, sym, ap, _∙_}
 use mathlib.Core.Bool.{Bool, true, false, cond}
-use Prim.Native.Nat.{ℕ, _+_, _-_, _*_, _≤_, _<_}
+use Prim.Native.Nat.{ℕ, _+_, _-_, _≤_, _<_}
 use native.Mathlib.Omega.{arith}
-use borrow.Author.Tests.{ltb-true, lt-ltb, le-ltb}
+use borrow.Author.Tests.{ltb-true}
 use lib.Dec.{ltb}
 use lib.IntN.{ℤ, pos, _+ℤ_, _-ℤ_}
 use Rattle.signed.proofs.Laws.{int, add-law, sub-law}
@@ -19,41 +19,16 @@ use Rattle.scanline.specs.declared.Row.the-variants.{Run, NoRow}
 use Rattle.scanline.specs.Columns.{firstColumn, lastColumn, columnElse, columnAfterElse}
 use Rattle.scanline.specs.Places.{findFrom, placeElse0, Placed}
 use Rattle.scanline.specs.Points.{EndsWithin}
-use Rattle.scanline.proofs.Find.{find-none, found-at}
+use Rattle.scanline.proofs.Find.{found-at}
 use Rattle.scanline.proofs.Columns.{fromLeft, fromRight, first-from-edge, last-from-edge}
 use Rattle.scanline.proofs.Placed.{place-among}
-use Rattle.ellipse.specs.declared.EllipseContains.{EllipseContains}
-use Rattle.ellipse.specs.Relative.{gap, containsOf}
-use Rattle.ellipse_search.specs.Search.{columnInside}
-use Rattle.ellipse.proofs.Distances.{no-width-outside}
+pub use Rattle.ellipse_quadrant.proofs.Insets.{side-straight, side-inset-le}
 use Rattle.rounded_rectangle.specs.declared.RoundedRectangle.{RoundedRectangle}
 use Rattle.rounded_rectangle.specs.declared.Insets.{Insets}
 use Rattle.rounded_rectangle.specs.Quadrants.{left, top, width, height, insideTopLeft, insideTopRight, insideBottomRight, insideBottomLeft}
 use Rattle.rounded_rectangle.specs.RoundedRectangle.{runStart, runEnd, run, row}
 use Rattle.rounded_rectangle.specs.Relative.{insideCorner, inset, sideInset, rowInsets, runBetween}
 use Rattle.rounded_rectangle.proofs.Corners.{top-left-relative, top-right-relative, bottom-left-relative, bottom-right-relative, before-end-relative, from-start-relative}
-
--- ---- an inset by the code's own search
--- the place found is below n
-found-below : (test : ℕ → Bool) (n : ℕ) (p : Place) → findFrom test n 0 ≡ p → placeElse0 p ≤ n
-found-below test n (At k) e = let b = found-at test n 0 k e .below in omega arith
-found-below test n Nowhere e = omega arith
-
-module _ (radius : Size) (e n : ℕ) where
-  pub inset-le : inset radius e n ≤ n
-  unfolding inset
-  inset-le = found-below (λ d. insideCorner radius d e) n (findFrom (λ d. insideCorner radius d e) n 0) refl
-
-  -- a corner without width has nothing inside
-  pub inset-no-width : radius .width ≡ 0 → 0 ≡ inset radius e n
-  unfolding inset insideCorner columnInside
-  inset-no-width z = ap placeElse0 (sym (find-none _ n 0 (λ d _ _. rw z (no-width-outside (2 * radius .height) _ _))))
-
-  pub inset-found : (y : ℕ) (test : EllipseContains) (p : Place) → test ≡ containsOf (2 * radius .width) (2 * radius .height)
-      → y ≡ gap (2 * radius .height) e → p ≡ findFrom (columnInside test (2 * radius .width) y) n 0 → placeElse0 p ≡ inset radius e n
-  unfolding inset insideCorner
-  inset-found y test p test-is y-is p-is =
-      ap placeElse0 (p-is ∙ (λ i. findFrom (columnInside (test-is i) (2 * radius .width) (y-is i)) n 0))
 
 -- ---- the column that an inset stands for, on the left and on the right
 start-by-place : (first : ℤ) (p : Place) → columnElse first (fromLeft first p) ≡ first +ℤ pos (placeElse0 p)
@@ -158,26 +133,3 @@ module _ (b : RoundedRectangle) (y : ℤ) where
       let among : Range·contains (rows (b .rectangle)) y ≡ true =
       ap (Range·contains (rows (b .rectangle))) (p .0) ∙ place-among (top b) (height b) dy (p .1) in
       rw (among, p .0) (ap Run (run-relative b dy (p .1)))
-
--- ---- a side as the code goes about it
-module _ (upper lower : Size) (h n dy : ℕ) where
-  pub side-by-upper : dy < upper .height → inset upper dy n ≡ sideInset upper lower h n dy
-  unfolding sideInset
-  side-by-upper l = rw (lt-ltb _ _ l)
-
-  pub side-by-lower : upper .height ≤ dy → h - 1 - dy < lower .height → inset lower (h - 1 - dy) n ≡ sideInset upper lower h n dy
-  unfolding sideInset
-  side-by-lower l m = rw (le-ltb _ _ l, lt-ltb _ _ m)
-
-  pub side-straight : upper .height ≤ dy → lower .height ≤ h - 1 - dy → 0 ≡ sideInset upper lower h n dy
-  unfolding sideInset
-  side-straight l m = rw (le-ltb _ _ l, le-ltb _ _ m)
-
-pub side-inset-le : (upper lower : Size) (h n dy : ℕ) → sideInset upper lower h n dy ≤ n
-unfolding sideInset
-side-inset-le upper lower h n dy = by-tests (ltb dy (upper .height)) (ltb (h - 1 - dy) (lower .height))
-  where
-    by-tests : (t u : Bool) → cond t (inset upper dy n) (cond u (inset lower (h - 1 - dy) n) 0) ≤ n
-    by-tests true u = inset-le upper dy n
-    by-tests false true = inset-le lower (h - 1 - dy) n
-    by-tests false false = omega arith

@@ -5,6 +5,7 @@
 use corner_radii::CornerRadii;
 use ellipse_quadrant::EllipseQuadrant;
 use ellipse_quadrant::in_quadrant;
+use ellipse_quadrant::side_inset;
 use ellipse_search::ANYWHERE;
 use geometry::Point;
 use geometry::Size;
@@ -12,9 +13,6 @@ use range::Range;
 use rectangle::Rectangle;
 use scanline::Place;
 use scanline::Row;
-
-pub mod ellipse_quadrant;
-
 ghost use mathlib.Core.Path.{_≡_};
 ghost use Prim.Native.Nat.{_<_, _≤_};
 ghost use lib.IntN.{pos, _+ℤ_};
@@ -24,7 +22,7 @@ ghost use Rattle.scanline.specs.Points.{RowWithin};
 ghost use Rattle.corner.specs.Bounds.{wideRadius, wideStrokeSide};
 ghost use Rattle.corner_radii.specs.Bounds.{RadiiUpTo};
 ghost use Rattle.rounded_rectangle.specs.RoundedRectangle.{contains as RoundedRectangle·contains, run as RoundedRectangle·run, row as RoundedRectangle·row};
-ghost use Rattle.rounded_rectangle.specs.Relative.{BoundedBox, Ready, ReadyBox, radii, sideInset, containsAt, rowInsets, runBetween};
+ghost use Rattle.rounded_rectangle.specs.Relative.{BoundedBox, ReadyBox, radii, containsAt, rowInsets, runBetween};
 
 pub struct RoundedRectangle {
     pub rectangle: Rectangle,
@@ -44,32 +42,6 @@ pub struct RoundedRectangleContains {
 pub struct Insets {
     pub left: u32,
     pub right: u32,
-}
-
-// The inset on one side of the box, on its row dy of h, of n columns: by the upper corner, else by
-// the lower, else 0.
-pub fn side_inset(
-    upper: EllipseQuadrant,
-    lower: EllipseQuadrant,
-    h: u32,
-    n: u32,
-    dy: u32,
-    hint: u32,
-) -> u32
-    requires { ⌜ Ready upper ⌝ }
-    requires { ⌜ Ready lower ⌝ }
-    requires { ⌜ (dy < h) × (n ≤ wideSide) ⌝ }
-    ensures { λ r. ⌜ (r ≡ sideInset (upper .radius) (lower .radius) h n dy) × (r ≤ n) ⌝ }
-{
-    let above = upper.radius;
-    if dy < above.height {
-        return upper.inset(dy, n, hint);
-    }
-    let below = lower.radius;
-    if h - 1 - dy < below.height {
-        return lower.inset(h - 1 - dy, n, hint);
-    }
-    0
 }
 
 impl RoundedRectangleContains {

@@ -9,8 +9,8 @@ use Rattle.ellipse_styled.specs.EllipseStyled.{styledBy, ellipseStyledRow}
 use Rattle.rounded_rectangle.specs.declared.RoundedRectangle.{RoundedRectangle}
 use Rattle.rounded_rectangle.specs.RoundedRectangle.{row as RoundedRectangle·row}
 use Rattle.box_fill.specs.BoxFill.{fillRun}
-use Rattle.figure.specs.declared.Shape.{Shape}
-use Rattle.figure.specs.declared.Shape.the-variants as shape-of
+use Rattle.shape.specs.declared.Shape.{Shape}
+use Rattle.shape.specs.declared.Shape.the-variants as shape-of
 
 -- the styled row at y of a box with these areas: the fill of the stroke area's run, and what is left of the run on either side
 unfoldable pub boxStyledRow : RoundedRectangle → RoundedRectangle → ℤ → StyledRow

@@ -15,7 +15,7 @@ use Rattle.scanline.proofs.Listing.{points-after-all, points-after-empty, point
 use Rattle.corner.specs.Bounds.{wideStrokeSide}
 use Rattle.figure.specs.Bounds.{AreaRectangle}
 use Rattle.figure.specs.Figure.{rowOfShape}
-use Rattle.figure.proofs.Runs.{run-length-le, start-is-near, end-is-near}
+use Rattle.shape.proofs.Runs.{run-length-le, start-is-near, end-is-near}
 use Rattle.points.proofs.Listed.{shape-area, points-by-rectangle, CountLeft, count-start, count-done, count-next}
 use borrow.Author.Needs.{needs}
 use native.Mathlib.Omega.{arith}

@@ -10,7 +10,7 @@ use lib.Seq.{sets}
 use Rattle.refusal.specs.declared.Checked.the-variants.{Passed}
 use Rattle.refusal.specs.Refusal.{answered, roomCheck}
 use Rattle.scanline.specs.Points.{entries}
-use Rattle.figure.specs.declared.Shape.{Shape}
+use Rattle.shape.specs.declared.Shape.{Shape}
 use Rattle.figure.specs.Figure.{points, pointsOfShape}
 use Rattle.figure.specs.Calls.{figureCheck}
 use Rattle.figure.proofs.Within.{figure-passed, own-figure-bounded}

@@ -18,7 +18,7 @@ use Rattle.scanline.specs.Points.{EndsWithin, RowWithin, pointsFrom, runPoints,
 use Rattle.scanline.proofs.Listing.{RowsLeft, rows-left-start, rows-left-done, rows-left-room, rows-left-next, points-after-all, points-after-empty, points-after-no-row}
 use Rattle.figure.specs.Bounds.{AreaRectangle}
 use Rattle.figure.specs.Figure.{rowOfShape, pointsOfShape}
-use Rattle.figure.proofs.Runs.{run-length-le, start-is-near, end-is-near}
+use Rattle.shape.proofs.Runs.{run-length-le, start-is-near, end-is-near}
 use Rattle.points.proofs.Listed.{shape-area, points-by-rectangle}
 use borrow.Author.Needs.{needs}
 use native.Mathlib.Omega.{arith}

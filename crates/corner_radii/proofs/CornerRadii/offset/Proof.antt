@@ -6,21 +6,20 @@ use mir.Facts.{toZ-ofZ}
 use Rattle.corner.specs.Corner.{offsetCorner}
 use Rattle.corner_radii.specs.CornerRadii.{offset}
 use Rattle.corner_radii.proofs.Fields.{corner-radii-by-fields}
-use borrow.Author.Needs.{needs}
 use Rattle.corner_radii.proofs.CornerRadii.offset.Statement.{statement}
 use Rattle.corner_radii.proofs.CornerRadii.offset.Tie as tie
 
 offset-corner-requires : tie.Need-offset-corner-requires
-offset-corner-requires c κs = search needs
+offset-corner-requires c κs = (c .pre .0 .«top_left», rw (toZ-ofZ (c .fits .k)) (c .pre .1))
 
 offset-corner-requires-2 : tie.Need-offset-corner-requires-2
-offset-corner-requires-2 c κs = search needs
+offset-corner-requires-2 c κs = (c .before .pre .0 .«top_right», rw (toZ-ofZ (c .before .fits .k)) (c .before .pre .1))
 
 offset-corner-requires-3 : tie.Need-offset-corner-requires-3
-offset-corner-requires-3 c κs = search needs
+offset-corner-requires-3 c κs = (c .before .before .pre .0 .«bottom_right», rw (toZ-ofZ (c .before .before .fits .k)) (c .before .before .pre .1))
 
 offset-corner-requires-4 : tie.Need-offset-corner-requires-4
-offset-corner-requires-4 c κs = search needs
+offset-corner-requires-4 c κs = (c .before .before .before .pre .0 .«bottom_left», rw (toZ-ofZ (c .before .before .before .fits .k)) (c .before .before .before .pre .1))
 
 returns : tie.Need-returns
 unfolding offset

@@ -7,7 +7,7 @@ use Rattle.refusal.specs.Refusal.{orElse, answered}
 use Rattle.geometry.specs.Checks.{pointCheck}
 use Rattle.refusal.proofs.Checks.{passed-first, passed-next}
 use Rattle.geometry.proofs.Checks.{point-passed}
-use Rattle.figure.specs.declared.Shape.{Shape}
+use Rattle.shape.specs.declared.Shape.{Shape}
 use Rattle.figure.specs.Calls.{figureCheck, flag}
 use Rattle.figure.specs.Figure.{containsShape}
 use Rattle.figure.proofs.Within.{figure-passed, own-figure-bounded, point-wider}

@@ -1,7 +1,7 @@
 -- `figure::Figure::shape` meets its contract: the variant matched is the case of `shape`, and confining keeps the bounds.
 -- Assumes nothing.
 use mathlib.Core.Path.{ap, sym, subst}
-use Rattle.figure.specs.declared.Shape.the-variants.{RoundedBox}
+use Rattle.shape.specs.declared.Shape.the-variants.{RoundedBox}
 use Rattle.figure.specs.Bounds.{BoundedFigure, AreaBox}
 use Rattle.figure.proofs.Within.{confined-bounded, confined-w3c-bounded}
 use borrow.Author.Needs.{needs}

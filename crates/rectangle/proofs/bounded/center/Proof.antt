@@ -1,43 +1,16 @@
--- `rectangle::bounded::center` meets its contract: each coordinate is the definition's sum, and fits by the bounds.
+-- `rectangle::bounded::center` meets its contract: the callee's coordinates are the definition's.
 -- Assumes nothing.
 use Rattle.rectangle.specs.Rectangle.{center}
 use Rattle.geometry.proofs.Fields.{point-by-fields}
-use borrow.Author.Needs.{needs}
-use native.Mathlib.Omega.{arith}
-use Rattle.signed.proofs.Laws.{int}
 use Rattle.rectangle.proofs.bounded.center.Statement.{statement}
 use Rattle.rectangle.proofs.bounded.center.Tie as tie
 
-center-term-requires : tie.Need-center-term-requires
-center-term-requires c κs = search needs
-
-from-u32-requires : tie.Need-from-u32-requires
-from-u32-requires c κs = search needs
-
-add-requires : tie.Need-add-requires
-add-requires c κs = omega (arith, int)
-
-center-term-requires-2 : tie.Need-center-term-requires-2
-center-term-requires-2 c κs = search needs
-
-from-u32-requires-2 : tie.Need-from-u32-requires-2
-from-u32-requires-2 c κs = search needs
-
-add-requires-2 : tie.Need-add-requires-2
-add-requires-2 c κs = omega (arith, int)
+center-requires : tie.Need-center-requires
+center-requires c κs = (c .pre .at, c .pre .size)
 
 returns : tie.Need-returns
 unfolding center
-returns c = point-by-fields (omega (arith, int)) (omega (arith, int))
+returns c = point-by-fields (c .center .ensures .0) (c .center .ensures .1)
 
 pub center-spec : {M : Type 1} → statement M
-center-spec =
-    tie.close
-    (tie.spec
-    center-term-requires
-    from-u32-requires
-    add-requires
-    center-term-requires-2
-    from-u32-requires-2
-    add-requires-2
-    returns)
+center-spec = tie.close (tie.spec center-requires returns)

@@ -1,20 +1,14 @@
--- `rectangle::bounded::columns` meets its contract: the end is the definition's sum, and fits by the bounds.
+-- `rectangle::bounded::columns` meets its contract: the callee's ends are the definition's.
 -- Assumes nothing.
 use Rattle.range.proofs.Fields.{range-by-fields}
-use borrow.Author.Needs.{needs}
-use native.Mathlib.Omega.{arith}
-use Rattle.signed.proofs.Laws.{int}
 use Rattle.rectangle.proofs.bounded.columns.Statement.{statement}
 use Rattle.rectangle.proofs.bounded.columns.Tie as tie
 
-from-u32-requires : tie.Need-from-u32-requires
-from-u32-requires c κs = search needs
-
-add-requires : tie.Need-add-requires
-add-requires c κs = omega (arith, int)
+columns-requires : tie.Need-columns-requires
+columns-requires c κs = (c .pre .at, c .pre .size)
 
 returns : tie.Need-returns
-returns c = range-by-fields (omega (arith, int)) (omega (arith, int))
+returns c = range-by-fields (c .columns .ensures .0) (c .columns .ensures .1)
 
 pub columns-spec : {M : Type 1} → statement M
-columns-spec = tie.close (tie.spec from-u32-requires add-requires returns)
+columns-spec = tie.close (tie.spec columns-requires returns)

@@ -1,20 +1,14 @@
--- `rectangle::bounded::rows` meets its contract: the end is the definition's sum, and fits by the bounds.
+-- `rectangle::bounded::rows` meets its contract: the callee's ends are the definition's.
 -- Assumes nothing.
 use Rattle.range.proofs.Fields.{range-by-fields}
-use borrow.Author.Needs.{needs}
-use native.Mathlib.Omega.{arith}
-use Rattle.signed.proofs.Laws.{int}
 use Rattle.rectangle.proofs.bounded.rows.Statement.{statement}
 use Rattle.rectangle.proofs.bounded.rows.Tie as tie
 
-from-u32-requires : tie.Need-from-u32-requires
-from-u32-requires c κs = search needs
-
-add-requires : tie.Need-add-requires
-add-requires c κs = omega (arith, int)
+rows-requires : tie.Need-rows-requires
+rows-requires c κs = (c .pre .at, c .pre .size)
 
 returns : tie.Need-returns
-returns c = range-by-fields (omega (arith, int)) (omega (arith, int))
+returns c = range-by-fields (c .rows .ensures .0) (c .rows .ensures .1)
 
 pub rows-spec : {M : Type 1} → statement M
-rows-spec = tie.close (tie.spec from-u32-requires add-requires returns)
+rows-spec = tie.close (tie.spec rows-requires returns)

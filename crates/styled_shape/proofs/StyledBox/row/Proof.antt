@@ -20,7 +20,7 @@ use Rattle.rounded_rectangle.proofs.Rows.{row-out, row-placed, between-within, 
 use Rattle.box_fill.specs.BoxFill.{fillRun}
 use Rattle.ellipse_styled.specs.EllipseStyled.{aroundFill, styledBy}
 use Rattle.figure.proofs.Within.{area-bounded}
-use Rattle.figure.proofs.Runs.{start-is-near, end-is-near}
+use Rattle.shape.proofs.Runs.{start-is-near, end-is-near}
 use Rattle.styled_shape.specs.StyledRow.{boxStyledRow}
 use Rattle.styled_shape.specs.Ready.{strokeBox, fillBox}
 use Rattle.styled_shape.proofs.StyledBox.row.Statement.{statement}

@@ -1,0 +1,2 @@
+-- `Checks` tells what a passed check says.
+pub mod Checks

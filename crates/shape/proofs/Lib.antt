@@ -1,0 +1,2 @@
+-- `Runs` says that the run of an area has near ends.
+pub mod Runs

@@ -1,0 +1,10 @@
+-- What the inner functions ask of a shape, by the bounds of `box_rules`.
+-- Assumes nothing.
+use Rattle.box_rules.specs.Bounds.{AreaRectangle, AreaBox}
+use Rattle.shape.specs.declared.Shape.{Shape}
+use Rattle.shape.specs.declared.Shape.the-variants.{Ellipse, RoundedBox}
+
+-- a shape of a figure or of one of its areas
+abbrev pub BoundedShape : Shape → Type 0
+BoundedShape (Ellipse r) = AreaRectangle r
+BoundedShape (RoundedBox b) = AreaBox b
