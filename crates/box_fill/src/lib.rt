@@ -62,7 +62,13 @@ fn filled_between(left: i32, width: u32, run: Range, k: u32) -> Range
 
 // The fill of row dy of a fill area whose first column is `left`. Where no column of the run is
 // contained, the whole run is fill.
-fn row_fill(left: i32, b: RoundedRectangleContains, dy: u32, run: Range, hints: Hints) -> FillRun
+pub fn row_fill(
+    left: i32,
+    b: RoundedRectangleContains,
+    dy: u32,
+    run: Range,
+    hints: Hints,
+) -> FillRun
     requires { ⌜ Near widePoint left ⌝ }
     requires { ⌜ ReadyBox b ⌝ }
     requires { ⌜ dy < b .size .height ⌝ }

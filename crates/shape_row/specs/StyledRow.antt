@@ -1,8 +1,6 @@
 -- Document 01, 'Styled rows': the styled row at y, by the shapes of the stroke area and of the fill area.
 -- Assumes nothing.
-use mathlib.Core.Path.{_≡_}
-use Prim.Native.Nat.{ℕ, _<_}
-use lib.IntN.{ℤ, pos, _+ℤ_}
+use lib.IntN.{ℤ}
 use Rattle.scanline.specs.declared.StyledRow.{StyledRow}
 use Rattle.scanline.specs.declared.StyledRow.the-variants.{NoRow}
 use Rattle.ellipse_styled.specs.EllipseStyled.{styledBy, ellipseStyledRow}
@@ -23,7 +21,3 @@ styledRowOfShapes (shape-of.Ellipse area) (shape-of.Ellipse fill) y = ellipseSty
 styledRowOfShapes (shape-of.Ellipse area) (shape-of.RoundedBox fill) y = NoRow
 styledRowOfShapes (shape-of.RoundedBox area) (shape-of.Ellipse fill) y = NoRow
 styledRowOfShapes (shape-of.RoundedBox area) (shape-of.RoundedBox fill) y = boxStyledRow area fill y
-
--- the n rows from y on are alike
-abbrev pub Alike : (ℤ → StyledRow) → ℤ → ℕ → Type 0
-Alike rowAt y n = (k : ℕ) → k < n → rowAt (y +ℤ pos k) ≡ rowAt y

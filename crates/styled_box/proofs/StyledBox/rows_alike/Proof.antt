@@ -12,11 +12,11 @@ use Rattle.scanline.proofs.Placed.{placed-told}
 use Rattle.rounded_rectangle.specs.Relative.{radii}
 use Rattle.box_columns.specs.Columns.{StraightFor}
 use Rattle.figure.proofs.Within.{area-bounded}
-use Rattle.styled_shape.specs.StyledRow.{boxStyledRow, Alike}
-use Rattle.styled_shape.specs.Ready.{strokeBox, fillBox}
-use Rattle.styled_shape.proofs.Straight.{rows-straight, one-alike}
-use Rattle.styled_shape.proofs.StyledBox.rows_alike.Statement.{statement}
-use Rattle.styled_shape.proofs.StyledBox.rows_alike.Tie as tie
+use Rattle.shape_row.specs.StyledRow.{boxStyledRow}
+use Rattle.styled_box.specs.Ready.{strokeBox, fillBox, Alike}
+use Rattle.styled_box.proofs.Straight.{rows-straight, one-alike}
+use Rattle.styled_box.proofs.StyledBox.rows_alike.Statement.{statement}
+use Rattle.styled_box.proofs.StyledBox.rows_alike.Tie as tie
 
 -- where the row stands in each area
 abbrev start : tie.After-known-told → tie.Start

@@ -26,7 +26,8 @@ use Rattle.box_fill.specs.Relative.{fillBetween}
 use Rattle.box_fill.proofs.Rows.{fill-relative}
 use Rattle.box_fill.proofs.Evenly.{fill-between}
 use Rattle.ellipse_styled.specs.EllipseStyled.{aroundFill, styledBy}
-use Rattle.styled_shape.specs.StyledRow.{boxStyledRow, Alike}
+use Rattle.shape_row.specs.StyledRow.{boxStyledRow}
+use Rattle.styled_box.specs.Ready.{Alike}
 
 module _ (a f : RoundedRectangle) where
   -- the stroke area's run, and the row

@@ -2,8 +2,8 @@
 -- Assumes nothing.
 use mathlib.Core.Path.{sym}
 use Rattle.figure.proofs.Within.{area-box-bounded}
-use Rattle.styled_shape.proofs.StyledBox.new.Statement.{statement}
-use Rattle.styled_shape.proofs.StyledBox.new.Tie as tie
+use Rattle.styled_box.proofs.StyledBox.new.Statement.{statement}
+use Rattle.styled_box.proofs.StyledBox.new.Tie as tie
 
 new-requires : tie.Need-new-requires
 new-requires c κs =

@@ -21,10 +21,10 @@ use Rattle.box_fill.specs.BoxFill.{fillRun}
 use Rattle.ellipse_styled.specs.EllipseStyled.{aroundFill, styledBy}
 use Rattle.figure.proofs.Within.{area-bounded}
 use Rattle.figure.proofs.Runs.{start-is-near, end-is-near}
-use Rattle.styled_shape.specs.StyledRow.{boxStyledRow}
-use Rattle.styled_shape.specs.Ready.{strokeBox, fillBox}
-use Rattle.styled_shape.proofs.StyledBox.row.Statement.{statement}
-use Rattle.styled_shape.proofs.StyledBox.row.Tie as tie
+use Rattle.shape_row.specs.StyledRow.{boxStyledRow}
+use Rattle.styled_box.specs.Ready.{strokeBox, fillBox}
+use Rattle.styled_box.proofs.StyledBox.row.Statement.{statement}
+use Rattle.styled_box.proofs.StyledBox.row.Tie as tie
 
 -- where the asked row stands
 row-place : (c : tie.After-known-told) →
