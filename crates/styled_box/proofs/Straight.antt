@@ -1,7 +1,7 @@
 -- Rows that no corner of either area touches are alike: the stroke area's run is as wide as the area, and all of the fill area's columns
 -- are contained.
 -- Assumes nothing.
-use mathlib.Core.Path.{_≡_, refl, sym, ap, _∙_}
+use mathlib.Core.Path.{_≡_, sym, ap, _∙_}
 use Prim.Native.Nat.{ℕ, zero, suc, _+_, _<_, min}
 use native.Mathlib.Omega.{arith}
 use lib.IntN.{ℤ, pos, _+ℤ_}
@@ -16,15 +16,14 @@ use Rattle.scanline.specs.Places.{Placed}
 use Rattle.rounded_rectangle.specs.declared.RoundedRectangle.{RoundedRectangle}
 use Rattle.rounded_rectangle.specs.declared.Insets.{Insets}
 use Rattle.rounded_rectangle.specs.Quadrants.{left, top, width, height}
-use Rattle.rounded_rectangle.specs.RoundedRectangle.{row as RoundedRectangle·row}
 use Rattle.rounded_rectangle.specs.Relative.{rowInsets, runBetween}
 use Rattle.rounded_rectangle.proofs.Rows.{row-placed, side-straight}
-use Rattle.box_columns.specs.Columns.{Straight, StraightFor}
-use Rattle.box_columns.proofs.Even.{between-straight}
+use Rattle.box_rows.specs.Sides.{Straight, StraightFor}
+use Rattle.box_rows.proofs.Even.{between-straight}
 use Rattle.box_fill.specs.BoxFill.{fillRun}
-use Rattle.box_fill.specs.Relative.{fillBetween}
 use Rattle.box_fill.proofs.Rows.{fill-relative}
-use Rattle.box_fill.proofs.Evenly.{fill-between}
+use Rattle.even_fill.specs.EvenFill.{fillBetween}
+use Rattle.even_fill.proofs.Evenly.{fill-between}
 use Rattle.ellipse_styled.specs.EllipseStyled.{aroundFill, styledBy}
 use Rattle.shape_row.specs.StyledRow.{boxStyledRow}
 use Rattle.styled_box.specs.Ready.{Alike}

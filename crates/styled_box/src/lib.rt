@@ -91,8 +91,8 @@ impl StyledBox {
         let stroke = self.stroke;
         let fill = self.fill;
         signed::least(
-            box_columns::straight_rows(stroke, dy),
-            box_columns::straight_rows(fill, inner_dy),
+            box_rows::straight_rows(stroke, dy),
+            box_rows::straight_rows(fill, inner_dy),
         )
     }
 
@@ -115,12 +115,12 @@ impl StyledBox {
         let stroke_hints = hints.stroke;
         let left_hint = stroke_hints.left;
         let right_hint = stroke_hints.right;
-        let insets = box_columns::row_insets(stroke, dy, left_hint, right_hint);
+        let insets = box_rows::row_insets(stroke, dy, left_hint, right_hint);
         let run = run_between(top_left.x, size.width, insets);
         let inner = self.inner;
         let fill = self.fill;
         let fill_hints = hints.fill;
-        let found = box_fill::fill_run(inner, fill, y, run, fill_hints);
+        let found = even_fill::fill_run(inner, fill, y, run, fill_hints);
         let found_run = found.run;
         let next_fill = found.hints;
         HintedRow {

@@ -1,7 +1,7 @@
 -- `StyledBox::rows_alike` meets its contract: on as many rows as have straight sides in both areas the rows are alike.
 -- Assumes nothing.
-use mathlib.Core.Path.{_≡_, sym, ap, subst, _∙_}
-use Prim.Native.Nat.{ℕ, _<_, _≤_}
+use mathlib.Core.Path.{sym, ap, subst}
+use Prim.Native.Nat.{_<_}
 use native.Mathlib.Omega.{arith}
 use mir.Facts.{toZ-ofZ}
 use borrow.Author.Needs.{needs}
@@ -10,7 +10,7 @@ use Rattle.scanline.specs.declared.Place.the-variants.{At}
 use Rattle.scanline.specs.Places.{Placed}
 use Rattle.scanline.proofs.Placed.{placed-told}
 use Rattle.rounded_rectangle.specs.Relative.{radii}
-use Rattle.box_columns.specs.Columns.{StraightFor}
+use Rattle.box_rows.specs.Sides.{StraightFor}
 use Rattle.figure.proofs.Within.{area-bounded}
 use Rattle.shape_row.specs.StyledRow.{boxStyledRow}
 use Rattle.styled_box.specs.Ready.{strokeBox, fillBox, Alike}

@@ -1,4 +1,4 @@
--- `box_fill::fill_run` meets its contract: the place of the asked row says which case of `fillRun` holds.
+-- `even_fill::fill_run` meets its contract: the place of the asked row says which case of `fillRun` holds.
 -- Assumes nothing.
 use mathlib.Core.Path.{_≡_, sym, ap, subst, _∙_}
 use Prim.Native.Nat.{ℕ}
@@ -11,15 +11,16 @@ use Rattle.scanline.specs.declared.Place.the-variants.{At}
 use Rattle.scanline.specs.Places.{Placed}
 use Rattle.scanline.proofs.Placed.{placed-told}
 use Rattle.rounded_rectangle.specs.Relative.{radii}
-use Rattle.box_columns.specs.Columns.{Between, Evenly}
+use Rattle.box_rows.specs.Sides.{Between, Evenly}
 use Rattle.box_fill.specs.BoxFill.{fillRun}
-use Rattle.box_fill.specs.Relative.{boxOf, rowFill, fillBetween}
-use Rattle.box_fill.proofs.Evenly.{fill-between}
+use Rattle.box_fill.specs.Relative.{boxOf, rowFill}
+use Rattle.even_fill.specs.EvenFill.{fillBetween}
+use Rattle.even_fill.proofs.Evenly.{fill-between}
 use Rattle.box_fill.proofs.Rows.{fill-off-rows, fill-relative}
 use borrow.Author.Needs.{needs}
 use native.Mathlib.Omega.{arith}
-use Rattle.box_fill.proofs.fill_run.Statement.{statement}
-use Rattle.box_fill.proofs.fill_run.Tie as tie
+use Rattle.even_fill.proofs.fill_run.Statement.{statement}
+use Rattle.even_fill.proofs.fill_run.Tie as tie
 
 -- ---- after the row was looked for: the arguments, and where it stands among the rows of the test and of the rectangle
 abbrev entry : tie.After-place-of → tie.Start

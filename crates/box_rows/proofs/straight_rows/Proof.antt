@@ -1,14 +1,14 @@
--- `box_columns::straight_rows` meets its contract: the test says that the row lies below the upper corners, and the difference how many
+-- `box_rows::straight_rows` meets its contract: the test says that the row lies below the upper corners, and the difference how many
 -- rows are left above the lower ones.
 -- Assumes nothing.
-use mathlib.Core.Path.{_≡_, ap, subst, _∙_}
+use mathlib.Core.Path.{ap, subst, _∙_}
 use Prim.Native.Nat.{ℕ, _≤_, _<_, max}
 use native.Mathlib.Omega.{arith}
 use Rattle.rounded_rectangle.specs.Relative.{radii}
-use Rattle.box_columns.proofs.Even.{straight-counted}
+use Rattle.box_rows.proofs.Even.{straight-counted}
 use borrow.Author.Needs.{needs}
-use Rattle.box_columns.proofs.straight_rows.Statement.{statement}
-use Rattle.box_columns.proofs.straight_rows.Tie as tie
+use Rattle.box_rows.proofs.straight_rows.Statement.{statement}
+use Rattle.box_rows.proofs.straight_rows.Tie as tie
 
 most-requires : tie.Need-most-requires
 most-requires c κs = search needs

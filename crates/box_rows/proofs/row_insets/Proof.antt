@@ -1,10 +1,10 @@
--- `box_columns::row_insets` meets its contract: where the corners on both sides are alike, the insets are.
+-- `box_rows::row_insets` meets its contract: where the corners on both sides are alike, the insets are.
 -- Assumes nothing.
 use borrow.Author.Needs.{needs}
 use Rattle.rounded_rectangle.specs.Relative.{radii}
-use Rattle.box_columns.proofs.Even.{insets-alike, side-wide}
-use Rattle.box_columns.proofs.row_insets.Statement.{statement}
-use Rattle.box_columns.proofs.row_insets.Tie as tie
+use Rattle.box_rows.proofs.Even.{insets-alike, side-wide}
+use Rattle.box_rows.proofs.row_insets.Statement.{statement}
+use Rattle.box_rows.proofs.row_insets.Tie as tie
 
 are-alike-requires : tie.Need-are-alike-requires
 are-alike-requires c κs = search needs

@@ -17,9 +17,11 @@ use Rattle.range.proofs.Fields.{range-by-fields}
 use Rattle.scanline.specs.declared.Place.the-variants.{At, Nowhere}
 use Rattle.scanline.proofs.Find.{find-at, find-none}
 use Rattle.corner_radii.specs.declared.CornerRadii.{CornerRadii}
-use Rattle.box_columns.specs.Columns.{containedFromLeft, containedFromRight, firstContained, lastContained, Between}
+use Rattle.box_columns.specs.Columns.{containedFromLeft, containedFromRight, firstContained, lastContained}
+use Rattle.box_rows.specs.Sides.{Between}
 use Rattle.box_columns.proofs.Searches.{by-order, to-left}
-use Rattle.box_fill.specs.Relative.{placeIn, startElse, endElse, rowFill, fillBetween}
+use Rattle.box_fill.specs.Relative.{placeIn, startElse, endElse, rowFill}
+use Rattle.even_fill.specs.EvenFill.{fillBetween}
 
 module _ (c : CornerRadii) (s : Size) (dy k : ℕ) (b : Between c s dy k) where
   abbrev w : ℕ

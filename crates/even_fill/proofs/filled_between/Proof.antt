@@ -1,4 +1,4 @@
--- `box_fill::filled_between` meets its contract: the test says whether a column between is in the run.
+-- `even_fill::filled_between` meets its contract: the test says whether a column between is in the run.
 -- Assumes nothing.
 use mathlib.Core.Path.{_≡_, ap, _∙_}
 use Prim.Native.Nat.{ℕ, _-_, min, max}
@@ -6,11 +6,11 @@ use lib.IntN.{ℤ, pos, _+ℤ_}
 use mir.Facts.{toZ-ofZ}
 use borrow.Author.Needs.{needs}
 use Rattle.range.proofs.Fields.{range-by-fields}
 use Rattle.box_fill.specs.Relative.{placeIn}
 use Rattle.box_fill.proofs.Rows.{place-read}
-use Rattle.box_fill.proofs.Evenly.{between-some, between-none, first-small, end-small}
-use Rattle.box_fill.proofs.filled_between.Statement.{statement}
-use Rattle.box_fill.proofs.filled_between.Tie as tie
+use Rattle.even_fill.proofs.Evenly.{between-some, between-none, first-small, end-small}
+use Rattle.even_fill.proofs.filled_between.Statement.{statement}
+use Rattle.even_fill.proofs.filled_between.Tie as tie
 
 -- ---- after both places were found
 abbrev entry : tie.After-least → tie.Start

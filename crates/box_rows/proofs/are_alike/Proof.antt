@@ -1,11 +1,11 @@
--- `box_columns::are_alike` meets its contract: sizes with the same width and the same height are one size.
+-- `box_rows::are_alike` meets its contract: sizes with the same width and the same height are one size.
 -- Assumes nothing.
 use mathlib.Core.Path.{_≡_}
 use mathlib.Core.Bool.{false≢true}
 use native.Mathlib.Omega.{arith}
 use Rattle.geometry.specs.declared.Size.{Size}
-use Rattle.box_columns.proofs.are_alike.Statement.{statement}
-use Rattle.box_columns.proofs.are_alike.Tie as tie
+use Rattle.box_rows.proofs.are_alike.Statement.{statement}
+use Rattle.box_rows.proofs.are_alike.Tie as tie
 
 returns : tie.Need-returns
 returns c = λ e. absurd (false≢true e)

@@ -3,7 +3,7 @@
 -- Assumes nothing.
 use mathlib.Core.Path.{_≡_, refl, sym, ap, subst, _∙_}
 use mathlib.Core.Bool.{Bool, true, false, false≢true}
-use Prim.Native.Nat.{ℕ, _+_, _-_, _*_, _/_, _≤_, _<_, max}
+use Prim.Native.Nat.{ℕ, _+_, _-_, _*_, _≤_, _<_, max}
 use native.Mathlib.Omega.{arith}
 use borrow.Author.Tests.{le-ltb}
 use Rattle.geometry.specs.declared.Size.{Size}
@@ -19,9 +19,10 @@ use Rattle.corner_radii.specs.declared.CornerRadii.{CornerRadii}
 use Rattle.rounded_rectangle.specs.Relative.{insideCorner, inQuadrant, sideInset, rowInsets}
 use Rattle.rounded_rectangle.specs.declared.Insets.{Insets}
 use Rattle.rounded_rectangle.proofs.Contains.{decided-top-left, decided-top-right, decided-bottom-left, decided-bottom-right, decided-straight}
-use Rattle.box_columns.specs.Columns.{covered, placeElse, leftOut, NoneBefore, containedFromLeft, containedFromRight, Between, Straight, StraightFor}
+use Rattle.box_columns.specs.Columns.{covered, placeElse, leftOut, containedFromLeft}
+use Rattle.box_rows.specs.Sides.{Between, Straight, StraightFor}
 use Rattle.box_columns.proofs.Searches.{by-order}
 use Rattle.box_columns.proofs.Skips.{in-quadrant, not-in-quadrant, covered-le, top-left-skips, top-right-skips, bottom-left-skips, bottom-right-skips}
 
 -- ---- what fits
 -- a corner covers no more than its width

@@ -1,16 +1,15 @@
--- `box_columns::even_skip` meets its contract: the tests say which corners the row has, that they are alike and that they do not
+-- `box_rows::even_skip` meets its contract: the tests say which corners the row has, that they are alike and that they do not
 -- overlap; what one of them leaves out is left out on both sides.
 -- Assumes nothing.
-use mathlib.Core.Path.{_≡_, sym, ap, ap₂, _∙_}
+use mathlib.Core.Path.{sym, ap, ap₂, _∙_}
 use Prim.Native.Nat.{_*_, _-_, _≤_, max}
 use native.Mathlib.Omega.{arith}
 use Rattle.rounded_rectangle.specs.Relative.{radii}
 use Rattle.box_columns.specs.Columns.{covered, leftOut}
-use Rattle.box_columns.proofs.Skips.{covered-le}
-use Rattle.box_columns.proofs.Even.{between-upper, between-lower, cover-small}
+use Rattle.box_rows.proofs.Even.{between-upper, between-lower, cover-small}
 use borrow.Author.Needs.{needs}
-use Rattle.box_columns.proofs.even_skip.Statement.{statement}
-use Rattle.box_columns.proofs.even_skip.Tie as tie
+use Rattle.box_rows.proofs.even_skip.Statement.{statement}
+use Rattle.box_rows.proofs.even_skip.Tie as tie
 
 sub-below : tie.Need-sub-below
 sub-below c = search needs
