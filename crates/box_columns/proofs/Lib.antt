@@ -1,5 +1,3 @@
--- `Searches`: what a search may leave out. `Skips`: the columns that a corner leaves out are not contained. `Even`: rows whose two sides
--- are alike.
+-- `Searches`: what a search may leave out. `Skips`: the columns that a corner leaves out are not contained.
 pub mod Searches
 pub mod Skips
-pub mod Even

@@ -2,8 +2,8 @@
 -- search serves both.
 -- Assumes nothing.
 use mathlib.Core.Path.{_≡_}
-use mathlib.Core.Bool.{Bool, true, false, cond}
-use Prim.Native.Nat.{ℕ, _+_, _-_, _*_, _≤_, _<_, max}
+use mathlib.Core.Bool.{Bool, false, cond}
+use Prim.Native.Nat.{ℕ, _-_, _<_}
 use lib.Dec.{ltb}
 use Rattle.geometry.specs.declared.Size.{Size}
 use Rattle.scanline.specs.declared.Place.{Place}
@@ -44,26 +44,3 @@ firstContained c s dy from to = findFrom (containedFromLeft c s dy) (to - from) 
 
 abbrev pub lastContained : CornerRadii → Size → ℕ → ℕ → ℕ → Place
 lastContained c s dy from to = findFrom (containedFromRight c s dy) (to - from) from
-
--- ---- rows that are alike on both sides
--- the contained columns of row dy are those between the first k and the last k
-pub record Between (c : CornerRadii) (s : Size) (dy k : ℕ) : Type 0 where
-  pub half : 2 * k ≤ s .width
-  pub none-left : NoneBefore (containedFromLeft c s dy) k
-  pub none-right : NoneBefore (containedFromRight c s dy) k
-  pub inside : (dx : ℕ) → k ≤ dx → dx + k < s .width → containedFromLeft c s dy dx ≡ true
-
--- so many columns of row dy are left out on either side; or nothing is said
-abbrev pub Evenly : CornerRadii → Size → ℕ → Place → Type 0
-Evenly c s dy (At k) = Between c s dy k
-Evenly c s dy Nowhere = Unit {0}
-
--- row dy of a box has straight sides: it lies below the upper corners and above the lower ones
-pub record Straight (c : CornerRadii) (s : Size) (dy : ℕ) : Type 0 where
-  pub in-box : dy < s .height
-  pub past-upper : max (c .«top_left» .height) (c .«top_right» .height) ≤ dy
-  pub before-lower : max (c .«bottom_left» .height) (c .«bottom_right» .height) ≤ s .height - 1 - dy
-
--- of the n rows from dy on those after the first, if there are any, have straight sides, and the first has with them
-abbrev pub StraightFor : CornerRadii → Size → ℕ → ℕ → Type 0
-StraightFor c s dy n = (k : ℕ) → 0 < k → k < n → Straight c s dy × Straight c s (dy + k)

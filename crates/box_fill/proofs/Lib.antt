@@ -1,6 +1,5 @@
 -- `Clipped`: a search over a run's columns is one over those that the box has. `Rows`: from the paper's fill run to the code's.
--- `Evenly`: the fill of a row whose two sides are alike. `Cases` computes the definition.
+-- `Cases` computes the definition.
 pub mod Clipped
 pub mod Rows
-pub mod Evenly
 pub mod Cases

@@ -2,9 +2,7 @@
 -- box is counted from its left edge, and for the last contained one from its right edge, so that one search serves both.
 -- Assumes nothing.
 use mathlib.Core.Path.{_≡_}
-use mathlib.Core.Bool.{cond}
-use Prim.Native.Nat.{ℕ, _-_, _*_, min, max}
-use lib.Dec.{ltb}
+use Prim.Native.Nat.{ℕ, _-_, _*_, min}
 use lib.IntN.{ℤ, pos, _+ℤ_, _-ℤ_}
 use Rattle.signed.specs.Signed.{Near, floor0}
 use Rattle.geometry.specs.declared.Size.{Size}
@@ -61,10 +59,3 @@ rowFill c s left dy run =
       start = startElse left (run .start) (firstContained c s dy from to);
       end = endElse left w (run .end) (lastContained c s dy (w - to) (w - from));
     }
-
--- the same where the contained columns of the row are those between the first k and the last k of w
-unfoldable pub fillBetween : ℤ → ℕ → Range → ℕ → Range
-fillBetween left w run k =
-    let first = max (placeIn left w (run .start)) k in
-    let end = min (placeIn left w (run .end)) (w - k) in
-    cond (ltb first end) (record { start = left +ℤ pos first; end = left +ℤ pos end }) run

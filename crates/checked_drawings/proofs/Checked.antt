@@ -15,7 +15,7 @@ use Rattle.rounded_rectangle.specs.RoundedRectangle.{contains, runStart, runEnd
 use Rattle.figure.specs.Figure.{confined, confinedW3c, offsetBox, pointsOfShape}
 use Rattle.ellipse_styled.specs.EllipseStyled.{ellipseStyledRow}
 use Rattle.box_fill.specs.BoxFill.{fillRun}
-use Rattle.styled_shape.specs.StyledRow.{boxStyledRow, styledRowOfShapes}
+use Rattle.shape_row.specs.StyledRow.{boxStyledRow, styledRowOfShapes}
 use Rattle.style.specs.Style.{outsideStrokeWidth, insideStrokeWidth}
 use Rattle.checked_drawings.specs.Cases.{countRows, cases}
 

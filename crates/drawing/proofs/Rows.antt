@@ -29,7 +29,7 @@ use Rattle.figure.specs.Figure.{confined, confinedW3c, offsetBox, shape}
 use Rattle.figure.specs.Bounds.{wideAreaPosition, AreaRectangle}
 use Rattle.style.specs.declared.Style.{Style}
 use Rattle.style.specs.Style.{outsideStrokeWidth}
-use Rattle.styled_shape.specs.StyledRow.{boxStyledRow, styledRowOfShapes}
+use Rattle.shape_row.specs.StyledRow.{boxStyledRow, styledRowOfShapes}
 use Rattle.styled.specs.Styled.{strokeArea, fillArea}
 use Rattle.canvas.specs.Canvas.{overpaint}
 use Rattle.book.specs.Book.{inRun, hasRow}

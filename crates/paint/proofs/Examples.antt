@@ -18,7 +18,7 @@ use Rattle.figure.specs.declared.Figure.the-variants.{Ellipse}
 use Rattle.style.specs.declared.Paint.the-variants.{Absent, Colour}
 use Rattle.style.specs.declared.Style.{Style}
 use Rattle.style.specs.Style.{defaultAlignment, styledByDefault, styleCheck, outsideStrokeWidth, insideStrokeWidth}
-use Rattle.styled_shape.specs.StyledRow.{styledRowOfShapes}
+use Rattle.shape_row.specs.StyledRow.{styledRowOfShapes}
 use Rattle.canvas_size.specs.CanvasSize.{canvasSizeCheck, canvasLengthCheck}
 use Rattle.canvas_run.specs.Run.{runOverFrom}
 use Rattle.canvas.specs.Canvas.{overpaintRuns}

@@ -7,8 +7,8 @@ use ellipse_styled::EllipseHints;
 use ellipse_styled::StyledEllipse;
 use scanline::StyledRow;
 use style::Style;
-use styled_shape::StyledBox;
-use styled_shape::no_hints;
+use styled_box::StyledBox;
+use styled_box::no_hints;
 ghost use mathlib.Core.Path.{_≡_};
 ghost use Prim.Native.Nat.{_*_, _≤_};
 ghost use lib.ListN.{length};
@@ -18,8 +18,8 @@ ghost use Rattle.corner.specs.Bounds.{wideStrokeSide};
 ghost use Rattle.figure.specs.Bounds.{wideAreaPosition};
 ghost use Rattle.ellipse_styled.specs.EllipseStyled.{ellipseStyledRow};
 ghost use Rattle.ellipse_styled.specs.Relative.{ReadyEllipse};
-ghost use Rattle.styled_shape.specs.StyledRow.{boxStyledRow};
-ghost use Rattle.styled_shape.specs.Ready.{strokeBox, fillBox, ReadyStyledBox};
+ghost use Rattle.shape_row.specs.StyledRow.{boxStyledRow};
+ghost use Rattle.styled_box.specs.Ready.{strokeBox, fillBox, ReadyStyledBox};
 ghost use Rattle.paint_rows.specs.Rows.{widePainted, rowsBy, Mirrored};
 
 // Paints so many rows of an ellipse made ready, from row y on.

@@ -9,7 +9,7 @@ use Rattle.figure.specs.Figure.{shape}
 use Rattle.style.specs.declared.Style.{Style}
 use Rattle.style.specs.Style.{outsideStrokeWidth}
 pub use Rattle.areas.specs.Areas.{strokeArea, fillArea, ownRectangle}
-use Rattle.styled_shape.specs.StyledRow.{styledRowOfShapes}
+use Rattle.shape_row.specs.StyledRow.{styledRowOfShapes}
 
 -- the styled bounding box: the rectangle offset by the outside width
 abbrev pub styledBoundingBox : Figure → Style → Rectangle

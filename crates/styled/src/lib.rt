@@ -9,9 +9,9 @@ use rectangle::RectangleAnswer;
 use refusal::Checked;
 use refusal::Refusal;
 use scanline::StyledRow;
+use shape_row::styled_row_of_shapes;
 use style::Style;
 use styled_shape::StyledShape;
-use styled_shape::no_hints;
 ghost use mathlib.Core.Path.{_≡_};
 ghost use Prim.Native.Nat.{_≤_};
 ghost use lib.IntN.{ℤ};
@@ -44,8 +44,7 @@ pub fn row_at(figure: Figure, style: Style, y: i32) -> StyledRow
     requires { ⌜ Near widePoint y ⌝ }
     ensures { λ r. ⌜ r ≡ styledRow figure style y ⌝ }
 {
-    let found = ready(figure, style).row(y, no_hints());
-    found.row
+    styled_row_of_shapes(stroke_shape(figure, style), fill_shape(figure, style), y)
 }
 
 // The styled row at y. Refused by 1, 2, 3, 4 and 5.

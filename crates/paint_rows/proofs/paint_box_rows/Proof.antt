@@ -13,8 +13,8 @@ use mir.Val.{toZ, ofZ}
 use borrow.Author.Needs.{needs}
 use Rattle.signed.specs.Signed.{Near}
 use Rattle.signed.proofs.Laws.{add-law}
-use Rattle.styled_shape.specs.StyledRow.{boxStyledRow}
-use Rattle.styled_shape.specs.Ready.{strokeBox, fillBox}
+use Rattle.shape_row.specs.StyledRow.{boxStyledRow}
+use Rattle.styled_box.specs.Ready.{strokeBox, fillBox}
 use Rattle.paint_rows.specs.Rows.{widePainted, rowsBy}
 use Rattle.paint_rows.proofs.InTurn.{painted-near, rows-by-alike, RowsLeft, rows-start, rows-turns, rows-end}
 use Rattle.paint_rows.proofs.paint_box_rows.Statement.{statement}

@@ -2,7 +2,7 @@
 -- Assumes nothing.
 use borrow.Author.Needs.{needs}
 use mathlib.Core.Path.{_∙_}
-use Rattle.styled_shape.specs.StyledRow.{styledRowOfShapes}
+use Rattle.shape_row.specs.StyledRow.{styledRowOfShapes}
 use Rattle.styled.proofs.ready.Statement.{statement}
 use Rattle.styled.proofs.ready.Tie as tie
 

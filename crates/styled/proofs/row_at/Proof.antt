@@ -1,27 +1,26 @@
--- `styled::row_at` meets its contract: the row of the figure made ready is the definition's.
+-- `styled::row_at` meets its contract: the shapes are those of both areas.
 -- Assumes nothing.
 use borrow.Author.Needs.{needs}
-use mathlib.Core.Path.{ap, _∙_}
+use mathlib.Core.Path.{_∙_}
 use mir.Facts.{toZ-ofZ}
-use Rattle.styled.specs.Styled.{styledRow}
+use Rattle.shape_row.specs.StyledRow.{styledRowOfShapes}
 use Rattle.styled.proofs.row_at.Statement.{statement}
 use Rattle.styled.proofs.row_at.Tie as tie
 
-ready-requires : tie.Need-ready-requires
-ready-requires c κs = search needs
+stroke-shape-requires : tie.Need-stroke-shape-requires
+stroke-shape-requires c κs = search needs
 
-no-hints-requires : tie.Need-no-hints-requires
-no-hints-requires c κs = search needs
+fill-shape-requires : tie.Need-fill-shape-requires
+fill-shape-requires c κs = search needs
 
-row-requires : tie.Need-row-requires
-row-requires c κs =
-    let near = c .before .before .pre .1 .1 in
-    (c .before .ready .ensures .0, rw (toZ-ofZ (near .fits)) near)
+styled-row-of-shapes-requires : tie.Need-styled-row-of-shapes-requires
+styled-row-of-shapes-requires c κs = search needs
 
 returns : tie.Need-returns
 returns c =
-    let entry = c .before .before .before in
-    c .row .ensures ∙ c .before .before .ready .ensures .1 _ ∙ ap (styledRow (entry .args .figure) (entry .args .style)) (toZ-ofZ (entry .pre .1 .1 .fits))
+    let near = c .before .before .before .pre .1 .1 in
+    c .styled-row-of-shapes .ensures
+    ∙ (λ i. styledRowOfShapes (c .before .before .stroke-shape .ensures .0 i) (c .before .fill-shape .ensures .0 i) (toZ-ofZ (near .fits) i))
 
 pub row-at-spec : {M : Type 1} → statement M
-row-at-spec = tie.close (tie.spec ready-requires no-hints-requires row-requires returns)
+row-at-spec = tie.close (tie.spec stroke-shape-requires fill-shape-requires styled-row-of-shapes-requires returns)

@@ -5,7 +5,7 @@ use mathlib.Core.Path.{sym, subst, _∙_}
 use Rattle.ellipse_styled.specs.EllipseStyled.{ellipseStyledRow}
 use Rattle.figure.specs.Bounds.{BoundedShape}
 use Rattle.figure.proofs.Within.{area-bounded}
-use Rattle.styled_shape.specs.StyledRow.{boxStyledRow, styledRowOfShapes}
+use Rattle.shape_row.specs.StyledRow.{boxStyledRow, styledRowOfShapes}
 use Rattle.styled_shape.proofs.StyledShape.new.Statement.{statement}
 use Rattle.styled_shape.proofs.StyledShape.new.Tie as tie
 

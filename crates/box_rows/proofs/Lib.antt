@@ -1,0 +1,2 @@
+-- `Even`: rows whose two sides are alike, and rows with straight sides.
+pub mod Even

@@ -1,0 +1,125 @@
+// The styled row at y by the shapes of a figure's two areas, for a row that is asked for alone, after
+// embedded-graphics 0.8.2 `StyledScanlines` of both `styled.rs`. A scan of rows goes by `styled_shape`,
+// which makes both areas ready once and hands hints from row to row; nothing of it is called here.
+use box_fill::Hints;
+use box_fill::row_fill;
+use ellipse_search::ANYWHERE;
+use ellipse_styled::EllipseHints;
+use ellipse_styled::StyledEllipse;
+use figure::Shape;
+use geometry::Size;
+use range::Range;
+use rectangle::Rectangle;
+use rounded_rectangle::RoundedRectangle;
+use rounded_rectangle::RoundedRectangleContains;
+use scanline::Place;
+use scanline::Row;
+use scanline::StyledRow;
+use scanline::StyledScanline;
+ghost use mathlib.Core.Path.{_≡_};
+ghost use Rattle.signed.specs.Signed.{Near};
+ghost use Rattle.geometry.specs.Bounds.{widePoint, wideSide, SizeUpTo};
+ghost use Rattle.rectangle.specs.Bounds.{Bounded};
+ghost use Rattle.rounded_rectangle.specs.Relative.{BoundedBox};
+ghost use Rattle.box_fill.specs.BoxFill.{fillRun};
+ghost use Rattle.box_fill.specs.Relative.{NearRun};
+ghost use Rattle.ellipse_styled.specs.EllipseStyled.{aroundFill, ellipseStyledRow};
+ghost use Rattle.figure.specs.Bounds.{AreaBox, BoundedShape};
+ghost use Rattle.shape_row.specs.StyledRow.{boxStyledRow, styledRowOfShapes};
+
+// The stroke area's run around a fill.
+pub fn around_fill(run: Range, fill: Range) -> StyledScanline
+    ensures { λ r. ⌜ r ≡ aroundFill run fill ⌝ }
+{
+    StyledScanline {
+        stroke_left: Range {
+            start: run.start,
+            end: fill.start,
+        },
+        fill: fill,
+        stroke_right: Range {
+            start: fill.end,
+            end: run.end,
+        },
+    }
+}
+
+// The fill of the row at y of a fill area, where `run` is the stroke area's. Off the fill area's rows
+// there is none.
+fn fill_alone(b: RoundedRectangle, y: i32, run: Range) -> Range
+    requires { ⌜ BoundedBox b ⌝ }
+    requires { ⌜ Near widePoint y ⌝ }
+    requires { ⌜ NearRun run ⌝ }
+    ensures { λ r. ⌜ r ≡ fillRun b y run ⌝ }
+{
+    let rectangle = b.rectangle;
+    let top_left = rectangle.top_left;
+    let size = rectangle.size;
+    let Place::At(dy) = scanline::place_of(top_left.y, size.height, y) else {
+        return Range {
+            start: run.end,
+            end: run.end,
+        };
+    };
+    let corners = b.corners;
+    let found = row_fill(
+        top_left.x,
+        RoundedRectangleContains::new(size, corners),
+        dy,
+        run,
+        Hints {
+            left: ANYWHERE,
+            right: ANYWHERE,
+        },
+    );
+    found.run
+}
+
+// The styled row at y of a box with these areas.
+fn box_row(area: RoundedRectangle, fill: RoundedRectangle, y: i32) -> StyledRow
+    requires { ⌜ AreaBox area ⌝ }
+    requires { ⌜ AreaBox fill ⌝ }
+    requires { ⌜ Near widePoint y ⌝ }
+    ensures { λ r. ⌜ r ≡ boxStyledRow area fill y ⌝ }
+{
+    let Row::Run(run) = area.row(y) else {
+        return StyledRow::NoRow;
+    };
+    StyledRow::Runs(around_fill(run, fill_alone(fill, y, run)))
+}
+
+// The styled row at y of an ellipse with this stroke area and these fill sides.
+fn ellipse_row(area: Rectangle, sides: Size, y: i32) -> StyledRow
+    requires { ⌜ Bounded area ⌝ }
+    requires { ⌜ SizeUpTo wideSide sides ⌝ }
+    requires { ⌜ Near widePoint y ⌝ }
+    ensures { λ r. ⌜ r ≡ ellipseStyledRow area sides y ⌝ }
+{
+    let found = StyledEllipse::new(area, sides).row(
+        y,
+        EllipseHints {
+            stroke: ANYWHERE,
+            fill: ANYWHERE,
+        },
+    );
+    found.row
+}
+
+// The styled row at y, by the shapes of both areas. Areas of two kinds, which no figure has, have none.
+pub fn styled_row_of_shapes(stroke: Shape, fill: Shape, y: i32) -> StyledRow
+    requires { ⌜ BoundedShape stroke ⌝ }
+    requires { ⌜ BoundedShape fill ⌝ }
+    requires { ⌜ Near widePoint y ⌝ }
+    ensures { λ r. ⌜ r ≡ styledRowOfShapes stroke fill y ⌝ }
+{
+    match stroke {
+        Shape::Ellipse(area) => match fill {
+            Shape::Ellipse(inner) => ellipse_row(area, inner.size, y),
+            Shape::RoundedBox(_) => StyledRow::NoRow,
+        },
+        Shape::RoundedBox(area) => match fill {
+            Shape::Ellipse(_) => StyledRow::NoRow,
+            Shape::RoundedBox(inner) => box_row(area, inner, y),
+        },
+    }
+}
