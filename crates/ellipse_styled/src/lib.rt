@@ -51,7 +51,7 @@ struct HintedRuns {
 }
 
 // The runs of a row of `width` columns whose stroke starts at place s and whose fill starts at c.
-fn filled_runs(left: i32, width: u32, s: u32, c: u32) -> StyledScanline
+pub fn filled_runs(left: i32, width: u32, s: u32, c: u32) -> StyledScanline
     requires { ⌜ Near widePoint left ⌝ }
     requires { ⌜ (width ≤ wideSide) × (s ≤ width) × (c ≤ width) ⌝ }
     ensures { λ r. ⌜ r ≡ runsFrom left width s (At c) ⌝ }
@@ -75,7 +75,7 @@ fn filled_runs(left: i32, width: u32, s: u32, c: u32) -> StyledScanline
 }
 
 // The runs of a row without fill: all of it is left stroke.
-fn hollow_runs(left: i32, width: u32, s: u32) -> StyledScanline
+pub fn hollow_runs(left: i32, width: u32, s: u32) -> StyledScanline
     requires { ⌜ Near widePoint left ⌝ }
     requires { ⌜ (width ≤ wideSide) × (s ≤ width) ⌝ }
     ensures { λ r. ⌜ r ≡ runsFrom left width s Nowhere ⌝ }

@@ -3,8 +3,10 @@
 use mathlib.Core.Path.{_≡_, refl, sym, ap, _∙_}
 use mathlib.Core.Bool.{Bool, true, false, cond, _&&_}
 use mathlib.Core.List.{List}
-use Prim.Native.Nat.{ℕ, zero, suc, _+_, _*_, _-_, _<_, _≤_}
+use Prim.Native.Nat.{ℕ, zero, suc, _+_, _*_, _-_, _<_, _≤_, min}
 use native.Mathlib.Omega.{arith}
+use borrow.Author.Tests.{ltb-true, ltb-false}
+use lib.Dec.{ltb}
 use lib.IntN.{ℤ, pos, _+ℤ_}
 use lib.ListN.{length}
 use lib.Signed.{leZ}
@@ -30,7 +32,8 @@ use Rattle.book.proofs.Picture.{paint-row-length, paint-row-here, paint-row-oth
 use Rattle.canvas.specs.Canvas.{overpaint}
 use Rattle.canvas.proofs.Overpaint.{overpaint-length}
 use Rattle.drawing.specs.Drawing.{paintBy}
-use Rattle.paint_rows.specs.Rows.{rowsBy}
+use Rattle.drawing.proofs.PaintRow.{paint-by-row}
+use Rattle.paint_rows.specs.Rows.{twiceBy, rowsBy}
 use Rattle.paint_rows.proofs.InTurn.{rows-by-parts}
 
 -- ---- rows that mirror each other
@@ -156,33 +159,95 @@ module _ (rowAt : ℤ → StyledRow) (style : Style) (W H : ℕ) where
       ∙ ap (λ (x : ℤ). paintBy rowAt style W H x (rowsBy rowAt style W H (y +ℤ pos 1) n after)) last
       ∙ rows-by-parts rowAt style W H n 1 k (y +ℤ pos 1) after (omega (arith, is))
 
--- ---- the loop: the rows between those that are done, painted on the canvas as it is now, make the whole
-module _ (rowAt : ℤ → StyledRow) (style : Style) (W H : ℕ) (first : ℤ) (count pairs : ℕ) (lent : List ℕ) where
-  pub record PairsLeft (dy : ℕ) (canvas : List ℕ) : Type 0 where
-    pub within : dy ≤ pairs
-    pub size : length canvas ≡ W * H
-    pub rest : rowsBy rowAt style W H (first +ℤ pos dy) (count - 2 * dy) canvas ≡ rowsBy rowAt style W H first count lent
+-- ---- how many rows are between those that are done, of `count`: `dy` at the top, and at the bottom as many, up to `pairs`
+fewer-by-two : (count pairs dy : ℕ) → dy < pairs → 2 * pairs ≤ count → count - dy - min dy pairs ≡ count - (dy + 1) - min (dy + 1) pairs + 2
+fewer-by-two count pairs dy pair half =
+    let here : min dy pairs ≡ dy = omega arith in
+    let next : min (dy + 1) pairs ≡ dy + 1 = omega arith in
+    rw (here, next) (omega arith)
 
-  pub pairs-start : length lent ≡ W * H → PairsLeft 0 lent
-  pairs-start size =
+last-of-them : (count pairs dy : ℕ) → dy < pairs → 2 * pairs ≤ count → count - 1 - dy ≡ dy + (count - (dy + 1) - min (dy + 1) pairs + 1)
+last-of-them count pairs dy pair half =
+    let next : min (dy + 1) pairs ≡ dy + 1 = omega arith in
+    rw next (omega arith)
+
+fewer-past : (count pairs dy : ℕ) → dy + pairs < count → count - dy - pairs ≡ 1 + (count - (dy + 1) - pairs)
+fewer-past count pairs dy more = omega arith
+
+fewer-by-one : (count pairs dy : ℕ) → pairs ≤ dy → dy < count - pairs → count - dy - min dy pairs ≡ 1 + (count - (dy + 1) - min (dy + 1) pairs)
+fewer-by-one count pairs dy past more =
+    let room : dy + pairs < count = omega arith in
+    let here : min dy pairs ≡ pairs = omega arith in
+    let next : min (dy + 1) pairs ≡ pairs = omega arith in
+    rw (here, next) (fewer-past count pairs dy room)
+
+far-row : (first : ℤ) (m dy n : ℕ) → m ≡ dy + (n + 1) → first +ℤ pos m ≡ first +ℤ pos dy +ℤ pos (n + 1)
+far-row first m dy n is = omega (arith, int, is, add-law first (pos m), add-law first (pos dy), add-law (first +ℤ pos dy) (pos (n + 1)))
+
+-- ---- the loop: the rows between those that are done, painted on the canvas as it is now, make the whole. Of `count` rows the first
+-- `pairs` are painted with the last ones, from both ends inward; then those between, one after another
+module _ (rowAt : ℤ → StyledRow) (style : Style) (W H : ℕ) (first : ℤ) (count pairs : ℕ) (lent : List ℕ) where
+  pub record RowsBetween (dy : ℕ) (canvas : List ℕ) : Type 0 where
+    pub within : dy ≤ count - pairs
+    pub size : length canvas ≡ W * H
+    pub rest : rowsBy rowAt style W H (first +ℤ pos dy) (count - dy - min dy pairs) canvas ≡ rowsBy rowAt style W H first count lent
+
+  pub between-start : length lent ≡ W * H → RowsBetween 0 lent
+  between-start size =
       let top : first +ℤ pos 0 ≡ first = omega (arith, int, add-law first (pos 0)) in
-      let all : count - 2 * 0 ≡ count = omega arith in
+      let all : count - 0 - min 0 pairs ≡ count = omega arith in
       record { within = omega arith; size = size; rest = λ i. rowsBy rowAt style W H (top i) (all i) lent }
 
-  pub pairs-turn : (dy : ℕ) (canvas next : List ℕ) → dy < pairs → 2 * pairs ≤ count → length next ≡ length canvas
-      → next ≡ paintBy rowAt style W H (first +ℤ pos (count - 1 - dy)) (paintBy rowAt style W H (first +ℤ pos dy) canvas)
-      → PairsLeft dy canvas → PairsLeft (dy + 1) next
-  pairs-turn dy canvas next more half same is left =
-      let further : first +ℤ pos (dy + 1) ≡ first +ℤ pos dy +ℤ pos 1 =
-      omega (arith, int, add-law first (pos (dy + 1)), add-law first (pos dy), add-law (first +ℤ pos dy) (pos 1)) in
-      let n : ℕ = count - 2 * (dy + 1) in
-      let last : first +ℤ pos (count - 1 - dy) ≡ first +ℤ pos dy +ℤ pos (n + 1) =
-      omega (arith, int, add-law first (pos (count - 1 - dy)), add-law first (pos dy), add-law (first +ℤ pos dy) (pos (n + 1))) in
-      record {
-        within = omega arith;
-        size = same ∙ left .size;
-        rest =
-            (λ i. rowsBy rowAt style W H (further i) n (is i))
-            ∙ ends-first rowAt style W H n (count - 2 * dy) (first +ℤ pos dy) (first +ℤ pos (count - 1 - dy)) canvas (left .size) (omega arith) last
-            ∙ left .rest;
-      }
+  further : (dy : ℕ) → first +ℤ pos (dy + 1) ≡ first +ℤ pos dy +ℤ pos 1
+  further dy = omega (arith, int, add-law first (pos (dy + 1)), add-law first (pos dy), add-law (first +ℤ pos dy) (pos 1))
+
+  module _ (dy : ℕ) (canvas : List ℕ) (more : dy < count - pairs) (half : 2 * pairs ≤ count) (left : RowsBetween dy canvas) where
+    abbrev n : ℕ
+    n = count - (dy + 1) - min (dy + 1) pairs
+
+    -- a row and its mirror image
+    rest-by-two : dy < pairs
+        → rowsBy rowAt style W H (first +ℤ pos (dy + 1)) n (paintBy rowAt style W H (first +ℤ pos (count - 1 - dy)) (paintBy rowAt style W H (first +ℤ pos dy) canvas))
+        ≡ rowsBy rowAt style W H first count lent
+    rest-by-two pair =
+        ap (λ (z : ℤ). rowsBy rowAt style W H z n (paintBy rowAt style W H (first +ℤ pos (count - 1 - dy)) (paintBy rowAt style W H (first +ℤ pos dy) canvas))) (further dy)
+        ∙ ends-first rowAt style W H n (count - dy - min dy pairs) (first +ℤ pos dy) (first +ℤ pos (count - 1 - dy)) canvas (left .size)
+        (fewer-by-two count pairs dy pair half) (far-row first (count - 1 - dy) dy n (last-of-them count pairs dy pair half))
+        ∙ left .rest
+
+    -- a row by itself
+    rest-by-one : pairs ≤ dy
+        → rowsBy rowAt style W H (first +ℤ pos (dy + 1)) n (paintBy rowAt style W H (first +ℤ pos dy) canvas) ≡ rowsBy rowAt style W H first count lent
+    unfolding rowsBy
+    rest-by-one past =
+        ap (λ (z : ℤ). rowsBy rowAt style W H z n (paintBy rowAt style W H (first +ℤ pos dy) canvas)) (further dy)
+        ∙ rows-by-parts rowAt style W H 1 n (count - dy - min dy pairs) (first +ℤ pos dy) canvas (fewer-by-one count pairs dy past more)
+        ∙ left .rest
+
+    pub between-turn : (row : StyledRow) (next : List ℕ) → length next ≡ length canvas → row ≡ rowAt (first +ℤ pos dy)
+        → (dy < pairs → rowAt (first +ℤ pos (count - 1 - dy)) ≡ rowAt (first +ℤ pos dy))
+        → next ≡ twiceBy row style W H (first +ℤ pos dy) (first +ℤ pos (count - 1 - dy)) (ltb dy pairs) canvas → RowsBetween (dy + 1) next
+    between-turn row next same row-is alike is =
+        record { within = omega arith; size = same ∙ left .size; rest = by-test (ltb dy pairs) refl is }
+      where
+        by-test : (t : Bool) → ltb dy pairs ≡ t → next ≡ twiceBy row style W H (first +ℤ pos dy) (first +ℤ pos (count - 1 - dy)) t canvas
+            → rowsBy rowAt style W H (first +ℤ pos (dy + 1)) n next ≡ rowsBy rowAt style W H first count lent
+        by-test true e two =
+            let pair = ltb-true dy pairs e in
+            ap (rowsBy rowAt style W H (first +ℤ pos (dy + 1)) n)
+            (two
+            ∙ paint-by-row rowAt style W H _ row _ (row-is ∙ sym (alike pair))
+            ∙ ap (paintBy rowAt style W H (first +ℤ pos (count - 1 - dy))) (paint-by-row rowAt style W H canvas row _ row-is))
+            ∙ rest-by-two pair
+        by-test false e one =
+            ap (rowsBy rowAt style W H (first +ℤ pos (dy + 1)) n) (one ∙ paint-by-row rowAt style W H canvas row _ row-is)
+            ∙ rest-by-one (ltb-false dy pairs e)
+
+  no-row : (y : ℤ) (n : ℕ) (canvas : List ℕ) → n ≡ 0 → canvas ≡ rowsBy rowAt style W H y n canvas
+  unfolding rowsBy
+  no-row y n canvas none = rw none
+
+  pub between-end : (dy : ℕ) (canvas : List ℕ) → count - pairs ≤ dy → 2 * pairs ≤ count → RowsBetween dy canvas → canvas ≡ rowsBy rowAt style W H first count lent
+  between-end dy canvas done half left =
+      let within = left .within in
+      no-row (first +ℤ pos dy) (count - dy - min dy pairs) canvas (omega (arith, within)) ∙ left .rest

@@ -1,6 +1,7 @@
 -- Rows painted one after another, as the code does it: proofs/Painted.antt and proofs/OnCanvas.antt equate it with `painted`.
 -- Assumes nothing.
 use mathlib.Core.Path.{_≡_}
+use mathlib.Core.Bool.{Bool, cond}
 use mathlib.Core.List.{List}
 use Prim.Native.Nat.{ℕ, zero, suc, _+_, _*_, _-_, _≤_, _<_}
 use lib.IntN.{ℤ, pos, _+ℤ_}
@@ -14,6 +15,12 @@ use Rattle.drawing.specs.Drawing.{paintBy}
 -- a row of a figure, the last included
 abbrev pub widePainted : ℕ
 widePainted = wideAreaPosition + wideStrokeSide
+
+-- a styled row painted at row y, and if twice at another row after that
+abbrev pub twiceBy : StyledRow → Style → ℕ → ℕ → ℤ → ℤ → Bool → List ℕ → List ℕ
+twiceBy row style W H y other twice canvas =
+    let once = paintBy (λ _. row) style W H y canvas in
+    cond twice (paintBy (λ _. row) style W H other once) once
 
 -- n rows from row y down, by a figure's rows
 unfoldable pub rowsBy : (ℤ → StyledRow) → Style → ℕ → ℕ → ℤ → ℕ → List ℕ → List ℕ

@@ -20,37 +20,7 @@ ghost use Rattle.ellipse_styled.specs.EllipseStyled.{ellipseStyledRow};
 ghost use Rattle.ellipse_styled.specs.Relative.{ReadyEllipse};
 ghost use Rattle.shape_row.specs.StyledRow.{boxStyledRow};
 ghost use Rattle.styled_box.specs.Ready.{strokeBox, fillBox, ReadyStyledBox};
-ghost use Rattle.paint_rows.specs.Rows.{widePainted, rowsBy, Mirrored};
-
-// Paints so many rows of an ellipse made ready, from row y on.
-fn paint_ellipse_rows(
-    canvas: &mut [u8],
-    size: CanvasSize,
-    ellipse: StyledEllipse,
-    style: Style,
-    y: i32,
-    count: u32,
-)
-    requires { ⌜ length (now canvas) ≡ size .width * size .height ⌝ }
-    requires { ⌜ size .width ≤ wideSide ⌝ }
-    requires { ⌜ ReadyEllipse ellipse ⌝ }
-    requires { ⌜ Near widePainted y × (count ≤ wideStrokeSide) ⌝ }
-    ensures { λ _. ⌜ now (canvas .exit) ≡ rowsBy (ellipseStyledRow (ellipse .area) (ellipse .sides)) style (size .width) (size .height) y count (now (canvas .entry)) ⌝ }
-{
-    let mut hints = EllipseHints {
-        stroke: ANYWHERE,
-        fill: ANYWHERE,
-    };
-    let mut dy: u32 = 0;
-    while dy < count {
-        let row_y = signed::add(y, signed::from_u32(dy));
-        let found = ellipse.row(row_y, hints);
-        let row = found.row;
-        drawing::paint_row_on(canvas, size, row, style, row_y);
-        hints = found.hints;
-        dy += 1;
-    }
-}
+ghost use Rattle.paint_rows.specs.Rows.{widePainted, twiceBy, rowsBy, Mirrored};
 
 // How many pairs of rows mirror each other: half of an ellipse's rows where all of them are to be
 // painted, else none.
@@ -72,8 +42,31 @@ fn mirrored_pairs(ellipse: StyledEllipse, y: i32, count: u32) -> u32
     count / 2
 }
 
-// The same as `paint_ellipse_rows`. The lower half of the rows mirrors the upper half, so that two are
-// painted by one; a row in the middle, or all of them where some are not on the canvas, come last.
+// Paints one styled row at row y, and if it is to be painted twice at another row too.
+fn paint_twice(
+    canvas: &mut [u8],
+    size: CanvasSize,
+    row: StyledRow,
+    style: Style,
+    y: i32,
+    other: i32,
+    twice: bool,
+)
+    requires { ⌜ length (now canvas) ≡ size .width * size .height ⌝ }
+    requires { ⌜ size .width ≤ wideSide ⌝ }
+    requires { ⌜ Near widePainted y × Near widePainted other ⌝ }
+    ensures { λ _. ⌜ now (canvas .exit) ≡ twiceBy row style (size .width) (size .height) y other twice (now (canvas .entry)) ⌝ }
+{
+    drawing::paint_row_on(canvas, size, row, style, y);
+    if !twice {
+        return;
+    }
+    drawing::paint_row_on(canvas, size, row, style, other);
+}
+
+// Paints so many rows of an ellipse made ready, from row y on. The lower half of the rows mirrors the
+// upper half, so that two are painted by one; a row in the middle, and all of them where some are not on
+// the canvas, are painted by themselves.
 pub fn paint_ellipse(
     canvas: &mut [u8],
     size: CanvasSize,
@@ -93,19 +86,18 @@ pub fn paint_ellipse(
         stroke: ANYWHERE,
         fill: ANYWHERE,
     };
+    let turns = count - pairs;
     let mut dy: u32 = 0;
-    while dy < pairs {
+    while dy < turns {
         let row_y = signed::add(y, signed::from_u32(dy));
         let mirrored_y = signed::add(y, signed::from_u32(count - 1 - dy));
         let found = ellipse.row(row_y, hints);
         let row = found.row;
-        drawing::paint_row_on(canvas, size, row, style, row_y);
-        drawing::paint_row_on(canvas, size, row, style, mirrored_y);
+        let twice = dy < pairs;
+        paint_twice(canvas, size, row, style, row_y, mirrored_y, twice);
         hints = found.hints;
         dy += 1;
     }
-    let middle = signed::add(y, signed::from_u32(dy));
-    paint_ellipse_rows(canvas, size, ellipse, style, middle, count - 2 * dy);
 }
 
 // Paints one styled row on so many canvas rows, from row y on.

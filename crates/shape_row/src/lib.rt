@@ -3,9 +3,11 @@
 // which makes both areas ready once and hands hints from row to row; nothing of it is called here.
 use box_fill::Hints;
 use box_fill::row_fill;
+use ellipse::EllipseContains;
 use ellipse_search::ANYWHERE;
-use ellipse_styled::EllipseHints;
-use ellipse_styled::StyledEllipse;
+use ellipse_search::first_inside;
+use ellipse_styled::filled_runs;
+use ellipse_styled::hollow_runs;
 use figure::Shape;
 use geometry::Size;
 use range::Range;
@@ -17,13 +19,18 @@ use scanline::Row;
 use scanline::StyledRow;
 use scanline::StyledScanline;
 ghost use mathlib.Core.Path.{_≡_};
+ghost use Prim.Native.Nat.{_*_, _-_, _<_, _≤_};
 ghost use Rattle.signed.specs.Signed.{Near};
 ghost use Rattle.geometry.specs.Bounds.{widePoint, wideSide, SizeUpTo};
 ghost use Rattle.rectangle.specs.Bounds.{Bounded};
+ghost use Rattle.scanline.specs.Places.{findFrom};
+ghost use Rattle.ellipse.specs.Relative.{containsOf, wideDistance};
+ghost use Rattle.ellipse_search.specs.Search.{columnInside};
 ghost use Rattle.rounded_rectangle.specs.Relative.{BoundedBox};
 ghost use Rattle.box_fill.specs.BoxFill.{fillRun};
 ghost use Rattle.box_fill.specs.Relative.{NearRun};
 ghost use Rattle.ellipse_styled.specs.EllipseStyled.{aroundFill, ellipseStyledRow};
+ghost use Rattle.ellipse_styled.specs.Relative.{runsFrom};
 ghost use Rattle.figure.specs.Bounds.{AreaBox, BoundedShape};
 ghost use Rattle.shape_row.specs.StyledRow.{boxStyledRow, styledRowOfShapes};
 
@@ -88,6 +95,21 @@ fn box_row(area: RoundedRectangle, fill: RoundedRectangle, y: i32) -> StyledRow
     StyledRow::Runs(around_fill(run, fill_alone(fill, y, run)))
 }
 
+// The runs of an ellipse's row of `width` columns whose stroke starts at place s, on a row at this
+// distance from the middle.
+fn ellipse_runs(left: i32, width: u32, distance: u64, s: u32, sides: Size) -> StyledScanline
+    requires { ⌜ Near widePoint left ⌝ }
+    requires { ⌜ (width ≤ wideSide) × (2 * s < width) × (distance ≤ wideDistance) ⌝ }
+    requires { ⌜ SizeUpTo wideSide sides ⌝ }
+    ensures { λ r. ⌜ r ≡ runsFrom left width s (findFrom (columnInside (containsOf (sides .width) (sides .height)) width distance) (width - 2 * s) s) ⌝ }
+{
+    let fill = EllipseContains::new(sides);
+    let Place::At(c) = first_inside(fill, width, distance, s, width - 2 * s) else {
+        return hollow_runs(left, width, s);
+    };
+    filled_runs(left, width, s, c)
+}
+
 // The styled row at y of an ellipse with this stroke area and these fill sides.
 fn ellipse_row(area: Rectangle, sides: Size, y: i32) -> StyledRow
     requires { ⌜ Bounded area ⌝ }
@@ -95,14 +117,17 @@ fn ellipse_row(area: Rectangle, sides: Size, y: i32) -> StyledRow
     requires { ⌜ Near widePoint y ⌝ }
     ensures { λ r. ⌜ r ≡ ellipseStyledRow area sides y ⌝ }
 {
-    let found = StyledEllipse::new(area, sides).row(
-        y,
-        EllipseHints {
-            stroke: ANYWHERE,
-            fill: ANYWHERE,
-        },
-    );
-    found.row
+    let top_left = area.top_left;
+    let size = area.size;
+    let Place::At(dy) = scanline::place_of(top_left.y, size.height, y) else {
+        return StyledRow::NoRow;
+    };
+    let Row::Run(run) = ellipse_points::row(area, y) else {
+        return StyledRow::NoRow;
+    };
+    let s = signed::floor0(signed::sub(run.start, top_left.x));
+    let distance = ellipse::gap(size.height, dy);
+    StyledRow::Runs(ellipse_runs(top_left.x, size.width, distance, s, sides))
 }
 
 // The styled row at y, by the shapes of both areas. Areas of two kinds, which no figure has, have none.
