@@ -217,8 +217,7 @@ static arguments accepted(const check *c)
     return a;
 }
 
-/* The buffers before a call: a pattern, and a sheet 4 by 4 with the oval twice. Behind these it has blank
- * places, as a sheet just opened. */
+/* The buffers before a call: a pattern, and a sheet 4 by 4 with the oval twice. */
 static buffers lent(const check *c)
 {
     buffers b;

@@ -383,6 +383,11 @@ impl Held {
         self.panics.print_panics();
         let panics: u64 = self.panics.tallies.values().map(|t| t.panics).sum();
         let all = sum.original + sum.reference + sum.refused;
+        // Where the original panics the reference stands in for it: that is to stay the exception.
+        if panics * 100 > sum.original {
+            println!("DIFFERENT: the original does not finish {panics} times, and finishes {} times", sum.original);
+            exit(1);
+        }
         println!("{all} comparisons equal, 0 different; {panics} panics of the original");
     }
 }

@@ -3,7 +3,10 @@
 set -eu
 cd "$(dirname "$0")/.."
 
-# The prover writes some thousand small files for each crate and removes them again. In memory this takes two seconds less for each
+# The library that is tested is built here.
+unset WUNQABER_LIBRARY
+
+# The prover writes some five thousand small files for each check and removes them again. In memory this takes a second less for each
 # crate and each edit; a folder there must have room and let programs run.
 memory=/dev/shm
 if [ -z "${TMPDIR:-}" ] && [ -d "$memory" ] && [ -w "$memory" ]; then

@@ -3,22 +3,22 @@
 -- `host-demand3` (proofs/HostDemand3.antt).
 -- Assumes nothing.
 use mathlib.Core.Path.{_≡_}
-use mathlib.Core.Bool.{Bool, true, _&&_}
+use mathlib.Core.Bool.{Bool, true, cond, _&&_}
 use mathlib.Core.List.{List, [], _∷_, map}
 use Prim.Native.Nat.{ℕ, _*_}
 use lib.IntN.{ℤ}
-use lib.ListN.{length}
-use Rattle.book.specs.Each.{Each}
-use Rattle.book.specs.Book.{Call, bookAnswers, bookAfterAll}
+use lib.ListN.{length, drop, getD}
+use Rattle.book.specs.Book.{Answer, Call, bookAnswers, bookAfterAll}
 use Rattle.book.specs.Book as book
-use Rattle.book.specs.Sheet.{WithinSide}
+use Rattle.book.specs.Sheet.{WithinSide, answer}
 use Rattle.book.specs.Demand3.{AfterCalls}
 use Rattle.drawing.specs.Drawing.{StyledFigure, drawing}
 use Rattle.sheet.specs.Sheet.{stateOf}
 use Rattle.sheet_calls.specs.SheetCalls.{answerNumber}
 use Rattle.record_numbers.specs.RecordNumbers.{isFigure, isStyle}
-use Rattle.sheet_record.specs.SheetRecord.{sheetOf}
-use Rattle.host_sheets.specs.Sheets.{openedNumbers, addOf, addTold, addNumbers, paintTold, paintNumbers, paintCanvas}
+use Rattle.sheet_record.specs.SheetRecord.{sheetLength, sheetOf}
+use Rattle.host_answers.specs.HostAnswers.{noRecord, outAfter, told as HostAnswers·told}
+use Rattle.host_sheets.specs.Sheets.{openSaid, addOf, addTold, addNumbers, paintTold, paintNumbers, paintCanvas}
 
 -- A call that a host makes on its sheet: a figure and a style to add, given as numbers, or the layer to paint a row of.
 pub data HostCall : Type 0 where
@@ -64,16 +64,45 @@ canvasAfterAll numbers canvas [] = canvas
 canvasAfterAll numbers canvas (call ∷ calls) =
     canvasAfterAll (numbersAfter numbers canvas call) (canvasAfter numbers canvas call) calls
 
--- Demand 3 of one such list from numbers just opened: what the host is told are the book's answers, and its numbers and its canvas are
--- what the book says.
-pub record HostDemand3Of (W H : ℕ) (lent : List ℕ) (calls : List HostCall) : Type 0 where
-  pub answered : toldOfAll (openedNumbers W H) lent calls ≡ map answerNumber (bookAnswers drawing [] (map callOf calls))
-  pub reached : AfterCalls drawing W H lent
-      (stateOf (sheetOf (numbersAfterAll (openedNumbers W H) lent calls)) (canvasAfterAll (openedNumbers W H) lent calls))
-      (bookAfterAll drawing [] (map callOf calls))
+-- ---- By the book.
 
--- Demand 3 for a host: every W and H within limits, every canvas of that size with any bytes, every list of calls.
+-- the calls whose numbers are records, as calls of the book
+unfoldable pub bookCalls : List HostCall → List (Call StyledFigure)
+bookCalls [] = []
+bookCalls (call ∷ calls) = cond (givesRecords call) (callOf call ∷ bookCalls calls) (bookCalls calls)
+
+-- what the host is told by the book's answers to these, in turn: of a call whose numbers are no record, that they are none
+unfoldable pub toldBy : List HostCall → List Answer → List ℕ
+toldBy [] answers = []
+toldBy (call ∷ calls) answers =
+    cond (givesRecords call) (answerNumber (getD answers 0 book.accepted) ∷ toldBy calls (drop 1 answers)) (noRecord ∷ toldBy calls answers)
+
+-- the numbers that `open` leaves in a list that the host lent
+abbrev pub opened : ℕ → ℕ → List ℤ → List ℤ
+opened W H out = outAfter (openSaid W H) out
+
+-- Demand 3 of one list of calls on numbers just opened: what the host is told are the book's answers, and its numbers and its canvas
+-- are what the book says.
+pub record HostDemand3Of (W H : ℕ) (out : List ℤ) (lent : List ℕ) (calls : List HostCall) : Type 0 where
+  -- opening is done
+  pub open-told : HostAnswers·told (openSaid W H) (length out) ≡ 0
+  -- the answers
+  pub answered : toldOfAll (opened W H out) lent calls ≡ toldBy calls (bookAnswers drawing [] (bookCalls calls))
+  -- the sheet that the numbers are, and the canvas
+  pub reached : AfterCalls drawing W H lent
+      (stateOf (sheetOf (numbersAfterAll (opened W H out) lent calls)) (canvasAfterAll (opened W H out) lent calls))
+      (bookAfterAll drawing [] (bookCalls calls))
+  -- what the host is told of a call more is the answer of that sheet, of which `reached` speaks
+  pub next-told : (call : HostCall) → givesRecords call ≡ true
+      → told (numbersAfterAll (opened W H out) lent calls) (canvasAfterAll (opened W H out) lent calls) call
+      ≡ answerNumber
+      (answer drawing W H
+      (stateOf (sheetOf (numbersAfterAll (opened W H out) lent calls)) (canvasAfterAll (opened W H out) lent calls))
+      (callOf call))
+
+-- Demand 3 for a host: every W and H within limits, every list for a sheet's numbers with anything in it, every canvas of that size
+-- with any bytes, every list of calls.
 abbrev pub HostDemand3 : Type 0
 HostDemand3 =
-    (W H : ℕ) → WithinSide drawing W → WithinSide drawing H → (lent : List ℕ) → length lent ≡ W * H → (calls : List HostCall)
-    → Each (λ call. givesRecords call ≡ true) calls → HostDemand3Of W H lent calls
+    (W H : ℕ) → WithinSide drawing W → WithinSide drawing H → (out : List ℤ) → length out ≡ sheetLength
+    → (lent : List ℕ) → length lent ≡ W * H → (calls : List HostCall) → HostDemand3Of W H out lent calls
