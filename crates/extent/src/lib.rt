@@ -11,6 +11,7 @@ ghost use lib.IntN.{pos, _+ℤ_, _-ℤ_};
 ghost use Rattle.side.specs.Side.{centerTerm};
 ghost use Rattle.geometry.specs.Bounds.{wideSide, widePoint, PointNear, SizeUpTo};
 
+// The centre.
 pub fn center(top_left: Point, size: Size) -> Point
     requires { ⌜ PointNear widePoint «top_left» ⌝ }
     requires { ⌜ SizeUpTo wideSide size ⌝ }
@@ -36,6 +37,7 @@ pub fn top_left_about(center: Point, size: Size) -> Point
     }
 }
 
+// The rows, from the first to the one after the last.
 pub fn rows(top_left: Point, size: Size) -> Range
     requires { ⌜ PointNear widePoint «top_left» ⌝ }
     requires { ⌜ SizeUpTo wideSide size ⌝ }
@@ -48,6 +50,7 @@ pub fn rows(top_left: Point, size: Size) -> Range
     }
 }
 
+// The columns, from the first to the one after the last.
 pub fn columns(top_left: Point, size: Size) -> Range
     requires { ⌜ PointNear widePoint «top_left» ⌝ }
     requires { ⌜ SizeUpTo wideSide size ⌝ }

@@ -1,5 +1,5 @@
-// Painting on a sheet that a host keeps as numbers. What is tested is read from them and no sheet is made
-// and handed on: its copies would take longer than the tests.
+// Painting on a sheet that a host keeps as numbers: what is tested and painted is read from them, and no
+// sheet is made and handed on.
 use refusal::Checked;
 use sheet_record::LAYER_LENGTH;
 use sheet_record::count_of;
