@@ -2,7 +2,7 @@
 # The library that hosts link: the page of `cafe` drawn from C and from Rust, every call of the header once accepted and once for
 # each refusal, and the comparison at scale with the original Rust and the reference.
 #
-#   sh tests/hosts.sh [LIBRARY]      LIBRARY, or $WUNQABER_LIBRARY: a library built before, and not `rt staticlib exports`
+#   sh tests/hosts.sh [LIBRARY]      LIBRARY, or $WUNQABER_LIBRARY: a library built before; else tests/library.sh builds it
 #
 # Without rustc the C programs are run all the same, and a line says what is skipped. Without the original's source (oracle/build.sh
 # says where it is looked for) the comparison alone is skipped.
@@ -37,7 +37,7 @@ if [ "$(uname -m)" != x86_64 ]; then
     exit 0
 fi
 if [ -z "$library" ]; then
-    quietly 'exports is not proved, or its library is not built' sh -c 'cd "$1" && rt staticlib exports' sh "$root"
+    quietly 'exports is not proved, or its library is not built' sh "$root/tests/library.sh"
     library=$root/target/staticlib/libexports.a
 fi
 [ -f "$library" ] || fail "there is no library '$library'"

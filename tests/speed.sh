@@ -25,7 +25,7 @@ work=$(mktemp -d)
 trap 'rm -rf "$work"' EXIT
 library=${WUNQABER_LIBRARY:-}
 if [ -z "$library" ]; then
-    (cd "$root" && rt staticlib exports > "$work/log" 2>&1) || { tail -5 "$work/log" >&2; exit 1; }
+    sh "$root/tests/library.sh" > "$work/log" 2>&1 || { tail -5 "$work/log" >&2; exit 1; }
     library=$root/target/staticlib/libexports.a
 fi
 LIBRARY=$library OVERFLOW_CHECKS=off sh "$root/oracle/build.sh" "$source" "$work/build" > "$work/log"
