@@ -3,10 +3,13 @@
 ghost use mathlib.Core.Path.{_≡_};
 ghost use lib.ListN.{length};
 ghost use Rattle.host_answers.specs.HostAnswers.{outcomeNumber, Tells};
-ghost use Rattle.host_figures.specs.Figures.{containsSaid, rowSaid, pointsSaid, pairsAfter, offsetSaid, confinedRadiiSaid, ellipseWithCenterSaid};
+ghost use Rattle.host_figures.specs.Figures.{containsSaid, rowSaid, offsetSaid, confinedRadiiSaid, ellipseWithCenterSaid};
+ghost use Rattle.host_points.specs.Points.{pointsSaid, pairsAfter};
 ghost use Rattle.host_styled.specs.Styled.{styledRowSaid, styledBoundingBoxSaid};
 ghost use Rattle.sheet_calls.specs.SheetCalls.{runAnswer};
-ghost use Rattle.host_canvas.specs.Canvas.{paintSaid, paintedAfter, writeSaid, writtenAfter, runNumber, RunTold};
+ghost use Rattle.host_paint.specs.Paint.{paintSaid, paintedAfter};
+ghost use Rattle.host_calls.specs.Calls.{runNumber, RunTold};
+ghost use Rattle.host_netpbm.specs.Netpbm.{writeSaid, writtenAfter};
 ghost use Rattle.host_sheets.specs.Sheets.{openSaid, addTold, addNumbers, paintTold, paintNumbers, paintCanvas};
 
 // Whether a point is inside, as 1 or 0. Refused by 1, 2, 3, 4 and 13.
@@ -31,7 +34,7 @@ pub extern "C" fn wunqaber_points(figure: &[i32], list: &mut [i32], out: &mut [i
     ensures { λ r. ⌜ Tells (pointsSaid (now (figure .entry)) (now (list .entry)) (length (now (out .entry)))) (now (out .entry)) r (now (out .exit)) ⌝ }
     ensures { λ _. ⌜ now (list .exit) ≡ pairsAfter (now (figure .entry)) (now (list .entry)) (length (now (out .entry))) ⌝ }
 {
-    host_figures::points(figure, list, out)
+    host_points::points(figure, list, out)
 }
 
 // The figure offset by k. Refused by 1, 2, 3, 5 and 13.
@@ -96,7 +99,7 @@ pub extern "C" fn wunqaber_paint_figure(
     ensures { λ r. ⌜ r ≡ outcomeNumber (paintSaid (now (figure .entry)) (now (style .entry)) width height (now (canvas .entry))) ⌝ }
     ensures { λ _. ⌜ now (canvas .exit) ≡ paintedAfter (now (figure .entry)) (now (style .entry)) width height (now (canvas .entry)) ⌝ }
 {
-    host_canvas::paint_figure(figure, style, width, height, canvas)
+    host_paint::paint_figure(figure, style, width, height, canvas)
 }
 
 // The numbers of a sheet without layers. Refused by 6 and 13.
@@ -138,7 +141,7 @@ pub extern "C" fn wunqaber_run_calls(
     ensures { λ r. ⌜ r ≡ runNumber (runAnswer width height (now (calls .entry)) (length (now (canvas .entry))) (length (now (answers .entry)))) ⌝ }
     ensures { λ _. ⌜ RunTold width height (now (calls .entry)) (now (canvas .entry)) (now (answers .entry)) (now (canvas .exit)) (now (answers .exit)) ⌝ }
 {
-    host_canvas::run_calls(width, height, calls, canvas, answers)
+    host_calls::run_calls(width, height, calls, canvas, answers)
 }
 
 // The canvas as P5, and the length of the file. Refused by 6, 8 and 13.
@@ -153,5 +156,5 @@ pub extern "C" fn wunqaber_write_p5(
     ensures { λ r. ⌜ Tells (writeSaid width height (now (canvas .entry)) (now (file .entry)) (length (now (out .entry)))) (now (out .entry)) r (now (out .exit)) ⌝ }
     ensures { λ _. ⌜ now (file .exit) ≡ writtenAfter width height (now (canvas .entry)) (now (file .entry)) (length (now (out .entry))) ⌝ }
 {
-    host_canvas::write_p5(width, height, canvas, file, out)
+    host_netpbm::write_p5(width, height, canvas, file, out)
 }

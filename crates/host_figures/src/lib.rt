@@ -10,20 +10,15 @@ use geometry::Point;
 use geometry::Size;
 use host_answers::NO_RECORD;
 use host_answers::NOTHING;
-use host_values::put_count;
 use host_values::put_figure;
 use host_values::put_flag;
 use host_values::put_radii;
 use host_values::put_row;
-use points::PointsAnswer;
 use record_numbers::figure_of;
 use record_numbers::is_figure;
-use refusal::Checked;
-use refusal::check_room;
 ghost use mathlib.Core.Path.{_≡_};
-ghost use lib.ListN.{length};
 ghost use Rattle.host_answers.specs.HostAnswers.{Tells};
-ghost use Rattle.host_figures.specs.Figures.{containsSaid, rowSaid, pointsSaid, pairsAfter, offsetSaid, confinedRadiiSaid, ellipseWithCenterSaid};
+ghost use Rattle.host_figures.specs.Figures.{containsSaid, rowSaid, offsetSaid, confinedRadiiSaid, ellipseWithCenterSaid};
 
 // Whether a point is inside, as 1 or 0. Refused by 1, 2, 3, 4 and 13.
 pub fn contains(figure: &[i32], x: i32, y: i32, out: &mut [i32]) -> u32
@@ -49,28 +44,6 @@ pub fn row(figure: &[i32], y: i32, out: &mut [i32]) -> u32
         RowAnswer::Refused(refusal) => refusal.number(),
         RowAnswer::Answered(row) => put_row(row, out),
     }
-}
-
-// The points into a list, and their number. Refused by 1, 2, 3 and 13.
-pub fn points(figure: &[i32], list: &mut [i32], out: &mut [i32]) -> u32
-    ensures { λ r. ⌜ Tells (pointsSaid (now (figure .entry)) (now (list .entry)) (length (now (out .entry)))) (now (out .entry)) r (now (out .exit)) ⌝ }
-    ensures { λ _. ⌜ now (list .exit) ≡ pairsAfter (now (figure .entry)) (now (list .entry)) (length (now (out .entry))) ⌝ }
-{
-    if !is_figure(figure) {
-        return NO_RECORD;
-    }
-    let given = figure_of(figure);
-    let Checked::Refused(refusal) = given.check().or_else(check_room(1, out.len())) else {
-        match points::points(given, list) {
-            PointsAnswer::Refused(short) => {
-                return short.number();
-            }
-            PointsAnswer::Pairs(n) => {
-                return put_count(n, out);
-            }
-        }
-    };
-    refusal.number()
 }
 
 // The figure offset by k. Refused by 1, 2, 3, 5 and 13.

@@ -1,4 +1,4 @@
--- `host_canvas::write_p5` meets its contract: once the canvas and the place for the length are checked the file is written, and the
+-- `host_netpbm::write_p5` meets its contract: once the canvas and the place for the length are checked the file is written, and the
 -- answer told. The length of a file fits 32 bits.
 -- Assumes nothing.
 use mathlib.Core.Path.{_≡_, refl, sym, ap, ap₂, _∙_}
@@ -7,11 +7,11 @@ use Rattle.refusal.specs.Refusal.{orElse}
 use Rattle.netpbm.specs.declared.WriteAnswer.{WriteAnswer}
 use Rattle.netpbm.specs.Netpbm.{writeOutcome, writeCall}
 use Rattle.host_answers.proofs.Telling.{tells-as, tells-refusal}
-use Rattle.host_canvas.specs.Canvas.{writeRoom}
-use Rattle.host_canvas.proofs.FileLength.{written-length-fits}
+use Rattle.host_netpbm.specs.Netpbm.{writeRoom}
+use Rattle.host_netpbm.proofs.FileLength.{written-length-fits}
 use borrow.Author.Needs.{needs}
-use Rattle.host_canvas.proofs.write_p5.Statement.{statement}
-use Rattle.host_canvas.proofs.write_p5.Tie as tie
+use Rattle.host_netpbm.proofs.write_p5.Statement.{statement}
+use Rattle.host_netpbm.proofs.write_p5.Tie as tie
 
 -- the check made is the definition's
 checked : (c : tie.After-or-else2)

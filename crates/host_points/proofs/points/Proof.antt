@@ -1,4 +1,4 @@
--- `host_figures::points` meets its contract: once the figure and the place for the number are checked the points are listed, and
+-- `host_points::points` meets its contract: once the figure and the place for the number are checked the points are listed, and
 -- the answer told.
 -- Assumes nothing.
 use mathlib.Core.Path.{_≡_, refl, sym, ap, ap₂, _∙_}
@@ -14,10 +14,10 @@ use Rattle.record_numbers.specs.RecordNumbers.{isFigure, figureOf}
 use Rattle.record_numbers.proofs.Records.{figure-length}
 use Rattle.host_answers.specs.HostAnswers.{noRecord}
 use Rattle.host_answers.proofs.Telling.{tells-as, tells-refused, tells-refusal}
-use Rattle.host_figures.specs.Figures.{pointsRoom}
+use Rattle.host_points.specs.Points.{pointsRoom}
 use borrow.Author.Needs.{needs}
-use Rattle.host_figures.proofs.points.Statement.{statement}
-use Rattle.host_figures.proofs.points.Tie as tie
+use Rattle.host_points.proofs.points.Statement.{statement}
+use Rattle.host_points.proofs.points.Tie as tie
 
 -- the numbers are a figure
 is-one : (c : tie.Else1) → isFigure (c .before .before .args .figure .now) ≡ true

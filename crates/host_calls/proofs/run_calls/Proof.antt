@@ -1,14 +1,14 @@
--- `host_canvas::run_calls` meets its contract: what the run says is told by its number, and its sheet is not handed on.
+-- `host_calls::run_calls` meets its contract: what the run says is told by its number, and its sheet is not handed on.
 -- Assumes nothing.
 use mathlib.Core.Path.{_≡_, sym, ap, subst, _∙_}
 use lib.ListN.{length}
 use Rattle.sheet_calls.specs.declared.RunAnswer.{RunAnswer}
 use Rattle.sheet_calls.specs.SheetCalls.{RunSays, runSaid, runAnswer, RunLeaves}
 use Rattle.call_numbers.specs.CallNumbers.{callsOf}
-use Rattle.host_canvas.specs.Canvas.{runNumber, RunTold}
+use Rattle.host_calls.specs.Calls.{runNumber, RunTold}
 use borrow.Author.Needs.{needs}
-use Rattle.host_canvas.proofs.run_calls.Statement.{statement}
-use Rattle.host_canvas.proofs.run_calls.Tie as tie
+use Rattle.host_calls.proofs.run_calls.Statement.{statement}
+use Rattle.host_calls.proofs.run_calls.Tie as tie
 
 -- what the run says, and what it leaves
 says : (c : tie.After-run-calls)

@@ -1,4 +1,4 @@
--- `host_canvas::paint_figure` meets its contract: the figure and the style that the numbers are, painted in one call.
+-- `host_paint::paint_figure` meets its contract: the figure and the style that the numbers are, painted in one call.
 -- Assumes nothing.
 use mathlib.Core.Path.{_≡_, refl, sym, ap, _∙_}
 use mathlib.Core.Bool.{true}
@@ -10,8 +10,8 @@ use Rattle.record_numbers.specs.RecordNumbers.{isFigure, isStyle, figureOf, sty
 use Rattle.record_numbers.proofs.Records.{figure-length, style-length}
 use Rattle.host_answers.specs.HostAnswers.{outcomeNumber}
 use borrow.Author.Needs.{needs}
-use Rattle.host_canvas.proofs.paint_figure.Statement.{statement}
-use Rattle.host_canvas.proofs.paint_figure.Tie as tie
+use Rattle.host_paint.proofs.paint_figure.Statement.{statement}
+use Rattle.host_paint.proofs.paint_figure.Tie as tie
 
 -- the numbers are a figure, and a style
 is-one : (c : tie.Else1) → isFigure (c .before .before .before .args .figure .now) ≡ true

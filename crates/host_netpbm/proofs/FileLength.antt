@@ -16,7 +16,7 @@ use Rattle.canvas_size.proofs.Sides.{canvas-size-passed, canvas-length-passed}
 use Rattle.p5_header.proofs.Header.{length-header-u32}
 use Rattle.netpbm.specs.Netpbm.{p5, writeCheck, writeCall}
 use Rattle.netpbm.proofs.File.{length-p5}
-use Rattle.host_canvas.specs.Canvas.{writeRoom}
+use Rattle.host_netpbm.specs.Netpbm.{writeRoom}
 
 -- the value of an answer that has one
 valueOf : Outcome → ℕ
