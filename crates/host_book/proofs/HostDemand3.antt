@@ -28,52 +28,52 @@ use Rattle.sheet.proofs.Figures.{figures-demand3}
 use Rattle.sheet_calls.specs.SheetCalls.{answerNumber}
 use Rattle.sheet_record.specs.SheetRecord.{isSheet, sheetOf}
 use Rattle.sheet_record.proofs.Parts.{sixteen}
-use Rattle.host_answers.specs.HostAnswers.{noRecord, heldBy32, outAfter, told as HostAnswers·told}
+use Rattle.host_answers.specs.HostAnswers.{noRecord, heldBy32, outAfter, told}
 use Rattle.host_sheets.specs.Sheets.{unusedPlaces, openedNumbers, openSaid, addTold, addNumbers, areRecords, paintTold, paintCanvas}
 use Rattle.host_sheets.proofs.NumbersAfter.{open-reads-back, add-reads-back, paint-reads-back}
-use Rattle.host_book.specs.HostBook.{HostCall, add, paint, givesRecords, callOf, told, numbersAfter, canvasAfter, toldOfAll, numbersAfterAll, canvasAfterAll, bookCalls, toldBy, opened, HostDemand3}
+use Rattle.host_book.specs.HostBook.{HostCall, add, paint, givesRecords, callOf, callTold, callNumbers, callCanvas, toldOfAll, numbersAfterAll, canvasAfterAll, bookCalls, toldBy, opened, HostDemand3}
 
 -- ---- one call
 module _ (numbers : List ℤ) (is : isSheet numbers ≡ true) (canvas : List ℕ) where
   all-records : (figure style : List ℤ) → givesRecords (add figure style) ≡ true → areRecords numbers figure style ≡ true
   all-records figure style records = rw is records
 
-  told-is : (call : HostCall) → givesRecords call ≡ true → told numbers canvas call ≡ answerNumber (sheetAnswer (sheetOf numbers) canvas (callOf call))
+  told-is : (call : HostCall) → givesRecords call ≡ true → callTold numbers canvas call ≡ answerNumber (sheetAnswer (sheetOf numbers) canvas (callOf call))
   unfolding addTold paintTold answer
   told-is (add figure style) records = rw (all-records figure style records)
   told-is (paint i) records = rw is
 
   numbers-are : (call : HostCall) → givesRecords call ≡ true
-      → (isSheet (numbersAfter numbers canvas call) ≡ true)
-      × (sheetOf (numbersAfter numbers canvas call) ≡ sheetAfter (sheetOf numbers) canvas (callOf call))
+      → (isSheet (callNumbers numbers canvas call) ≡ true)
+      × (sheetOf (callNumbers numbers canvas call) ≡ sheetAfter (sheetOf numbers) canvas (callOf call))
   unfolding answer
   numbers-are (add figure style) records = add-reads-back numbers figure style (all-records figure style records)
   numbers-are (paint i) records = paint-reads-back numbers i canvas is
 
-  canvas-is : (call : HostCall) → canvasAfter numbers canvas call ≡ sheet.canvasAfter (sheetOf numbers) canvas (callOf call)
+  canvas-is : (call : HostCall) → callCanvas numbers canvas call ≡ sheet.canvasAfter (sheetOf numbers) canvas (callOf call)
   unfolding paintCanvas
   canvas-is (add figure style) = sym (add-keeps-canvas (sheetOf numbers) (sixteen numbers) canvas _)
   canvas-is (paint i) = rw is
 
   -- the sheet and the canvas after it are the definitions'
   state-is : (call : HostCall) → givesRecords call ≡ true
-      → stateOf (sheetOf (numbersAfter numbers canvas call)) (canvasAfter numbers canvas call)
+      → stateOf (sheetOf (callNumbers numbers canvas call)) (callCanvas numbers canvas call)
       ≡ after drawing (sheetOf numbers .width) (sheetOf numbers .height) (stateOf (sheetOf numbers) canvas) (callOf call)
   state-is call records =
       ap₂ stateOf (numbers-are call records .1) (canvas-is call) ∙ state-after (sheetOf numbers) (sixteen numbers) canvas (callOf call)
 
   -- a call whose numbers are no record changes nothing
-  told-none : (call : HostCall) → givesRecords call ≡ false → told numbers canvas call ≡ noRecord
+  told-none : (call : HostCall) → givesRecords call ≡ false → callTold numbers canvas call ≡ noRecord
   unfolding addTold
   told-none (add figure style) none = rw (is, none)
   told-none (paint i) none = absurd (false≢true (sym none))
 
-  numbers-same : (call : HostCall) → givesRecords call ≡ false → numbersAfter numbers canvas call ≡ numbers
+  numbers-same : (call : HostCall) → givesRecords call ≡ false → callNumbers numbers canvas call ≡ numbers
   unfolding addNumbers
   numbers-same (add figure style) none = rw (is, none)
   numbers-same (paint i) none = absurd (false≢true (sym none))
 
-  canvas-same : (call : HostCall) → givesRecords call ≡ false → canvasAfter numbers canvas call ≡ canvas
+  canvas-same : (call : HostCall) → givesRecords call ≡ false → callCanvas numbers canvas call ≡ canvas
   canvas-same (add figure style) none = refl
   canvas-same (paint i) none = absurd (false≢true (sym none))
 
@@ -101,9 +101,9 @@ module _ (W H : ℕ) where
           let state =
           state-is numbers is canvas call records
           ∙ ap₂ (λ (w h : ℕ). after drawing w h (stateOf (sheetOf numbers) canvas) (callOf call)) wide high in
-          let rest = go (numbersAfter numbers canvas call) (are .0)
+          let rest = go (callNumbers numbers canvas call) (are .0)
           (ap (λ (s : Sheet). s .width) (are .1) ∙ frame .width ∙ wide)
-          (ap (λ (s : Sheet). s .height) (are .1) ∙ frame .height ∙ high) (canvasAfter numbers canvas call) in
+          (ap (λ (s : Sheet). s .height) (are .1) ∙ frame .height ∙ high) (callCanvas numbers canvas call) in
           record {
             answered = rw records
                 (ap₂ (λ (n : ℕ) (l : List ℕ). n ∷ l)
@@ -116,7 +116,7 @@ module _ (W H : ℕ) where
             height = rest .height;
           }
       by go false none =
-          let rest = subst (λ (m : List ℤ). Run W H calls m (canvasAfter numbers canvas call)) (sym (numbers-same numbers is canvas call none))
+          let rest = subst (λ (m : List ℤ). Run W H calls m (callCanvas numbers canvas call)) (sym (numbers-same numbers is canvas call none))
           (subst (λ (c : List ℕ). Run W H calls numbers c) (sym (canvas-same numbers is canvas call none)) (go numbers is wide high canvas)) in
           let state = ap₂ (λ (m : List ℤ) (c : List ℕ). stateOf (sheetOf m) c) (numbers-same numbers is canvas call none) (canvas-same numbers is canvas call none) in
           record {
@@ -138,8 +138,8 @@ module _ (W H : ℕ) (width : WithinSide drawing W) (height : WithinSide drawing
   room : roomCheck 291 (length out) ≡ Passed
   room = rw long
 
-  open-done : HostAnswers·told (openSaid W H) (length out) ≡ 0
-  unfolding HostAnswers·told unusedPlaces
+  open-done : told (openSaid W H) (length out) ≡ 0
+  unfolding told unusedPlaces
   open-done = rw (size-passed, room)
 
   held : map heldBy32 (openedNumbers W H) ≡ openedNumbers W H

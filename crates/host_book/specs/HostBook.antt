@@ -17,7 +17,7 @@ use Rattle.sheet.specs.Sheet.{stateOf}
 use Rattle.sheet_calls.specs.SheetCalls.{answerNumber}
 use Rattle.record_numbers.specs.RecordNumbers.{isFigure, isStyle}
 use Rattle.sheet_record.specs.SheetRecord.{sheetLength, sheetOf}
-use Rattle.host_answers.specs.HostAnswers.{noRecord, outAfter, told as HostAnswers·told}
+use Rattle.host_answers.specs.HostAnswers.{noRecord, outAfter, told}
 use Rattle.host_sheets.specs.Sheets.{openSaid, addOf, addTold, addNumbers, paintTold, paintNumbers, paintCanvas}
 
 -- A call that a host makes on its sheet: a figure and a style to add, given as numbers, or the layer to paint a row of.
@@ -36,33 +36,33 @@ callOf (add figure style) = addOf figure style
 callOf (paint i) = book.paint i
 
 -- what the host is told of a call on these numbers, and the numbers and the canvas after it
-abbrev pub told : List ℤ → List ℕ → HostCall → ℕ
-told numbers canvas (add figure style) = addTold numbers figure style
-told numbers canvas (paint i) = paintTold numbers i canvas
+abbrev pub callTold : List ℤ → List ℕ → HostCall → ℕ
+callTold numbers canvas (add figure style) = addTold numbers figure style
+callTold numbers canvas (paint i) = paintTold numbers i canvas
 
-abbrev pub numbersAfter : List ℤ → List ℕ → HostCall → List ℤ
-numbersAfter numbers canvas (add figure style) = addNumbers numbers figure style
-numbersAfter numbers canvas (paint i) = paintNumbers numbers i canvas
+abbrev pub callNumbers : List ℤ → List ℕ → HostCall → List ℤ
+callNumbers numbers canvas (add figure style) = addNumbers numbers figure style
+callNumbers numbers canvas (paint i) = paintNumbers numbers i canvas
 
-abbrev pub canvasAfter : List ℤ → List ℕ → HostCall → List ℕ
-canvasAfter numbers canvas (add figure style) = canvas
-canvasAfter numbers canvas (paint i) = paintCanvas numbers i canvas
+abbrev pub callCanvas : List ℤ → List ℕ → HostCall → List ℕ
+callCanvas numbers canvas (add figure style) = canvas
+callCanvas numbers canvas (paint i) = paintCanvas numbers i canvas
 
 -- the same of a list of calls
 unfoldable pub toldOfAll : List ℤ → List ℕ → List HostCall → List ℕ
 toldOfAll numbers canvas [] = []
 toldOfAll numbers canvas (call ∷ calls) =
-    told numbers canvas call ∷ toldOfAll (numbersAfter numbers canvas call) (canvasAfter numbers canvas call) calls
+    callTold numbers canvas call ∷ toldOfAll (callNumbers numbers canvas call) (callCanvas numbers canvas call) calls
 
 unfoldable pub numbersAfterAll : List ℤ → List ℕ → List HostCall → List ℤ
 numbersAfterAll numbers canvas [] = numbers
 numbersAfterAll numbers canvas (call ∷ calls) =
-    numbersAfterAll (numbersAfter numbers canvas call) (canvasAfter numbers canvas call) calls
+    numbersAfterAll (callNumbers numbers canvas call) (callCanvas numbers canvas call) calls
 
 unfoldable pub canvasAfterAll : List ℤ → List ℕ → List HostCall → List ℕ
 canvasAfterAll numbers canvas [] = canvas
 canvasAfterAll numbers canvas (call ∷ calls) =
-    canvasAfterAll (numbersAfter numbers canvas call) (canvasAfter numbers canvas call) calls
+    canvasAfterAll (callNumbers numbers canvas call) (callCanvas numbers canvas call) calls
 
 -- ---- By the book.
 
@@ -85,7 +85,7 @@ opened W H out = outAfter (openSaid W H) out
 -- are what the book says.
 pub record HostDemand3Of (W H : ℕ) (out : List ℤ) (lent : List ℕ) (calls : List HostCall) : Type 0 where
   -- opening is done
-  pub open-told : HostAnswers·told (openSaid W H) (length out) ≡ 0
+  pub open-told : told (openSaid W H) (length out) ≡ 0
   -- the answers
   pub answered : toldOfAll (opened W H out) lent calls ≡ toldBy calls (bookAnswers drawing [] (bookCalls calls))
   -- the sheet that the numbers are, and the canvas
@@ -94,7 +94,7 @@ pub record HostDemand3Of (W H : ℕ) (out : List ℤ) (lent : List ℕ) (calls :
       (bookAfterAll drawing [] (bookCalls calls))
   -- what the host is told of a call more is the answer of that sheet, of which `reached` speaks
   pub next-told : (call : HostCall) → givesRecords call ≡ true
-      → told (numbersAfterAll (opened W H out) lent calls) (canvasAfterAll (opened W H out) lent calls) call
+      → callTold (numbersAfterAll (opened W H out) lent calls) (canvasAfterAll (opened W H out) lent calls) call
       ≡ answerNumber
       (answer drawing W H
       (stateOf (sheetOf (numbersAfterAll (opened W H out) lent calls)) (canvasAfterAll (opened W H out) lent calls))
