@@ -2,3 +2,4 @@
 -- Assumes nothing.
 mod Accepted
 pub mod NumbersAfter
+mod Unused

@@ -1,8 +1,9 @@
 -- `host_sheets::open` meets its contract: the numbers of a sheet without layers, with the width and height given.
 -- Assumes nothing.
-use mathlib.Core.Path.{refl, sym, _∙_}
-use mathlib.Core.List.{_∷_}
-use lib.IntN.{pos}
+use mathlib.Core.Path.{refl, sym, ap, _∙_}
+use mathlib.Core.List.{List, _∷_}
+use lib.IntN.{ℤ, pos}
+use lib.ListN.{set}
 use mir.Syntax.{w32}
 use mir.Val.{toZ, ofZ}
 use Rattle.geometry.specs.Limits.{maxLayers}
@@ -21,6 +22,9 @@ enum-known-refusal c = search needs
 
 enum-told : tie.Need-enum-told
 enum-told c = search needs
+
+unused-places-requires : tie.Need-unused-places-requires
+unused-places-requires c κs = search needs
 
 held-requires : tie.Need-held-requires
 held-requires c κs = search needs
@@ -46,10 +50,19 @@ same-length c = search needs
 returns : tie.Need-returns
 unfolding heldBy32 unusedPlaces
 returns c =
-    rw (sym (c .before .before .before .before .before .before .before .before .check .ensures) ∙ c .before .before .before .before .before .before .enum-told .given .1)
-    (tells-put (pos (c .before .before .before .before .before .before .before .before .before .args .width)) (pos (c .before .before .before .before .before .before .before .before .before .args .height) ∷ pos 0 ∷ unusedPlaces maxLayers) _
-    (toZ w32 (ofZ w32 (c .before .before .before .before .before .held .result)) ∷ toZ w32 (ofZ w32 (c .before .before .before .before .held2 .result)) ∷ pos 0 ∷ unusedPlaces maxLayers)
-    (λ i. held-read (c .before .before .before .before .before .before .before .before .before .args .width) (c .before .before .before .before .before .held .ensures) i ∷ held-read (c .before .before .before .before .before .before .before .before .before .args .height) (c .before .before .before .before .held2 .ensures) i ∷ pos 0 ∷ unusedPlaces maxLayers) _ _ (c .before .put-numbers .ensures .0) (c .before .put-numbers .ensures .1))
+    let made = c .before .before .before .before .before .before in
+    let start = made .before .before .before .before in
+    let held = c .before .before .before .before .before .held in
+    let held2 = c .before .before .before .before .held2 in
+    let W = start .args .width in
+    let H = start .args .height in
+    let w = toZ w32 (ofZ w32 (held .result)) in
+    let h = toZ w32 (ofZ w32 (held2 .result)) in
+    rw (sym (made .before .before .before .check .ensures) ∙ made .before .enum-told .given .1)
+    (tells-put (pos W) (pos H ∷ pos 0 ∷ unusedPlaces maxLayers) _ (set (set (made .unused-places .result) 0 w) 1 h)
+    (ap (λ (l : List ℤ). set (set l 0 w) 1 h) (made .unused-places .ensures)
+    ∙ (λ i. held-read W (held .ensures) i ∷ held-read H (held2 .ensures) i ∷ pos 0 ∷ unusedPlaces maxLayers))
+    _ _ (c .before .put-numbers .ensures .0) (c .before .put-numbers .ensures .1))
 
 number-requires : tie.Need-number-requires
 number-requires c κs = search needs
@@ -66,6 +79,7 @@ open-spec =
     check-requires
     enum-known-refusal
     enum-told
+    unused-places-requires
     held-requires
     array-set-from-numbers
     held-requires-2
