@@ -2,7 +2,9 @@
 -- sum is s2 · 65536 + s1.
 -- Assumes nothing.
 use mathlib.Core.List.{List, [], _∷_}
-use Prim.Native.Nat.{ℕ, _+_, _*_, _%_}
+use Prim.Native.Nat.{ℕ, _+_, _*_, _-_, _/_, _%_}
+use lib.IntN.{ℤ, pos, negsuc}
+use Rattle.answer_text.specs.Text.{each}
 
 abbrev pub modulus : ℕ
 modulus = 65521
@@ -20,3 +22,18 @@ sumFrom low high (b ∷ rest) = sumFrom (nextLow low b) (nextHigh high (nextLow 
 
 abbrev pub sumOf : List ℕ → ℕ
 sumOf bytes = sumFrom 1 0 bytes
+
+-- ---- The sum of numbers of 32 bits with a sign.
+
+-- the number without a sign that has the same 32 bits
+abbrev pub sameBits : ℤ → ℕ
+sameBits (pos n) = n
+sameBits (negsuc n) = 4294967295 - n
+
+-- its four bytes, the lowest first
+abbrev pub fourBytes : ℤ → List ℕ
+fourBytes v =
+    sameBits v / 1 % 256 ∷ sameBits v / 256 % 256 ∷ sameBits v / 65536 % 256 ∷ sameBits v / 16777216 % 256 ∷ []
+
+abbrev pub signedSumOf : List ℤ → ℕ
+signedSumOf values = sumOf (each fourBytes values)

@@ -1,1 +1,2 @@
 pub mod Adler
+pub mod Text

@@ -3,11 +3,18 @@
 // function that puts answers the place after the last byte that it put, where the next one goes on.
 use libc::STDOUT_FILENO;
 ghost use mathlib.Core.Path.{_≡_};
-ghost use Prim.Native.Nat.{_<_};
-ghost use Rattle.answer_text.specs.Adler.{modulus, nextLow, nextHigh, sumOf};
+ghost use mathlib.Core.List.{[], _∷_};
+ghost use Prim.Native.Nat.{_/_, _%_, _<_};
+ghost use lib.IntN.{pos};
+ghost use Rattle.io.specs.Digits.{glyph as Digits·glyph};
+ghost use Rattle.text.specs.Decimal.{digit, decimal};
+ghost use Rattle.answer_text.specs.Adler.{modulus, nextLow, nextHigh, sumOf, sameBits, signedSumOf};
+ghost use Rattle.answer_text.specs.Text.{signedText, nextText, hexPair, hexText, Puts};
 
 // One byte. A full buffer is written out first.
-pub fn put_byte(out: &mut [u8], at: usize, b: u8) -> usize {
+pub fn put_byte(out: &mut [u8], at: usize, b: u8) -> usize
+    ensures { λ r. ⌜ Puts (now (out .entry)) at (b ∷ []) (now (out .exit)) r ⌝ }
+{
     if at < out.len() {
         out[at] = b;
         return at + 1;
@@ -21,14 +28,19 @@ pub fn put_byte(out: &mut [u8], at: usize, b: u8) -> usize {
 }
 
 // Writes out what the buffer holds up to a place, and answers the first place.
-pub fn flush(out: &mut [u8], at: usize) -> usize {
+pub fn flush(out: &mut [u8], at: usize) -> usize
+    ensures { λ r. ⌜ r ≡ 0 ⌝ }
+    ensures { λ _. ⌜ now (out .exit) ≡ now (out .entry) ⌝ }
+{
     if at <= out.len() {
         io::write_all(STDOUT_FILENO, &out[0..at]);
     }
     0
 }
 
-pub fn put_text(out: &mut [u8], at: usize, text: &[u8]) -> usize {
+pub fn put_text(out: &mut [u8], at: usize, text: &[u8]) -> usize
+    ensures { λ r. ⌜ Puts (now (out .entry)) at (now (text .entry)) (now (out .exit)) r ⌝ }
+{
     let mut place = at;
     let mut i: usize = 0;
     while i < text.len() {
@@ -38,21 +50,36 @@ pub fn put_text(out: &mut [u8], at: usize, text: &[u8]) -> usize {
     place
 }
 
-// A number in decimal.
-pub fn put_number(out: &mut [u8], at: usize, n: u32) -> usize {
-    let mut digits = [0u8; 20];
-    let k = io::decimal(n as u64, &mut digits);
-    put_text(out, at, &digits[..k])
+// The last decimal digit of a number.
+fn last_digit(n: u32) -> u8
+    ensures { λ r. ⌜ r ≡ digit (n % 10) ⌝ }
+{
+    b'0' + (n % 10) as u8
+}
+
+// A number in decimal: first what stands before its last digit, then that.
+pub fn put_number(out: &mut [u8], at: usize, n: u32) -> usize
+    ensures { λ r. ⌜ Puts (now (out .entry)) at (decimal n) (now (out .exit)) r ⌝ }
+{
+    if n < 10 {
+        return put_byte(out, at, last_digit(n));
+    }
+    let last = put_number(out, at, n / 10);
+    put_byte(out, last, last_digit(n))
 }
 
 // A space and a number.
-pub fn put_next(out: &mut [u8], at: usize, n: u32) -> usize {
+pub fn put_next(out: &mut [u8], at: usize, n: u32) -> usize
+    ensures { λ r. ⌜ Puts (now (out .entry)) at (nextText (pos n)) (now (out .exit)) r ⌝ }
+{
     let place = put_byte(out, at, b' ');
     put_number(out, place, n)
 }
 
 // A number with its sign.
-pub fn put_signed(out: &mut [u8], at: usize, v: i32) -> usize {
+pub fn put_signed(out: &mut [u8], at: usize, v: i32) -> usize
+    ensures { λ r. ⌜ Puts (now (out .entry)) at (signedText v) (now (out .exit)) r ⌝ }
+{
     if v < 0 {
         let place = put_byte(out, at, b'-');
         return put_number(out, place, signed::magnitude(v));
@@ -61,27 +88,40 @@ pub fn put_signed(out: &mut [u8], at: usize, v: i32) -> usize {
 }
 
 // A space and a number with its sign.
-pub fn put_next_signed(out: &mut [u8], at: usize, v: i32) -> usize {
+pub fn put_next_signed(out: &mut [u8], at: usize, v: i32) -> usize
+    ensures { λ r. ⌜ Puts (now (out .entry)) at (nextText v) (now (out .exit)) r ⌝ }
+{
     let place = put_byte(out, at, b' ');
     put_signed(out, place, v)
 }
 
 // One hexadecimal digit.
-fn glyph(d: u8) -> u8 {
+fn glyph(d: u8) -> u8
+    requires { ⌜ d < 16 ⌝ }
+    ensures { λ r. ⌜ r ≡ Digits·glyph d ⌝ }
+{
     if d < 10 {
         return 48 + d;
     }
-    87 + d % 16
+    87 + d
+}
+
+// A byte in hexadecimal, two digits.
+fn put_hex_pair(out: &mut [u8], at: usize, b: u8) -> usize
+    ensures { λ r. ⌜ Puts (now (out .entry)) at (hexPair b) (now (out .exit)) r ⌝ }
+{
+    let place = put_byte(out, at, glyph(b / 16));
+    put_byte(out, place, glyph(b % 16))
 }
 
 // Bytes in hexadecimal, two digits each.
-pub fn put_hex(out: &mut [u8], at: usize, bytes: &[u8]) -> usize {
+pub fn put_hex(out: &mut [u8], at: usize, bytes: &[u8]) -> usize
+    ensures { λ r. ⌜ Puts (now (out .entry)) at (hexText (now (bytes .entry))) (now (out .exit)) r ⌝ }
+{
     let mut place = at;
     let mut i: usize = 0;
     while i < bytes.len() {
-        let b = bytes[i];
-        place = put_byte(out, place, glyph(b / 16));
-        place = put_byte(out, place, glyph(b % 16));
+        place = put_hex_pair(out, place, bytes[i]);
         i += 1;
     }
     place
@@ -126,7 +166,9 @@ pub fn adler32(bytes: &[u8]) -> u32
 }
 
 // A number as the u32 of the same 32 bits.
-fn same_bits(v: i32) -> u32 {
+fn same_bits(v: i32) -> u32
+    ensures { λ r. ⌜ r ≡ sameBits v ⌝ }
+{
     let far = signed::magnitude(v);
     if v < 0 {
         if 0 < far {
@@ -139,12 +181,15 @@ fn same_bits(v: i32) -> u32 {
 // One of the four bytes of a number, the lowest first.
 fn byte_of(n: u32, shift: u32) -> u8
     requires { ⌜ 0 < shift ⌝ }
+    ensures { λ r. ⌜ r ≡ n / shift % 256 ⌝ }
 {
     (n / shift % 256) as u8
 }
 
 // The Adler-32 sum of the bytes of signed numbers, each as four bytes with the lowest first.
-pub fn adler32_signed(list: &[i32]) -> u32 {
+pub fn adler32_signed(list: &[i32]) -> u32
+    ensures { λ r. ⌜ r ≡ signedSumOf (now (list .entry)) ⌝ }
+{
     let mut low: u32 = 1;
     let mut high: u32 = 0;
     let mut i: usize = 0;

@@ -1,3 +1,4 @@
--- A walk over the digits of a word.
+-- Walks over the digits of a word and over a line.
 -- Assumes nothing.
 pub mod Digits
+pub mod Lines

@@ -4,7 +4,9 @@
 ghost use mathlib.Core.Path.{_≡_};
 ghost use Prim.Native.Nat.{_-_, _<_, _≤_};
 ghost use lib.ListN.{length};
+ghost use lib.Seq.{sets};
 ghost use Rattle.line_numbers.specs.Words.{isDigit, decimalOf, plainToken, negativeToken, opposite as Words·opposite, singleToken, tokenOf};
+ghost use Rattle.line_numbers.specs.Lines.{isSame, isSpace, wordStart, wordEnd, tokensFrom};
 
 // The tokens of negative numbers start here, those of letters there.
 pub const MINUS: u64 = 4294967296;
@@ -132,7 +134,9 @@ pub fn token_of(word: &[u8]) -> u64
 }
 
 // Whether a byte parts words: a space, a tab or a carriage return.
-fn is_space(b: u8) -> bool {
+fn is_space(b: u8) -> bool
+    ensures { λ r. ⌜ r ≡ isSpace b ⌝ }
+{
     if b == 32 {
         return true;
     }
@@ -145,6 +149,7 @@ fn is_space(b: u8) -> bool {
 // The place of the next word's first byte, or the line's end.
 pub fn word_start(line: &[u8], from: usize) -> usize
     requires { ⌜ from ≤ length (now line) ⌝ }
+    ensures { λ r. ⌜ r ≡ wordStart (now (line .entry)) from ⌝ }
     ensures { λ r. ⌜ (from ≤ r) × (r ≤ length (now (line .entry))) ⌝ }
 {
     let mut at = from;
@@ -160,6 +165,7 @@ pub fn word_start(line: &[u8], from: usize) -> usize
 // The place after a word's last byte.
 pub fn word_end(line: &[u8], from: usize) -> usize
     requires { ⌜ from ≤ length (now line) ⌝ }
+    ensures { λ r. ⌜ r ≡ wordEnd (now (line .entry)) from ⌝ }
     ensures { λ r. ⌜ (from ≤ r) × (r ≤ length (now (line .entry))) ⌝ }
 {
     let mut at = from;
@@ -176,6 +182,8 @@ pub fn word_end(line: &[u8], from: usize) -> usize
 // there is room for.
 pub fn cut(line: &[u8], from: usize, tokens: &mut [u64]) -> usize
     requires { ⌜ from ≤ length (now line) ⌝ }
+    ensures { λ r. ⌜ r ≡ length (tokensFrom (length (now (tokens .entry))) (now (line .entry)) from) ⌝ }
+    ensures { λ _. ⌜ now (tokens .exit) ≡ sets (now (tokens .entry)) 0 (tokensFrom (length (now (tokens .entry))) (now (line .entry)) from) ⌝ }
     ensures { λ r. ⌜ r ≤ length (now (tokens .exit)) ⌝ }
 {
     let mut at = from;
@@ -193,7 +201,9 @@ pub fn cut(line: &[u8], from: usize, tokens: &mut [u64]) -> usize
 }
 
 // Whether a word is this name.
-pub fn is_name(word: &[u8], name: &[u8]) -> bool {
+pub fn is_name(word: &[u8], name: &[u8]) -> bool
+    ensures { λ r. ⌜ r ≡ isSame (now (word .entry)) (now (name .entry)) ⌝ }
+{
     if word.len() != name.len() {
         return false;
     }

@@ -1,21 +1,22 @@
--- `line_numbers::cut` meets its contract: the places stay within the line, and no more tokens are put than there is room for.
+-- `line_numbers::cut` meets its contract. Invariant: the tokens put and those left make the whole.
 -- Assumes nothing.
-use lib.ListN.{length, length-set}
-use mathlib.Core.Path.{_≡_}
-use Prim.Native.Nat.{_+_, _*_, _-_, _≤_, _<_}
+use mathlib.Core.Path.{_≡_, refl, sym, ap, _∙_}
+use Prim.Native.Nat.{ℕ, _+_, _-_, _≤_, _<_}
 use native.Mathlib.Omega.{arith}
+use lib.ListN.{length, length-set}
+use Rattle.line_numbers.proofs.Lines.{StillTo, still-all, still-none, still-full, still-next-by}
 use borrow.Author.Needs.{needs}
 use Rattle.line_numbers.proofs.cut.Statement.{statement}
 use Rattle.line_numbers.proofs.cut.Tie as tie
 
 abbrev Inv-loop : tie.InvT-loop
-Inv-loop line from tokens₀ at₀ count₀ tokens at count = (at ≤ length line) × (count ≤ length tokens₀) × (length tokens ≡ length tokens₀)
+Inv-loop line from tokens₀ at₀ count₀ tokens at count = (at ≤ length line) × (count ≤ length tokens₀) × (length tokens ≡ length tokens₀) × StillTo line from tokens₀ tokens at count
 
 abbrev μ-loop : tie.MeasureT-loop
 μ-loop line from tokens₀ at₀ count₀ tokens at count = length tokens₀ - count
 
 loop-holds : tie.Need-loop-holds Inv-loop μ-loop
-loop-holds c = search needs
+loop-holds c = (search needs, search needs, refl, still-all _ _ _)
 
 word-start-requires : tie.Need-word-start-requires Inv-loop μ-loop
 word-start-requires c κs = search needs
@@ -24,7 +25,12 @@ same-length : tie.Need-same-length Inv-loop μ-loop
 same-length c = search needs
 
 returns : tie.Need-returns Inv-loop μ-loop
-returns c = search needs
+returns c =
+    let head = c .before .before .before .loop in
+    let entry = c .before .before .before .before .before .before .args in
+    let room : head .count < length (entry .tokens .now) = omega arith in
+    let last = still-none (entry .line .now) (entry .from) (entry .tokens .now) _ _ _ (head .inv .3) room (sym (c .before .word-start .ensures .0) ∙ c .if1 .taken) in
+    (last .0, (last .1, search needs))
 
 word-end-requires : tie.Need-word-end-requires Inv-loop μ-loop
 word-end-requires c κs = search needs
@@ -54,13 +60,28 @@ loop-less : tie.Need-loop-less Inv-loop μ-loop
 loop-less c = search needs
 
 loop-again : tie.Need-loop-again Inv-loop μ-loop
-loop-again c = (omega arith, omega arith, simp length-set (c .before .before .before .before .before .before .loop .inv .2))
+loop-again c =
+    let head = c .before .before .before .before .before .before .loop in
+    let entry = c .before .before .before .before .before .before .before .before .before .args in
+    let room : head .count < length (entry .tokens .now) = omega arith in (
+      omega arith,
+      omega arith,
+      simp length-set (head .inv .2),
+      still-next-by (entry .line .now) (entry .from) (entry .tokens .now) _ _ _ (head .inv .3) _ _ _
+          (c .before .before .before .before .word-start .ensures .0) (c .before .before .word-end .ensures .0) (c .token-of .ensures)
+          room (c .before .before .before .if1 .left),
+    )
 
 same-length-2 : tie.Need-same-length-2 Inv-loop μ-loop
 same-length-2 c = search needs
 
 returns-2 : tie.Need-returns-2 Inv-loop μ-loop
-returns-2 c = search needs
+returns-2 c =
+    let head = c .before .loop in
+    let entry = c .before .before .before .before .args in
+    let no-room : length (entry .tokens .now) ≤ head .count = omega arith in
+    let full = still-full (entry .line .now) (entry .from) (entry .tokens .now) _ _ _ (head .inv .3) no-room in
+    (full .0, (full .1, search needs))
 
 pub cut-spec : {M : Type 1} → statement M
 cut-spec =
