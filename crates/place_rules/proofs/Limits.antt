@@ -79,7 +79,7 @@ pub record PlaceLimits (f : ℕ → ℤ) : Type 0 where
 
 -- a test that holds for each of some things holds for all, and back
 module _ (test : ℕ → Bool) where
-  each-of-all : (n j k : ℕ) → j ≤ k → suc k ≤ j + n → allFrom test j n ≡ true → test k ≡ true
+  pub each-of-all : (n j k : ℕ) → j ≤ k → suc k ≤ j + n → allFrom test j n ≡ true → test k ≡ true
   unfolding allFrom
   each-of-all zero j k from to all = absurd (omega arith)
   each-of-all (suc n) j k from to all =
@@ -90,7 +90,7 @@ module _ (test : ℕ → Bool) where
       by-place zero at here later = let same : k ≡ j = omega arith in ap test same ∙ here
       by-place (suc d) at here later = later (omega arith)
 
-  all-of-each : (n j : ℕ) → ((k : ℕ) → j ≤ k → suc k ≤ j + n → test k ≡ true) → allFrom test j n ≡ true
+  pub all-of-each : (n j : ℕ) → ((k : ℕ) → j ≤ k → suc k ≤ j + n → test k ≡ true) → allFrom test j n ≡ true
   unfolding allFrom
   all-of-each zero j each = refl
   all-of-each (suc n) j each =
