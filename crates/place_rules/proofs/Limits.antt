@@ -1,0 +1,385 @@
+-- The numbers of a place within limits: by the tests of the numbers, and by `isLayer` and the check of the figure and the style that
+-- they are. The two are equal.
+-- Assumes nothing.
+use mathlib.Core.Path.{_≡_, refl, sym, ap, subst, _∙_}
+use mathlib.Core.Bool.{Bool, true, false, cond, _&&_, _||_, false≢true}
+use mathlib.Core.List.{List, [], _∷_}
+use Prim.Native.Nat.{ℕ, zero, suc, _+_, _-_, _≤_, _<_, _^_}
+use native.Mathlib.Omega.{arith}
+use borrow.Author.Tests.{le-ltb}
+use lib.IntN.{ℤ, pos, negsuc, natAbs}
+use lib.ListN.{length, take, drop}
+use lib.Signed.{leZ, ltZ, mag}
+use mir.Syntax.{w32}
+use mir.Val.{hbits}
+use Rattle.signed.specs.Signed.{floor0, Near}
+use Rattle.signed.proofs.Laws.{int, magnitude-law}
+use Rattle.refusal.specs.declared.Checked.{Checked}
+use Rattle.refusal.specs.declared.Checked.the-variants.{Passed, Refused}
+use Rattle.refusal.specs.Refusal.{orElse}
+use Rattle.refusal.proofs.Checks.{passed-first, passed-next}
+use Rattle.geometry.specs.Checks.{sizeCheck, positionCheck}
+use Rattle.geometry.proofs.Checks.{size-passed, position-passed}
+use Rattle.rectangle.specs.Calls.{rectangleCheck}
+use Rattle.corner_radii.specs.Bounds.{RadiiUpTo}
+use Rattle.corner_radii.specs.CornerRadii.{radiusCheck, radiiCheck}
+use Rattle.corner_radii.proofs.Checks.{radii-passed}
+use Rattle.figure.specs.Calls.{figureCheck, boxCheck}
+use Rattle.style.specs.Style.{styleCheck}
+use Rattle.style.proofs.StrokeWidths.{style-passed}
+use Rattle.book.specs.Sheet.{isAccepted}
+use Rattle.book.proofs.Tests.{and-true-parts, and-true-of, is-accepted-true, tests-equal}
+use Rattle.drawing.specs.Drawing.{answerOf, styledCheck}
+use Rattle.layers.proofs.LayerRules.{answer-passed}
+use Rattle.record_numbers.specs.RecordNumbers.{numberAt, listFrom, allFrom, within, noneNegative, isFigure, isStyle, sizeOf, rectangleOf, cornersOf, figureOf, styleOf}
+use Rattle.sheet_record.specs.SheetRecord.{isLayer, layerOf}
+use Rattle.place_rules.specs.PlaceRules.{radiusKept, highestRadius, radiiKept, figureKept, styleKept}
+
+-- ---- a list is its numbers
+from-numbers : (l : List ℤ) (f : ℕ → ℤ) (j n : ℕ) → length l ≡ n → ((k : ℕ) → numberAt l k ≡ f (k + j)) → l ≡ listFrom f j n
+unfolding listFrom
+from-numbers [] f j zero long at = refl
+from-numbers [] f j (suc n) long at = absurd (omega arith)
+from-numbers (v ∷ l) f j zero long at = absurd (omega arith)
+from-numbers (v ∷ l) f j (suc n) long at =
+    let first : 0 + j ≡ j = omega arith in
+    λ i. (at 0 ∙ ap f first) i ∷ from-numbers l f (suc j) n (omega arith) (λ k. at (suc k) ∙ ap f (omega arith)) i
+
+pub eighteen-numbers : (l : List ℤ) → length l ≡ 18 → l ≡ listFrom (numberAt l) 0 18
+eighteen-numbers l long = from-numbers l (numberAt l) 0 18 long (λ k. ap (numberAt l) (omega arith))
+
+-- ---- a number in its range
+abbrev pub Between : ℤ → ℤ → ℤ → Type 0
+Between low high v = (leZ low v ≡ true) × (leZ v high ≡ true)
+
+between : (low high v : ℤ) → within low high v ≡ true → Between low high v
+between low high v e = and-true-parts (leZ low v) (leZ v high) e
+
+-- a radius by its highest number: an i32 is never above the largest
+held-below : (v : ℤ) → mag v < 2 ^ hbits w32 → leZ v (pos 2147483647) ≡ true
+held-below (pos n) small = omega (arith, int)
+held-below (negsuc n) small = omega (arith, int)
+
+pub radius-by-highest : (any : Bool) (v : ℤ) → mag v < 2 ^ hbits w32 → within (pos 0) (highestRadius any) v ≡ radiusKept any v
+radius-by-highest true v small = rw (held-below v small)
+radius-by-highest false v small = refl
+
+-- ---- all numbers of a place in their ranges
+pub record PlaceLimits (f : ℕ → ℤ) : Type 0 where
+  pub kind : Between (pos 0) (pos 2) (f 0)
+  pub x : Between (negsuc 4095) (pos 4096) (f 1)
+  pub y : Between (negsuc 4095) (pos 4096) (f 2)
+  pub width : Between (pos 0) (pos 1024) (f 3)
+  pub height : Between (pos 0) (pos 1024) (f 4)
+  pub radii : (k : ℕ) → 5 ≤ k → k ≤ 12 → radiusKept (ltZ (f 0) (pos 1)) (f k) ≡ true
+  pub stroke : Between (negsuc 0) (pos 255) (f 13)
+  pub fill : Between (negsuc 0) (pos 255) (f 14)
+  pub stroke-width : Between (pos 0) (pos 256) (f 15)
+  pub alignment : Between (pos 0) (pos 2) (f 16)
+
+-- a test that holds for each of some things holds for all, and back
+module _ (test : ℕ → Bool) where
+  pub each-of-all : (n j k : ℕ) → j ≤ k → suc k ≤ j + n → allFrom test j n ≡ true → test k ≡ true
+  unfolding allFrom
+  each-of-all zero j k from to all = absurd (omega arith)
+  each-of-all (suc n) j k from to all =
+      let parts = and-true-parts (test j) (allFrom test (suc j) n) all in
+      by-place (k - j) refl (parts .0) (λ later. each-of-all n (suc j) k later (omega arith) (parts .1))
+    where
+      by-place : (d : ℕ) → k - j ≡ d → test j ≡ true → (suc j ≤ k → test k ≡ true) → test k ≡ true
+      by-place zero at here later = let same : k ≡ j = omega arith in ap test same ∙ here
+      by-place (suc d) at here later = later (omega arith)
+
+  pub all-of-each : (n j : ℕ) → ((k : ℕ) → j ≤ k → suc k ≤ j + n → test k ≡ true) → allFrom test j n ≡ true
+  unfolding allFrom
+  all-of-each zero j each = refl
+  all-of-each (suc n) j each =
+      and-true-of (each j (omega arith) (omega arith)) (all-of-each n (suc j) (λ k from to. each k (omega arith) (omega arith)))
+
+module _ (f : ℕ → ℤ) where
+  abbrev numbers : List ℤ
+  numbers = listFrom f 0 18
+
+  abbrev any : Bool
+  any = ltZ (f 0) (pos 1)
+
+  abbrev radius : ℕ → Bool
+  radius k = radiusKept any (f k)
+
+  -- ---- the tests of the numbers say that they are in their ranges, and back
+  abbrev k0 : Bool
+  k0 = within (pos 0) (pos 2) (f 0)
+
+  abbrev k1 : Bool
+  k1 = within (negsuc 4095) (pos 4096) (f 1)
+
+  abbrev k2 : Bool
+  k2 = within (negsuc 4095) (pos 4096) (f 2)
+
+  abbrev k3 : Bool
+  k3 = within (pos 0) (pos 1024) (f 3)
+
+  abbrev k4 : Bool
+  k4 = within (pos 0) (pos 1024) (f 4)
+
+  abbrev s13 : Bool
+  s13 = within (negsuc 0) (pos 255) (f 13)
+
+  abbrev s14 : Bool
+  s14 = within (negsuc 0) (pos 255) (f 14)
+
+  abbrev s15 : Bool
+  s15 = within (pos 0) (pos 256) (f 15)
+
+  abbrev s16 : Bool
+  s16 = within (pos 0) (pos 2) (f 16)
+
+  radii-are : radiiKept any numbers ≡ allFrom radius 5 8
+  unfolding radiiKept listFrom allFrom
+  radii-are = refl
+
+  figure-is : figureKept numbers ≡ (((((k0 && k1) && k2) && k3) && k4) && allFrom radius 5 8)
+  unfolding figureKept listFrom
+  figure-is = ap (λ (t : Bool). ((((k0 && k1) && k2) && k3) && k4) && t) radii-are
+
+  style-is : styleKept numbers ≡ (((s13 && s14) && s15) && s16)
+  unfolding styleKept listFrom
+  style-is = refl
+
+  pub limits-of-kept : (figureKept numbers && styleKept numbers) ≡ true → PlaceLimits f
+  limits-of-kept e =
+      let both = and-true-parts (figureKept numbers) (styleKept numbers) e in
+      let a5 = and-true-parts ((((k0 && k1) && k2) && k3) && k4) (allFrom radius 5 8) (sym figure-is ∙ both .0) in
+      let a4 = and-true-parts (((k0 && k1) && k2) && k3) k4 (a5 .0) in
+      let a3 = and-true-parts ((k0 && k1) && k2) k3 (a4 .0) in
+      let a2 = and-true-parts (k0 && k1) k2 (a3 .0) in
+      let a1 = and-true-parts k0 k1 (a2 .0) in
+      let b3 = and-true-parts ((s13 && s14) && s15) s16 (sym style-is ∙ both .1) in
+      let b2 = and-true-parts (s13 && s14) s15 (b3 .0) in
+      let b1 = and-true-parts s13 s14 (b2 .0) in
+      record {
+        kind = between (pos 0) (pos 2) (f 0) (a1 .0);
+        x = between (negsuc 4095) (pos 4096) (f 1) (a1 .1);
+        y = between (negsuc 4095) (pos 4096) (f 2) (a2 .1);
+        width = between (pos 0) (pos 1024) (f 3) (a3 .1);
+        height = between (pos 0) (pos 1024) (f 4) (a4 .1);
+        radii = λ k from to. each-of-all radius 8 5 k from (omega arith) (a5 .1);
+        stroke = between (negsuc 0) (pos 255) (f 13) (b1 .0);
+        fill = between (negsuc 0) (pos 255) (f 14) (b1 .1);
+        stroke-width = between (pos 0) (pos 256) (f 15) (b2 .1);
+        alignment = between (pos 0) (pos 2) (f 16) (b3 .1);
+      }
+
+  kept-of-limits : PlaceLimits f → (figureKept numbers && styleKept numbers) ≡ true
+  kept-of-limits l =
+      let a0 : k0 ≡ true = and-true-of (l .kind .0) (l .kind .1) in
+      let a1 : k1 ≡ true = and-true-of (l .x .0) (l .x .1) in
+      let a2 : k2 ≡ true = and-true-of (l .y .0) (l .y .1) in
+      let a3 : k3 ≡ true = and-true-of (l .width .0) (l .width .1) in
+      let a4 : k4 ≡ true = and-true-of (l .height .0) (l .height .1) in
+      let a5 : allFrom radius 5 8 ≡ true = all-of-each radius 8 5 (λ k from to. l .radii k from (omega arith)) in
+      let b13 : s13 ≡ true = and-true-of (l .stroke .0) (l .stroke .1) in
+      let b14 : s14 ≡ true = and-true-of (l .fill .0) (l .fill .1) in
+      let b15 : s15 ≡ true = and-true-of (l .stroke-width .0) (l .stroke-width .1) in
+      let b16 : s16 ≡ true = and-true-of (l .alignment .0) (l .alignment .1) in
+      and-true-of
+      (figure-is ∙ and-true-of (and-true-of (and-true-of (and-true-of (and-true-of a0 a1) a2) a3) a4) a5)
+      (style-is ∙ and-true-of (and-true-of (and-true-of b13 b14) b15) b16)
+
+  -- ---- they are a layer's
+  radius-sign : PlaceLimits f → (k : ℕ) → 5 ≤ k → k ≤ 12 → leZ (pos 0) (f k) ≡ true
+  radius-sign l k from to = and-true-parts (leZ (pos 0) (f k)) (any || leZ (f k) (pos 1024)) (l .radii k from to) .0
+
+  layer-of-limits : PlaceLimits f → isLayer numbers ≡ true
+  unfolding isFigure isStyle noneNegative listFrom
+  layer-of-limits l =
+      rw (l .kind .0, l .kind .1, l .width .0, l .height .0,
+          radius-sign l 5 (omega arith) (omega arith), radius-sign l 6 (omega arith) (omega arith),
+          radius-sign l 7 (omega arith) (omega arith), radius-sign l 8 (omega arith) (omega arith),
+          radius-sign l 9 (omega arith) (omega arith), radius-sign l 10 (omega arith) (omega arith),
+          radius-sign l 11 (omega arith) (omega arith), radius-sign l 12 (omega arith) (omega arith),
+          l .stroke .0, l .stroke .1, l .fill .0, l .fill .1, l .stroke-width .0, l .alignment .0, l .alignment .1)
+
+  -- ---- and their figure and style pass their checks
+  size-passes : PlaceLimits f → sizeCheck (sizeOf (f 3) (f 4)) ≡ Passed
+  unfolding sizeCheck
+  size-passes l =
+      let width = l .width in
+      let height = l .height in
+      let wide : floor0 (f 3) ≤ 1024 = omega (arith, int) in
+      let high : floor0 (f 4) ≤ 1024 = omega (arith, int) in
+      rw (le-ltb 1024 (floor0 (f 3)) wide, le-ltb 1024 (floor0 (f 4)) high)
+
+  position-passes : PlaceLimits f → positionCheck (record { x = f 1; y = f 2 }) ≡ Passed
+  unfolding positionCheck
+  position-passes l =
+      let at-x = l .x in
+      let at-y = l .y in
+      let x : natAbs (f 1) ≤ 4096 = omega (arith, int, magnitude-law (f 1)) in
+      let y : natAbs (f 2) ≤ 4096 = omega (arith, int, magnitude-law (f 2)) in
+      rw (le-ltb 4096 (natAbs (f 1)) x, le-ltb 4096 (natAbs (f 2)) y)
+
+  radius-small : PlaceLimits f → any ≡ false → (k : ℕ) → 5 ≤ k → k ≤ 12 → floor0 (f k) ≤ 1024
+  radius-small l box k from to =
+      let parts = and-true-parts (leZ (pos 0) (f k)) (any || leZ (f k) (pos 1024)) (l .radii k from to) in
+      let small : leZ (f k) (pos 1024) ≡ true = sym (ap (λ (t : Bool). t || leZ (f k) (pos 1024)) box) ∙ parts .1 in
+      omega (arith, int)
+
+  radii-pass : PlaceLimits f → any ≡ false → radiiCheck (cornersOf (take 13 numbers)) ≡ Passed
+  unfolding radiiCheck radiusCheck listFrom
+  radii-pass l box =
+      rw (le-ltb 1024 (floor0 (f 5)) (radius-small l box 5 (omega arith) (omega arith)),
+          le-ltb 1024 (floor0 (f 6)) (radius-small l box 6 (omega arith) (omega arith)),
+          le-ltb 1024 (floor0 (f 7)) (radius-small l box 7 (omega arith) (omega arith)),
+          le-ltb 1024 (floor0 (f 8)) (radius-small l box 8 (omega arith) (omega arith)),
+          le-ltb 1024 (floor0 (f 9)) (radius-small l box 9 (omega arith) (omega arith)),
+          le-ltb 1024 (floor0 (f 10)) (radius-small l box 10 (omega arith) (omega arith)),
+          le-ltb 1024 (floor0 (f 11)) (radius-small l box 11 (omega arith) (omega arith)),
+          le-ltb 1024 (floor0 (f 12)) (radius-small l box 12 (omega arith) (omega arith)))
+
+  style-passes : PlaceLimits f → styleCheck (layerOf numbers .style) ≡ Passed
+  unfolding styleCheck styleOf listFrom
+  style-passes l =
+      let width = l .stroke-width in
+      let thin : floor0 (f 15) ≤ 256 = omega (arith, int) in
+      rw (le-ltb 256 (floor0 (f 15)) thin)
+
+  checks-of-limits : PlaceLimits f → styledCheck (layerOf numbers .figure) (layerOf numbers .style) ≡ Passed
+  unfolding styledCheck figureOf rectangleCheck boxCheck listFrom
+  checks-of-limits l = by-kind any refl (ltZ (f 0) (pos 2)) refl
+    where
+      by-kind : (t : Bool) → any ≡ t → (s : Bool) → ltZ (f 0) (pos 2) ≡ s
+          → styledCheck (layerOf numbers .figure) (layerOf numbers .style) ≡ Passed
+      by-kind true e s d = rw (e, size-passes l, position-passes l) (style-passes l)
+      by-kind false e true d = rw (e, d, size-passes l, radii-pass l e, position-passes l) (style-passes l)
+      by-kind false e false d = rw (e, d, size-passes l, radii-pass l e, position-passes l) (style-passes l)
+
+  -- ---- and the other way round
+  abbrev signs : ℕ → ℕ → Bool
+  signs j n = noneNegative (listFrom f j n)
+
+  is-layer-by : isLayer numbers ≡ ((within (pos 0) (pos 2) (f 0) && signs 3 10) && (s13 && (s14 && (leZ (pos 0) (f 15) && s16))))
+  unfolding isFigure isStyle listFrom
+  is-layer-by = refl
+
+  sign-of : (n j k : ℕ) → j ≤ k → suc k ≤ j + n → signs j n ≡ true → leZ (pos 0) (f k) ≡ true
+  unfolding noneNegative listFrom
+  sign-of zero j k from to e = absurd (omega arith)
+  sign-of (suc n) j k from to e =
+      let parts = and-true-parts (leZ (pos 0) (f j)) (signs (suc j) n) e in
+      by-place (k - j) refl (parts .0) (λ later. sign-of n (suc j) k later (omega arith) (parts .1))
+    where
+      by-place : (d : ℕ) → k - j ≡ d → leZ (pos 0) (f j) ≡ true → (suc j ≤ k → leZ (pos 0) (f k) ≡ true) → leZ (pos 0) (f k) ≡ true
+      by-place zero at here later = let same : k ≡ j = omega arith in ap (λ (i : ℕ). leZ (pos 0) (f i)) same ∙ here
+      by-place (suc d) at here later = later (omega arith)
+
+  -- the limits of the figure, whatever its kind
+  record FigureChecked : Type 0 where
+    size : sizeCheck (sizeOf (f 3) (f 4)) ≡ Passed
+    position : positionCheck (record { x = f 1; y = f 2 }) ≡ Passed
+    radii : any ≡ false → radiiCheck (cornersOf (take 13 numbers)) ≡ Passed
+
+  figure-checked : figureCheck (layerOf numbers .figure) ≡ Passed → FigureChecked
+  unfolding figureOf rectangleCheck boxCheck listFrom
+  figure-checked passed = by-kind any refl (ltZ (f 0) (pos 2)) refl
+    where
+      size : Checked
+      size = sizeCheck (sizeOf (f 3) (f 4))
+
+      position : Checked
+      position = positionCheck (record { x = f 1; y = f 2 })
+
+      radii : Checked
+      radii = radiiCheck (cornersOf (take 13 numbers))
+
+      boxed : orElse (orElse size radii) position ≡ Passed → FigureChecked
+      boxed e =
+          let sizes = passed-first (orElse size radii) position e in
+          record { size = passed-first size radii sizes; position = passed-next (orElse size radii) position e; radii = λ _. passed-next size radii sizes }
+
+      by-kind : (t : Bool) → any ≡ t → (s : Bool) → ltZ (f 0) (pos 2) ≡ s → FigureChecked
+      by-kind true e s d =
+          let checked : orElse size position ≡ Passed = rw e at passed in
+          record { size = passed-first size position checked; position = passed-next size position checked; radii = λ box. absurd (false≢true (sym box ∙ e)) }
+      by-kind false e true d = boxed (rw (e, d) at passed)
+      by-kind false e false d = boxed (rw (e, d) at passed)
+
+  thin-stroke : layerOf numbers .style .«stroke_width» ≤ 256 → leZ (f 15) (pos 256) ≡ true
+  unfolding styleOf listFrom
+  thin-stroke thin = omega (arith, int)
+
+  -- each radius is one of the four corners'
+  corner-radius : (d : ℕ) → d ≤ 7 → RadiiUpTo 1024 (cornersOf (take 13 numbers)) → floor0 (f (5 + d)) ≤ 1024
+  unfolding listFrom
+  corner-radius zero few r = r .«top_left» .width
+  corner-radius (suc zero) few r = r .«top_left» .height
+  corner-radius (suc (suc zero)) few r = r .«top_right» .width
+  corner-radius (suc (suc (suc zero))) few r = r .«top_right» .height
+  corner-radius (suc (suc (suc (suc zero)))) few r = r .«bottom_right» .width
+  corner-radius (suc (suc (suc (suc (suc zero))))) few r = r .«bottom_right» .height
+  corner-radius (suc (suc (suc (suc (suc (suc zero)))))) few r = r .«bottom_left» .width
+  corner-radius (suc (suc (suc (suc (suc (suc (suc zero))))))) few r = r .«bottom_left» .height
+  corner-radius (suc (suc (suc (suc (suc (suc (suc (suc d)))))))) few r = absurd (omega arith)
+
+  small-radius : (k : ℕ) → 5 ≤ k → k ≤ 12 → RadiiUpTo 1024 (cornersOf (take 13 numbers)) → floor0 (f k) ≤ 1024
+  small-radius k from to r =
+      let same : 5 + (k - 5) ≡ k = omega arith in
+      subst (λ (j : ℕ). floor0 (f j) ≤ 1024) same (corner-radius (k - 5) (omega arith) r)
+
+  limits-of-layer : isLayer numbers ≡ true → styledCheck (layerOf numbers .figure) (layerOf numbers .style) ≡ Passed → PlaceLimits f
+  unfolding styledCheck
+  limits-of-layer layer passed =
+      let both = and-true-parts (within (pos 0) (pos 2) (f 0) && signs 3 10) (s13 && (s14 && (leZ (pos 0) (f 15) && s16))) (sym is-layer-by ∙ layer) in
+      let figure = and-true-parts (within (pos 0) (pos 2) (f 0)) (signs 3 10) (both .0) in
+      let a = and-true-parts s13 (s14 && (leZ (pos 0) (f 15) && s16)) (both .1) in
+      let b = and-true-parts s14 (leZ (pos 0) (f 15) && s16) (a .1) in
+      let c = and-true-parts (leZ (pos 0) (f 15)) s16 (b .1) in
+      let fig = figureCheck (layerOf numbers .figure) in
+      let sty = styleCheck (layerOf numbers .style) in
+      let checked = figure-checked (passed-first fig sty passed) in
+      let sign : (k : ℕ) → 3 ≤ k → k ≤ 12 → leZ (pos 0) (f k) ≡ true = λ k from to. sign-of 10 3 k from (omega arith) (figure .1) in
+      record {
+        kind = between (pos 0) (pos 2) (f 0) (figure .0);
+        x = near-between (f 1) (position-passed _ (checked .position) .x);
+        y = near-between (f 2) (position-passed _ (checked .position) .y);
+        width = (sign 3 (omega arith) (omega arith), small-side (f 3) (size-passed _ (checked .size) .width));
+        height = (sign 4 (omega arith) (omega arith), small-side (f 4) (size-passed _ (checked .size) .height));
+        radii = λ k from to. radius-kept k from to (sign k (omega arith) to) (checked .radii);
+        stroke = between (negsuc 0) (pos 255) (f 13) (a .0);
+        fill = between (negsuc 0) (pos 255) (f 14) (b .0);
+        stroke-width = (c .0, thin-stroke (style-passed (layerOf numbers .style) (passed-next fig sty passed)));
+        alignment = between (pos 0) (pos 2) (f 16) (c .1);
+      }
+    where
+      near-between : (v : ℤ) → Near 4096 v → Between (negsuc 4095) (pos 4096) v
+      near-between v near = (omega (arith, int), omega (arith, int))
+
+      small-side : (v : ℤ) → floor0 v ≤ 1024 → leZ v (pos 1024) ≡ true
+      small-side v small = omega (arith, int)
+
+      radius-kept : (k : ℕ) → 5 ≤ k → k ≤ 12 → leZ (pos 0) (f k) ≡ true
+          → (any ≡ false → radiiCheck (cornersOf (take 13 numbers)) ≡ Passed) → radiusKept any (f k) ≡ true
+      radius-kept k from to sign checked = by-kind any refl
+        where
+          by-kind : (t : Bool) → any ≡ t → radiusKept any (f k) ≡ true
+          by-kind true e = rw (sign, e)
+          by-kind false e = rw (sign, e) (small-side (f k) (small-radius k from to (radii-passed _ (checked e))))
+
+  kept-by-limits : (figureKept numbers && styleKept numbers)
+      ≡ (isLayer numbers && isAccepted (answerOf (styledCheck (layerOf numbers .figure) (layerOf numbers .style))))
+  kept-by-limits =
+      let check = styledCheck (layerOf numbers .figure) (layerOf numbers .style) in
+      tests-equal (figureKept numbers && styleKept numbers) (isLayer numbers && isAccepted (answerOf check))
+      (λ e. let l = limits-of-kept e in and-true-of (layer-of-limits l) (rw (checks-of-limits l)))
+      (λ e. let p = and-true-parts (isLayer numbers) (isAccepted (answerOf check)) e in
+      kept-of-limits (limits-of-layer (p .0) (answer-passed check (is-accepted-true (answerOf check) (p .1)))))
+
+-- ---- the same of any 18 numbers
+module _ (l : List ℤ) (long : length l ≡ 18) where
+  pub kept-is-layer : (figureKept l && styleKept l) ≡ (isLayer l && isAccepted (answerOf (styledCheck (layerOf l .figure) (layerOf l .style))))
+  kept-is-layer =
+      subst (λ (n : List ℤ). (figureKept n && styleKept n) ≡ (isLayer n && isAccepted (answerOf (styledCheck (layerOf n .figure) (layerOf n .style)))))
+      (sym (eighteen-numbers l long)) (kept-by-limits (numberAt l))
+
+  pub kept-limits : (figureKept l && styleKept l) ≡ true → PlaceLimits (numberAt l)
+  kept-limits e = limits-of-kept (numberAt l) (sym (ap (λ (n : List ℤ). figureKept n && styleKept n) (eighteen-numbers l long)) ∙ e)

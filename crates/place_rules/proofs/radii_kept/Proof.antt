@@ -1,0 +1,96 @@
+-- `place_rules::radii_kept` meets its contract. Invariant: what is found so far and what is asked of the radii that are left make what
+-- is asked of all.
+-- Assumes nothing.
+use mathlib.Core.Path.{_≡_, refl, sym, ap, ap₂, _∙_}
+use mathlib.Core.Bool.{Bool, true, false, _&&_}
+use mathlib.Core.List.{List}
+use Prim.Native.Nat.{ℕ, _+_, _-_, _≤_}
+use native.Mathlib.Omega.{arith}
+use borrow.Author.Needs.{needs}
+use lib.IntN.{ℤ, pos}
+use mir.Facts.{toZ-ofZ}
+use Rattle.record_numbers.specs.RecordNumbers.{numberAt, allFrom, within}
+use Rattle.record_numbers.proofs.Walks.{read-back, all-from-here, all-from-past}
+use Rattle.place_rules.specs.PlaceRules.{radiusKept, radiiKept}
+use Rattle.place_rules.proofs.Limits.{radius-by-highest}
+use Rattle.place_rules.proofs.Rules.{and-assoc}
+use Rattle.place_rules.proofs.radii_kept.Statement.{statement}
+use Rattle.place_rules.proofs.radii_kept.Tie as tie
+
+-- the test of the radius in place k
+abbrev test : List ℤ → Bool → ℕ → Bool
+test numbers any k = radiusKept any (numberAt numbers k)
+
+abbrev Inv-loop : tie.InvT-loop
+Inv-loop numbers any limit kept₀ k₀ kept k = (k ≤ 13) × ((kept && allFrom (λ j. radiusKept any (numberAt numbers j)) k (13 - k)) ≡ allFrom (λ j. radiusKept any (numberAt numbers j)) 5 8)
+
+abbrev μ-loop : tie.MeasureT-loop
+μ-loop numbers any limit kept₀ k₀ kept k = 13 - k
+
+and-true : (a : Bool) → (a && true) ≡ a
+and-true true = refl
+and-true false = refl
+
+highest-radius-requires : tie.Need-highest-radius-requires Inv-loop μ-loop
+highest-radius-requires c κs = search needs
+
+loop-holds : tie.Need-loop-holds Inv-loop μ-loop
+loop-holds c = (omega arith, refl)
+
+mul-is-within : tie.Need-mul-is-within Inv-loop μ-loop
+mul-is-within c = search needs
+
+shared-slice-copy-out-is-within : tie.Need-shared-slice-copy-out-is-within Inv-loop μ-loop
+shared-slice-copy-out-is-within c = omega arith
+
+is-within-requires : tie.Need-is-within-requires Inv-loop μ-loop
+is-within-requires c κs = search needs
+
+add-k : tie.Need-add-k Inv-loop μ-loop
+add-k c = search needs
+
+loop-less : tie.Need-loop-less Inv-loop μ-loop
+loop-less c = omega arith
+
+loop-again : tie.Need-loop-again Inv-loop μ-loop
+loop-again c =
+    let walk = c .before .before .before in
+    let limit = walk .before .highest-radius .ensures in
+    let a = walk .before .before .args in
+    let k = walk .loop .k in
+    let rest : Bool = allFrom (test (a .numbers .now) (a .any)) (k + 1) (13 - (k + 1)) in
+    let read = c .before .is-within-arg .given in
+    let here = c .is-within .ensures
+    ∙ ap₂ (within (pos 0)) (toZ-ofZ (limit .fits) ∙ limit .is) (read-back (a .numbers .now) k read)
+    ∙ radius-by-highest (a .any) (numberAt (a .numbers .now) k) read in (
+      omega arith,
+      and-assoc (walk .loop .kept) (c .is-within .result) rest
+          ∙ ap (λ (t : Bool). walk .loop .kept && (t && rest)) here
+          ∙ ap (λ (t : Bool). walk .loop .kept && t) (sym (all-from-here (test (a .numbers .now) (a .any)) 13 k (c .before .before .loop-test .taken)))
+          ∙ walk .loop .inv .1,
+    )
+
+returns : tie.Need-returns Inv-loop μ-loop
+unfolding radiiKept
+returns c =
+    let walk = c .before in
+    let a = walk .before .before .args in
+    sym (and-true (walk .loop .kept))
+    ∙ ap (λ (t : Bool). walk .loop .kept && t) (sym (all-from-past (test (a .numbers .now) (a .any)) 13 (walk .loop .k) (c .loop-test .left)))
+    ∙ walk .loop .inv .1
+
+pub radii-kept-spec : {M : Type 1} → statement M
+radii-kept-spec =
+    tie.close
+    (tie.spec
+    Inv-loop
+    μ-loop
+    highest-radius-requires
+    loop-holds
+    mul-is-within
+    shared-slice-copy-out-is-within
+    is-within-requires
+    add-k
+    loop-less
+    loop-again
+    returns)

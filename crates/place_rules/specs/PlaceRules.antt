@@ -1,0 +1,73 @@
+-- One place of a sheet's numbers by the tests and sums that the code makes on the numbers themselves. The laws of proofs/Limits.antt
+-- and proofs/Area.antt equate them with the definitions of `sheet_record`, `drawing` and `layers`.
+-- Assumes nothing.
+use mathlib.Core.Bool.{Bool, cond, _&&_, _||_}
+use mathlib.Core.List.{List}
+use Prim.Native.Nat.{ℕ, _+_, _-_, _*_}
+use lib.Dec.{eqb}
+use lib.IntN.{ℤ, pos, negsuc, _-ℤ_}
+use lib.Signed.{leZ, ltZ}
+use Rattle.signed.specs.Signed.{floor0}
+use Rattle.geometry.specs.Limits.{maxSide, maxRadius, maxStrokeWidth}
+use Rattle.ellipse_points.specs.Relative.{firstRowInside}
+use Rattle.style.specs.Style.{outsideWidth}
+use Rattle.book.specs.Sheet.{layerKeepsRules}
+use Rattle.drawing.specs.Drawing.{drawing}
+use Rattle.layers.specs.Layers.{layerOf as Layers·layerOf}
+use Rattle.record_numbers.specs.RecordNumbers.{numberAt, allFrom, within, alignmentOf}
+use Rattle.sheet_record.specs.SheetRecord.{isLayer, layerOf}
+
+-- ---- What is promised: the numbers are a layer's, and the layer keeps its own rules.
+abbrev pub placeKept : List ℤ → Bool
+placeKept numbers = isLayer numbers && layerKeepsRules drawing (Layers·layerOf (layerOf numbers))
+
+-- ---- Limits.
+
+-- a radius that is not negative, and within its limit unless any will do
+abbrev pub radiusKept : Bool → ℤ → Bool
+radiusKept any v = leZ (pos 0) v && (any || leZ v (pos maxRadius))
+
+-- the highest number that such a radius can be
+abbrev pub highestRadius : Bool → ℤ
+highestRadius any = cond any (pos 2147483647) (pos maxRadius)
+
+-- the eight numbers of a figure's radii
+unfoldable pub radiiKept : Bool → List ℤ → Bool
+radiiKept any numbers = allFrom (λ k. radiusKept any (numberAt numbers k)) 5 8
+
+-- the figure's numbers: kind, x and y, width and height, radii
+unfoldable pub figureKept : List ℤ → Bool
+figureKept numbers =
+    ((((within (pos 0) (pos 2) (numberAt numbers 0) && within (negsuc 4095) (pos 4096) (numberAt numbers 1))
+    && within (negsuc 4095) (pos 4096) (numberAt numbers 2)) && within (pos 0) (pos maxSide) (numberAt numbers 3))
+    && within (pos 0) (pos maxSide) (numberAt numbers 4)) && radiiKept (ltZ (numberAt numbers 0) (pos 1)) numbers
+
+-- the style's numbers: stroke, fill, stroke width, alignment
+unfoldable pub styleKept : List ℤ → Bool
+styleKept numbers =
+    ((within (negsuc 0) (pos 255) (numberAt numbers 13) && within (negsuc 0) (pos 255) (numberAt numbers 14))
+    && within (pos 0) (pos maxStrokeWidth) (numberAt numbers 15)) && within (pos 0) (pos 2) (numberAt numbers 16)
+
+-- ---- Rows.
+
+-- how far the top of a stroke area lies above that of a figure: the outside width, and one less where the figure has no height
+abbrev pub rowsAbove : ℕ → ℕ → ℕ
+rowsAbove height outside = cond (eqb height 0) (outside - 1) outside
+
+-- how many rows a stroke area has that is so wide and so high: an ellipse all or none
+abbrev pub strokeCount : Bool → ℕ → ℕ → ℕ
+strokeCount ellipse w h = cond ellipse (cond (firstRowInside w h) h 0) h
+
+-- the outside width of a place's stroke
+abbrev pub outsideOf : List ℤ → ℕ
+outsideOf numbers = outsideWidth (alignmentOf (numberAt numbers 16)) (floor0 (numberAt numbers 15))
+
+-- the first row of a place's layer
+abbrev pub firstRowOf : List ℤ → ℤ
+firstRowOf numbers = numberAt numbers 2 -ℤ pos (rowsAbove (floor0 (numberAt numbers 4)) (outsideOf numbers))
+
+-- how many rows it has
+abbrev pub countOf : List ℤ → ℕ
+countOf numbers =
+    strokeCount (ltZ (numberAt numbers 0) (pos 1)) (floor0 (numberAt numbers 3) + 2 * outsideOf numbers)
+    (floor0 (numberAt numbers 4) + 2 * outsideOf numbers)

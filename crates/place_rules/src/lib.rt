@@ -1,0 +1,170 @@
+// One place of a sheet that a host keeps as numbers: whether it holds a layer that keeps its own rules,
+// and that layer's rows. The tests are made on the numbers themselves, and no layer is made of them.
+use ellipse::EllipseContains;
+use ellipse_points::has_rows;
+use geometry::Size;
+use layer_rows::LayerRows;
+use layers::RowsFound;
+use record_numbers::is_within;
+ghost use mathlib.Core.Path.{_≡_};
+ghost use mathlib.Core.Bool.{true, cond, _&&_};
+ghost use Prim.Native.Nat.{ℕ, _+_, _*_, _≤_};
+ghost use lib.IntN.{pos, _-ℤ_};
+ghost use lib.ListN.{length};
+ghost use Rattle.signed.specs.Signed.{Near, Is, floor0 as Signed·floor0};
+ghost use Rattle.ellipse_points.specs.Relative.{firstRowInside};
+ghost use Rattle.corner.specs.Bounds.{wideStrokeSide};
+ghost use Rattle.figure.specs.Bounds.{wideOffset, wideOwnSide, widePosition, wideAreaPosition};
+ghost use Rattle.style.specs.Style.{outsideWidth};
+ghost use Rattle.record_numbers.specs.RecordNumbers.{alignmentOf};
+ghost use Rattle.layer_rows.proofs.RowTests.{RowsFit};
+ghost use Rattle.layers.specs.declared.RowsFound.the-variants as rows-found;
+ghost use Rattle.layers.specs.Layers.{layerRows};
+ghost use Rattle.sheet_record.specs.SheetRecord.{layerLength, layerOf};
+ghost use Rattle.place_rules.specs.PlaceRules.{highestRadius, radiiKept, figureKept, styleKept, rowsAbove, strokeCount, firstRowOf, placeKept};
+
+// The highest number of a radius. That of an ellipse is not looked at.
+fn highest_radius(any: bool) -> i32
+    ensures { λ r. ⌜ Is (highestRadius any) r ⌝ }
+{
+    if any { 2147483647 } else { 1024 }
+}
+
+// Whether a figure's radii are within limits, whatever they are where any will do. No test ends the
+// loop, so that several are made at a time.
+fn radii_kept(numbers: &[i32], any: bool) -> bool
+    requires { ⌜ length (now numbers) ≡ layerLength ⌝ }
+    ensures { λ r. ⌜ r ≡ radiiKept any (now (numbers .entry)) ⌝ }
+{
+    let limit = highest_radius(any);
+    let mut kept = true;
+    let mut k: usize = 5;
+    while k < 13 {
+        kept = kept & is_within(0, limit, numbers[k]);
+        k += 1;
+    }
+    kept
+}
+
+// Whether the numbers are a figure's within limits.
+fn figure_kept(numbers: &[i32]) -> bool
+    requires { ⌜ length (now numbers) ≡ layerLength ⌝ }
+    ensures { λ r. ⌜ r ≡ figureKept (now (numbers .entry)) ⌝ }
+{
+    is_within(0, 2, numbers[0])
+        & is_within(-4096, 4096, numbers[1])
+        & is_within(-4096, 4096, numbers[2])
+        & is_within(0, 1024, numbers[3])
+        & is_within(0, 1024, numbers[4])
+        & radii_kept(numbers, numbers[0] < 1)
+}
+
+// Whether the numbers are a style's within limits.
+fn style_kept(numbers: &[i32]) -> bool
+    requires { ⌜ length (now numbers) ≡ layerLength ⌝ }
+    ensures { λ r. ⌜ r ≡ styleKept (now (numbers .entry)) ⌝ }
+{
+    is_within(-1, 255, numbers[13])
+        & is_within(-1, 255, numbers[14])
+        & is_within(0, 256, numbers[15])
+        & is_within(0, 2, numbers[16])
+}
+
+// How much of a stroke of this width lies outside the outline, by the alignment's number.
+fn outside_width(width: i32, alignment: i32) -> u32
+    ensures { λ r. ⌜ r ≡ outsideWidth (alignmentOf alignment) (Signed·floor0 width) ⌝ }
+{
+    if alignment < 1 {
+        return 0;
+    }
+    if alignment < 2 {
+        return signed::floor0(width) / 2;
+    }
+    signed::floor0(width)
+}
+
+// How far a stroke area's top lies above that of a figure of this height.
+fn rows_above(height: u32, outside: u32) -> u32
+    ensures { λ r. ⌜ r ≡ rowsAbove height outside ⌝ }
+{
+    if height == 0 {
+        return if outside == 0 { 0 } else { outside - 1 };
+    }
+    outside
+}
+
+// The top of a stroke area, by that of its figure.
+fn area_top(top: i32, height: u32, outside: u32) -> i32
+    requires { ⌜ Near widePosition top × (outside ≤ wideOffset) ⌝ }
+    ensures { λ r. ⌜ Is (top -ℤ pos (rowsAbove height outside)) r ⌝ }
+    ensures { λ r. ⌜ Near wideAreaPosition r ⌝ }
+{
+    signed::sub(top, signed::from_u32(rows_above(height, outside)))
+}
+
+// How many rows the stroke area of an ellipse or of a box has.
+fn area_rows(ellipse: bool, width: u32, height: u32, outside: u32) -> u32
+    requires { ⌜ (width ≤ wideOwnSide) × (height ≤ wideOwnSide) × (outside ≤ wideOffset) ⌝ }
+    ensures { λ r. ⌜ r ≡ strokeCount ellipse (width + 2 * outside) (height + 2 * outside) ⌝ }
+    ensures { λ r. ⌜ r ≤ wideStrokeSide ⌝ }
+{
+    let high = height + 2 * outside;
+    if ellipse {
+        let size = Size {
+            width: width + 2 * outside,
+            height: high,
+        };
+        if !has_rows(EllipseContains::new(size), size) {
+            return 0;
+        }
+    }
+    high
+}
+
+// The first row of the layer in a place, whose figure and style are within limits.
+pub fn first_row(numbers: &[i32]) -> i32
+    requires { ⌜ length (now numbers) ≡ layerLength ⌝ }
+    requires { ⌜ (figureKept (now numbers) && styleKept (now numbers)) ≡ true ⌝ }
+    ensures { λ r. ⌜ Is (firstRowOf (now (numbers .entry))) r ⌝ }
+{
+    area_top(
+        numbers[2],
+        signed::floor0(numbers[4]),
+        outside_width(numbers[15], numbers[16]),
+    )
+}
+
+// The rows of the layer in a place, whose figure and style are within limits.
+fn rows_within(numbers: &[i32]) -> LayerRows
+    requires { ⌜ length (now numbers) ≡ layerLength ⌝ }
+    requires { ⌜ (figureKept (now numbers) && styleKept (now numbers)) ≡ true ⌝ }
+    ensures { λ r. ⌜ (r ≡ layerRows (layerOf (now (numbers .entry)))) × RowsFit r ⌝ }
+{
+    let height = signed::floor0(numbers[4]);
+    let outside = outside_width(numbers[15], numbers[16]);
+    let first = area_top(numbers[2], height, outside);
+    let count = area_rows(numbers[0] < 1, signed::floor0(numbers[3]), height, outside);
+    LayerRows {
+        first: first,
+        next: numbers[17],
+        end: signed::add(first, signed::from_u32(count)),
+    }
+}
+
+// The rows of the layer in a place, if the numbers are a layer's that keeps its own rules.
+pub fn place_rows(numbers: &[i32]) -> RowsFound
+    requires { ⌜ length (now numbers) ≡ layerLength ⌝ }
+    ensures { λ r. ⌜ r ≡ cond (placeKept (now (numbers .entry))) (rows-found.Kept (layerRows (layerOf (now (numbers .entry))))) rows-found.Broken ⌝ }
+{
+    if !(figure_kept(numbers) & style_kept(numbers)) {
+        return RowsFound::Broken;
+    }
+    let rows = rows_within(numbers);
+    if rows.next < rows.first {
+        return RowsFound::Broken;
+    }
+    if rows.end < rows.next {
+        return RowsFound::Broken;
+    }
+    RowsFound::Kept(rows)
+}
