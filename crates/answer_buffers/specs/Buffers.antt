@@ -1,8 +1,13 @@
--- How much of its own frame an answer lends.
+-- How much of its own frame an answer lends, and how a canvas is filled before.
 -- Assumes nothing.
-use mathlib.Core.Bool.{cond}
-use Prim.Native.Nat.{ℕ, _*_}
+use mathlib.Core.Bool.{Bool, cond}
+use mathlib.Core.List.{List, [], _∷_}
+use Prim.Native.Nat.{ℕ, zero, suc, _+_, _*_, _%_}
+use Prim.Native.Char.{code}
 use lib.Dec.{leb, ltb}
+use lib.ListN.{length}
+use Rattle.query_records.specs.Queries.{plus, tokenAt, isLetter, u32At, formEnd}
+use Rattle.answer_text.specs.Text.{bytes}
 
 -- a length that is lent: the one asked for, and none where it is too large
 unfoldable pub lentLength : ℕ → ℕ → ℕ
@@ -11,3 +16,27 @@ lentLength asked most = cond (leb asked most) asked 0
 -- the bytes of a canvas with sides within the limit of 1024, and 0 for others
 unfoldable pub canvasArea : ℕ → ℕ → ℕ
 canvasArea W H = cond (ltb 1024 W) 0 (cond (ltb 1024 H) 0 (W * H))
+
+-- what is said of a canvas, list or file that is too large for the program
+abbrev pub tooLargeText : List ℕ
+tooLargeText = bytes "error larger than the buffers of this program"
+
+-- the bytes of a canvas with a seed, n of them from the i-th on: byte i is (seed + 37 i) mod 256
+unfoldable pub seededFrom : ℕ → ℕ → ℕ → List ℕ
+seededFrom seed i zero = []
+seededFrom seed i (suc n) = (seed + 37 * i) % 256 ∷ seededFrom seed (i + 1) n
+
+abbrev pub seeded : ℕ → ℕ → List ℕ
+seeded seed n = seededFrom seed 0 n
+
+-- whether `b SEED` stands at a place
+unfoldable pub isSeed : List ℕ → ℕ → Bool
+isSeed tokens at = isLetter (tokenAt tokens at) (code "b")
+
+-- a canvas filled, where a seed stands at a place
+unfoldable pub filled : List ℕ → ℕ → List ℕ → List ℕ
+filled tokens at canvas = cond (isSeed tokens at) (seeded (u32At tokens (plus at 1)) (length canvas)) canvas
+
+-- the place after the seed, where one stands
+unfoldable pub seedEnd : List ℕ → ℕ → ℕ
+seedEnd tokens at = cond (isSeed tokens at) (formEnd tokens at (bytes "bu")) at

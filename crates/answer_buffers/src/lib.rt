@@ -7,13 +7,17 @@ use query_records::plus;
 use query_records::token;
 use query_records::u32_at;
 ghost use mathlib.Core.Path.{_≡_};
-ghost use Prim.Native.Nat.{_≤_};
-ghost use Rattle.answer_buffers.specs.Buffers.{lentLength, canvasArea};
+ghost use Prim.Native.Nat.{_%_, _≤_};
+ghost use lib.ListN.{length};
+ghost use Rattle.answer_text.specs.Text.{Puts};
+ghost use Rattle.answer_buffers.specs.Buffers.{lentLength, canvasArea, tooLargeText, seeded, isSeed, filled, seedEnd};
 
 // The bytes of a canvas.
 pub const CANVAS: usize = 36864;
 
-pub fn put_too_large(out: &mut [u8], at: usize) -> usize {
+pub fn put_too_large(out: &mut [u8], at: usize) -> usize
+    ensures { λ r. ⌜ Puts (now (out .entry)) at tooLargeText (now (out .exit)) r ⌝ }
+{
     put_text(out, at, b"error larger than the buffers of this program")
 }
 
@@ -35,12 +39,21 @@ pub fn long(n: u32) -> usize
     n as usize
 }
 
-// Byte i is (seed + 37 i) mod 256, and 0 without a seed.
-pub fn fill(canvas: &mut [u8], seed: u32) {
+// The lowest byte of a number.
+fn low_byte(value: u32) -> u8
+    ensures { λ r. ⌜ r ≡ value % 256 ⌝ }
+{
+    (value % 256) as u8
+}
+
+// Byte i is (seed + 37 i) mod 256.
+pub fn fill(canvas: &mut [u8], seed: u32)
+    ensures { λ _. ⌜ now (canvas .exit) ≡ seeded seed (length (now (canvas .entry))) ⌝ }
+{
     let mut value = seed % 256;
     let mut i: usize = 0;
     while i < canvas.len() {
-        canvas[i] = (value % 256) as u8;
+        canvas[i] = low_byte(value);
         value = value % 256 + 37;
         i += 1;
     }
@@ -59,16 +72,27 @@ pub fn area(width: u32, height: u32) -> usize
     long(width) * long(height)
 }
 
+// Whether 'b SEED' stands at a place.
+fn is_seed(tokens: &[u64], at: usize) -> bool
+    ensures { λ r. ⌜ r ≡ isSeed (now (tokens .entry)) at ⌝ }
+{
+    is_letter(token(tokens, at), b'b')
+}
+
 // Fills a canvas where a seed is given.
-pub fn fill_seeded(canvas: &mut [u8], tokens: &[u64], at: usize) {
-    if is_letter(token(tokens, at), b'b') {
+pub fn fill_seeded(canvas: &mut [u8], tokens: &[u64], at: usize)
+    ensures { λ _. ⌜ now (canvas .exit) ≡ filled (now (tokens .entry)) at (now (canvas .entry)) ⌝ }
+{
+    if is_seed(tokens, at) {
         fill(canvas, u32_at(tokens, plus(at, 1)));
     }
 }
 
 // The place after 'b SEED', where it stands.
-pub fn seed_end(tokens: &[u64], at: usize) -> usize {
-    if is_letter(token(tokens, at), b'b') {
+pub fn seed_end(tokens: &[u64], at: usize) -> usize
+    ensures { λ r. ⌜ r ≡ seedEnd (now (tokens .entry)) at ⌝ }
+{
+    if is_seed(tokens, at) {
         return form_end(tokens, at, b"bu");
     }
     at

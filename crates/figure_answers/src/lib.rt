@@ -6,6 +6,7 @@ use answer_records::put_range;
 use answer_records::put_rectangle;
 use answer_records::put_refused;
 use answer_records::put_usage;
+use answer_text::put_byte;
 use answer_text::put_next;
 use answer_text::put_number;
 use answer_text::put_text;
@@ -25,14 +26,25 @@ use query_records::point_at;
 use query_records::size_at;
 use rectangle::Rectangle;
 use scanline::Row;
+ghost use mathlib.Core.List.{[], _∷_, _++_};
+ghost use Rattle.refusal.specs.Refusal.{answered};
+ghost use Rattle.rectangle.specs.Calls.{rectangleValues};
+ghost use Rattle.figure.specs.Calls.{flag, sizeValues, radiiValues, figureValues, rowValues, containsOutcome, rowOutcome, figureOutcome, radiiOutcome};
+ghost use Rattle.answer_text.specs.Text.{nextTexts, Puts};
+ghost use Rattle.answer_records.specs.Answers.{valuesText, outcomeText, Answers};
+ghost use Rattle.figure_answers.specs.Queries.{withoutKind, noRowText, noRadiiText, containsText, rowText, offsetText, confineText, ellipseCenterText, otherSaid, answerSaid};
 
-fn put_next_size(out: &mut [u8], at: usize, size: Size) -> usize {
+fn put_next_size(out: &mut [u8], at: usize, size: Size) -> usize
+    ensures { λ r. ⌜ Puts (now (out .entry)) at (nextTexts (sizeValues size)) (now (out .exit)) r ⌝ }
+{
     let place = put_next(out, at, size.width);
     put_next(out, place, size.height)
 }
 
 // Eight radii, the first of them without a space before it.
-fn put_radii(out: &mut [u8], at: usize, corners: CornerRadii) -> usize {
+fn put_radii(out: &mut [u8], at: usize, corners: CornerRadii) -> usize
+    ensures { λ r. ⌜ Puts (now (out .entry)) at (valuesText (radiiValues corners)) (now (out .exit)) r ⌝ }
+{
     let first = corners.top_left;
     let second = corners.top_right;
     let third = corners.bottom_right;
@@ -44,13 +56,17 @@ fn put_radii(out: &mut [u8], at: usize, corners: CornerRadii) -> usize {
     put_next_size(out, bottom_right, fourth)
 }
 
-fn put_box(out: &mut [u8], at: usize, rectangle: Rectangle, corners: CornerRadii) -> usize {
+fn put_box(out: &mut [u8], at: usize, rectangle: Rectangle, corners: CornerRadii) -> usize
+    ensures { λ r. ⌜ Puts (now (out .entry)) at (valuesText (rectangleValues rectangle ++ radiiValues corners)) (now (out .exit)) r ⌝ }
+{
     let place = put_rectangle(out, at, rectangle);
-    let spaced = put_text(out, place, b" ");
+    let spaced = put_byte(out, place, b' ');
     put_radii(out, spaced, corners)
 }
 
-fn put_figure(out: &mut [u8], at: usize, figure: Figure) -> usize {
+fn put_figure(out: &mut [u8], at: usize, figure: Figure) -> usize
+    ensures { λ r. ⌜ Puts (now (out .entry)) at (outcomeText [] (withoutKind (answered (figureValues figure)))) (now (out .exit)) r ⌝ }
+{
     match figure {
         Figure::Ellipse(rectangle) => put_rectangle(out, at, rectangle),
         Figure::CrateBox(b) => {
@@ -66,57 +82,52 @@ fn put_figure(out: &mut [u8], at: usize, figure: Figure) -> usize {
     }
 }
 
-fn put_figure_answer(out: &mut [u8], at: usize, answer: FigureAnswer) -> usize {
+fn put_figure_answer(out: &mut [u8], at: usize, answer: FigureAnswer) -> usize
+    ensures { λ r. ⌜ Puts (now (out .entry)) at (outcomeText [] (withoutKind (figureOutcome answer))) (now (out .exit)) r ⌝ }
+{
     match answer {
         FigureAnswer::Refused(refusal) => put_refused(out, at, refusal),
         FigureAnswer::Answered(figure) => put_figure(out, at, figure),
     }
 }
 
-fn contains(tokens: &[u64], out: &mut [u8], at: usize) -> usize {
-    if !fits(tokens, b"fii") {
-        return put_usage(out, at, b"FIGURE px py");
-    }
-    let point = point_at(tokens, figure_words(tokens, 0));
-    let answer = figure_at(tokens, 0).contains(point);
+// 1 or 0, as the one value of an answer.
+fn put_flag(out: &mut [u8], at: usize, holds: bool) -> usize
+    ensures { λ r. ⌜ Puts (now (out .entry)) at (valuesText (flag holds ∷ [])) (now (out .exit)) r ⌝ }
+{
+    put_bool(out, at, holds)
+}
+
+fn put_contains_answer(out: &mut [u8], at: usize, answer: ContainsAnswer) -> usize
+    ensures { λ r. ⌜ Puts (now (out .entry)) at (outcomeText [] (containsOutcome answer)) (now (out .exit)) r ⌝ }
+{
     match answer {
         ContainsAnswer::Refused(refusal) => put_refused(out, at, refusal),
-        ContainsAnswer::Answered(holds) => put_bool(out, at, holds),
+        ContainsAnswer::Answered(holds) => put_flag(out, at, holds),
     }
 }
 
-fn put_row(out: &mut [u8], at: usize, row: Row) -> usize {
+fn put_row(out: &mut [u8], at: usize, row: Row) -> usize
+    ensures { λ r. ⌜ Puts (now (out .entry)) at (outcomeText noRowText (answered (rowValues row))) (now (out .exit)) r ⌝ }
+{
     match row {
         Row::NoRow => put_text(out, at, b"none"),
         Row::Run(run) => put_range(out, at, run),
     }
 }
 
-fn row(tokens: &[u64], out: &mut [u8], at: usize) -> usize {
-    if !fits(tokens, b"fi") {
-        return put_usage(out, at, b"FIGURE y");
-    }
-    let y = i32_at(tokens, figure_words(tokens, 0));
-    let answer = figure_at(tokens, 0).row(y);
+fn put_row_answer(out: &mut [u8], at: usize, answer: RowAnswer) -> usize
+    ensures { λ r. ⌜ Puts (now (out .entry)) at (outcomeText noRowText (rowOutcome answer)) (now (out .exit)) r ⌝ }
+{
     match answer {
         RowAnswer::Refused(refusal) => put_refused(out, at, refusal),
         RowAnswer::Answered(found) => put_row(out, at, found),
     }
 }
 
-fn offset(tokens: &[u64], out: &mut [u8], at: usize) -> usize {
-    if !fits(tokens, b"fi") {
-        return put_usage(out, at, b"FIGURE k");
-    }
-    let k = i32_at(tokens, figure_words(tokens, 0));
-    put_figure_answer(out, at, figure_at(tokens, 0).offset(k))
-}
-
-fn confine(tokens: &[u64], out: &mut [u8], at: usize) -> usize {
-    if !fits(tokens, b"f") {
-        return put_usage(out, at, b"FIGURE");
-    }
-    let answer = figure_at(tokens, 0).confined_radii();
+fn put_radii_answer(out: &mut [u8], at: usize, answer: RadiiAnswer) -> usize
+    ensures { λ r. ⌜ Puts (now (out .entry)) at (outcomeText noRadiiText (radiiOutcome answer)) (now (out .exit)) r ⌝ }
+{
     match answer {
         RadiiAnswer::Refused(refusal) => put_refused(out, at, refusal),
         RadiiAnswer::NoCorners => put_text(out, at, b"n/a"),
@@ -124,7 +135,52 @@ fn confine(tokens: &[u64], out: &mut [u8], at: usize) -> usize {
     }
 }
 
-fn ellipse_center(tokens: &[u64], out: &mut [u8], at: usize) -> usize {
+fn contains(tokens: &[u64], out: &mut [u8], at: usize) -> usize
+    ensures { λ r. ⌜ Puts (now (out .entry)) at (containsText (now (tokens .entry))) (now (out .exit)) r ⌝ }
+{
+    if !fits(tokens, b"fii") {
+        return put_usage(out, at, b"FIGURE px py");
+    }
+    let point = point_at(tokens, figure_words(tokens, 0));
+    let answer = figure_at(tokens, 0).contains(point);
+    put_contains_answer(out, at, answer)
+}
+
+fn row(tokens: &[u64], out: &mut [u8], at: usize) -> usize
+    ensures { λ r. ⌜ Puts (now (out .entry)) at (rowText (now (tokens .entry))) (now (out .exit)) r ⌝ }
+{
+    if !fits(tokens, b"fi") {
+        return put_usage(out, at, b"FIGURE y");
+    }
+    let y = i32_at(tokens, figure_words(tokens, 0));
+    let answer = figure_at(tokens, 0).row(y);
+    put_row_answer(out, at, answer)
+}
+
+fn offset(tokens: &[u64], out: &mut [u8], at: usize) -> usize
+    ensures { λ r. ⌜ Puts (now (out .entry)) at (offsetText (now (tokens .entry))) (now (out .exit)) r ⌝ }
+{
+    if !fits(tokens, b"fi") {
+        return put_usage(out, at, b"FIGURE k");
+    }
+    let k = i32_at(tokens, figure_words(tokens, 0));
+    let answer = figure_at(tokens, 0).offset(k);
+    put_figure_answer(out, at, answer)
+}
+
+fn confine(tokens: &[u64], out: &mut [u8], at: usize) -> usize
+    ensures { λ r. ⌜ Puts (now (out .entry)) at (confineText (now (tokens .entry))) (now (out .exit)) r ⌝ }
+{
+    if !fits(tokens, b"f") {
+        return put_usage(out, at, b"FIGURE");
+    }
+    let answer = figure_at(tokens, 0).confined_radii();
+    put_radii_answer(out, at, answer)
+}
+
+fn ellipse_center(tokens: &[u64], out: &mut [u8], at: usize) -> usize
+    ensures { λ r. ⌜ Puts (now (out .entry)) at (ellipseCenterText (now (tokens .entry))) (now (out .exit)) r ⌝ }
+{
     if !fits(tokens, b"iiuu") {
         return put_usage(out, at, b"cx cy w h");
     }
@@ -133,7 +189,9 @@ fn ellipse_center(tokens: &[u64], out: &mut [u8], at: usize) -> usize {
 }
 
 // Queries that are answered by a figure or its radii.
-fn other_query(word: &[u8], tokens: &[u64], out: &mut [u8], at: usize) -> usize {
+fn other_query(word: &[u8], tokens: &[u64], out: &mut [u8], at: usize) -> usize
+    ensures { λ r. ⌜ Answers (otherSaid (now (word .entry)) (now (tokens .entry))) (now (out .entry)) at (now (out .exit)) r ⌝ }
+{
     if is_name(word, b"offset") {
         return offset(tokens, out, at);
     }
@@ -147,7 +205,9 @@ fn other_query(word: &[u8], tokens: &[u64], out: &mut [u8], at: usize) -> usize 
 }
 
 // The answer to a query of this crate, or NO_QUERY where the word names none.
-pub fn answer(word: &[u8], tokens: &[u64], out: &mut [u8], at: usize) -> usize {
+pub fn answer(word: &[u8], tokens: &[u64], out: &mut [u8], at: usize) -> usize
+    ensures { λ r. ⌜ Answers (answerSaid (now (word .entry)) (now (tokens .entry))) (now (out .entry)) at (now (out .exit)) r ⌝ }
+{
     if is_name(word, b"contains") {
         return contains(tokens, out, at);
     }

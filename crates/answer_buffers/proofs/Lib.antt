@@ -1,0 +1,3 @@
+-- A canvas filled byte by byte.
+-- Assumes nothing.
+pub mod Filling

@@ -1,0 +1,3 @@
+-- Answers made of texts that are put.
+-- Assumes nothing.
+pub mod Answering
