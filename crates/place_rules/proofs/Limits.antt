@@ -33,7 +33,16 @@ use Rattle.drawing.specs.Drawing.{answerOf, styledCheck}
 use Rattle.layers.proofs.LayerRules.{answer-passed}
 use Rattle.record_numbers.specs.RecordNumbers.{numberAt, listFrom, allFrom, within, noneNegative, isFigure, isStyle, sizeOf, rectangleOf, cornersOf, figureOf, styleOf}
 use Rattle.sheet_record.specs.SheetRecord.{isLayer, layerOf}
-use Rattle.place_rules.specs.PlaceRules.{radiusKept, highestRadius, radiiKept, figureKept, styleKept}
+use Rattle.place_rules.specs.PlaceRules.{radiusKept, highestRadius, radiiKept, rectangleKept, figureKept, styleKept}
+
+-- ---- tests joined
+pub and-assoc : (a b c : Bool) → ((a && b) && c) ≡ (a && (b && c))
+and-assoc true b c = refl
+and-assoc false b c = refl
+
+pub and-true : (a : Bool) → (a && true) ≡ a
+and-true true = refl
+and-true false = refl
 
 -- ---- a list is its numbers
 from-numbers : (l : List ℤ) (f : ℕ → ℤ) (j n : ℕ) → length l ≡ n → ((k : ℕ) → numberAt l k ≡ f (k + j)) → l ≡ listFrom f j n
@@ -139,7 +148,7 @@ module _ (f : ℕ → ℤ) where
   radii-are = refl
 
   figure-is : figureKept numbers ≡ (((((k0 && k1) && k2) && k3) && k4) && allFrom radius 5 8)
-  unfolding figureKept listFrom
+  unfolding figureKept rectangleKept listFrom
   figure-is = ap (λ (t : Bool). ((((k0 && k1) && k2) && k3) && k4) && t) radii-are
 
   style-is : styleKept numbers ≡ (((s13 && s14) && s15) && s16)

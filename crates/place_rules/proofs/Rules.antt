@@ -1,6 +1,6 @@
 -- Whether a place holds a layer that keeps its own rules, by the limits of its numbers and by its rows.
 -- Assumes nothing.
-use mathlib.Core.Path.{_≡_, refl, sym, ap, _∙_}
+use mathlib.Core.Path.{_≡_, sym, ap, _∙_}
 use mathlib.Core.Bool.{Bool, true, false, _&&_}
 use mathlib.Core.List.{List}
 use native.Mathlib.Omega.{arith}
@@ -16,11 +16,7 @@ use Rattle.drawing.specs.Drawing.{answerOf, styledCheck}
 use Rattle.layers.specs.Layers.{layerRows}
 use Rattle.sheet_record.specs.SheetRecord.{isLayer, layerOf}
 use Rattle.place_rules.specs.PlaceRules.{placeKept, figureKept, styleKept}
-use Rattle.place_rules.proofs.Limits.{kept-is-layer}
-
-pub and-assoc : (a b c : Bool) → ((a && b) && c) ≡ (a && (b && c))
-and-assoc true b c = refl
-and-assoc false b c = refl
+use Rattle.place_rules.proofs.Limits.{and-assoc, kept-is-layer}
 
 module _ (n : List ℤ) (long : length n ≡ 18) where
   abbrev limits : Bool

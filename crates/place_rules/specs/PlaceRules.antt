@@ -35,12 +35,16 @@ highestRadius any = cond any (pos 2147483647) (pos maxRadius)
 unfoldable pub radiiKept : Bool → List ℤ → Bool
 radiiKept any numbers = allFrom (λ k. radiusKept any (numberAt numbers k)) 5 8
 
--- the figure's numbers: kind, x and y, width and height, radii
-unfoldable pub figureKept : List ℤ → Bool
-figureKept numbers =
-    ((((within (pos 0) (pos 2) (numberAt numbers 0) && within (negsuc 4095) (pos 4096) (numberAt numbers 1))
+-- the figure's numbers before its radii: kind, x and y, width and height
+unfoldable pub rectangleKept : List ℤ → Bool
+rectangleKept numbers =
+    (((within (pos 0) (pos 2) (numberAt numbers 0) && within (negsuc 4095) (pos 4096) (numberAt numbers 1))
     && within (negsuc 4095) (pos 4096) (numberAt numbers 2)) && within (pos 0) (pos maxSide) (numberAt numbers 3))
-    && within (pos 0) (pos maxSide) (numberAt numbers 4)) && radiiKept (ltZ (numberAt numbers 0) (pos 1)) numbers
+    && within (pos 0) (pos maxSide) (numberAt numbers 4)
+
+-- all of the figure's numbers; the radii of an ellipse are not looked at
+unfoldable pub figureKept : List ℤ → Bool
+figureKept numbers = rectangleKept numbers && radiiKept (ltZ (numberAt numbers 0) (pos 1)) numbers
 
 -- the style's numbers: stroke, fill, stroke width, alignment
 unfoldable pub styleKept : List ℤ → Bool

@@ -21,7 +21,7 @@ ghost use Rattle.layer_rows.proofs.RowTests.{RowsFit};
 ghost use Rattle.layers.specs.declared.RowsFound.the-variants as rows-found;
 ghost use Rattle.layers.specs.Layers.{layerRows};
 ghost use Rattle.sheet_record.specs.SheetRecord.{layerLength, layerOf};
-ghost use Rattle.place_rules.specs.PlaceRules.{highestRadius, radiiKept, figureKept, styleKept, rowsAbove, strokeCount, firstRowOf, placeKept};
+ghost use Rattle.place_rules.specs.PlaceRules.{highestRadius, radiiKept, rectangleKept, figureKept, styleKept, rowsAbove, strokeCount, firstRowOf, placeKept};
 
 // The highest number of a radius. That of an ellipse is not looked at.
 fn highest_radius(any: bool) -> i32
@@ -46,17 +46,31 @@ fn radii_kept(numbers: &[i32], any: bool) -> bool
     kept
 }
 
-// Whether the numbers are a figure's within limits.
-fn figure_kept(numbers: &[i32]) -> bool
+// Whether a figure's numbers before its radii are within limits.
+fn rectangle_kept(numbers: &[i32]) -> bool
     requires { ⌜ length (now numbers) ≡ layerLength ⌝ }
-    ensures { λ r. ⌜ r ≡ figureKept (now (numbers .entry)) ⌝ }
+    ensures { λ r. ⌜ r ≡ rectangleKept (now (numbers .entry)) ⌝ }
 {
     is_within(0, 2, numbers[0])
         & is_within(-4096, 4096, numbers[1])
         & is_within(-4096, 4096, numbers[2])
         & is_within(0, 1024, numbers[3])
         & is_within(0, 1024, numbers[4])
-        & radii_kept(numbers, numbers[0] < 1)
+}
+
+// Whether the numbers are a figure's within limits. The radii are tested by one loop for each kind of
+// figure, so that each has a limit that is known.
+fn figure_kept(numbers: &[i32]) -> bool
+    requires { ⌜ length (now numbers) ≡ layerLength ⌝ }
+    ensures { λ r. ⌜ r ≡ figureKept (now (numbers .entry)) ⌝ }
+{
+    if !rectangle_kept(numbers) {
+        return false;
+    }
+    if numbers[0] < 1 {
+        return radii_kept(numbers, true);
+    }
+    radii_kept(numbers, false)
 }
 
 // Whether the numbers are a style's within limits.
@@ -156,7 +170,10 @@ pub fn place_rows(numbers: &[i32]) -> RowsFound
     requires { ⌜ length (now numbers) ≡ layerLength ⌝ }
     ensures { λ r. ⌜ r ≡ cond (placeKept (now (numbers .entry))) (rows-found.Kept (layerRows (layerOf (now (numbers .entry))))) rows-found.Broken ⌝ }
 {
-    if !(figure_kept(numbers) & style_kept(numbers)) {
+    if !figure_kept(numbers) {
+        return RowsFound::Broken;
+    }
+    if !style_kept(numbers) {
         return RowsFound::Broken;
     }
     let rows = rows_within(numbers);

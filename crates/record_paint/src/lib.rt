@@ -1,32 +1,80 @@
 // Painting on a sheet that a host keeps as numbers: what is tested and painted is read from them, and no
 // sheet is made and handed on.
+use canvas_size::CanvasSize;
+use record_numbers::is_within;
+use record_rules::Asked;
+use record_rules::PlacesTested;
+use record_rules::test_places;
 use refusal::Checked;
+use refusal::Refusal;
 use sheet_record::LAYER_LENGTH;
-use sheet_record::count_of;
 use sheet_record::layer_at;
-use sheet_record::places_of;
 use sheet_record::size_of;
 ghost use mathlib.Core.Path.{_≡_};
 ghost use mathlib.Core.List.{List};
 ghost use Prim.Native.Nat.{ℕ};
 ghost use lib.ListN.{length};
+ghost use Rattle.signed.specs.Signed.{Is};
 ghost use Rattle.book.specs.Book.{accepted, paint as Call·paint};
 ghost use Rattle.drawing.specs.Drawing.{answerOf};
 ghost use Rattle.sheet.specs.Sheet.{sheetAnswer, canvasAfter};
 ghost use Rattle.sheet_record.specs.SheetRecord.{sheetLength, sheetOf, rowPainted};
+ghost use Rattle.record_paint.specs.RecordPaint.{nextOf, askedCheck};
+
+// The next row of a layer, or 0 where there is no such place.
+fn next_of(numbers: &[i32], layer: u32) -> i32
+    requires { ⌜ length (now numbers) ≡ sheetLength ⌝ }
+    ensures { λ r. ⌜ Is (nextOf (now (numbers .entry)) layer) r ⌝ }
+{
+    if 16 <= layer {
+        return 0;
+    }
+    numbers[3 + LAYER_LENGTH * (layer as usize) + 17]
+}
+
+// Refusals 8, 10, 11 and 12, where the rules are kept.
+fn check_asked(size: CanvasSize, bytes: usize, count: u32, layer: u32, asked: Asked) -> Checked
+    ensures { λ r. ⌜ r ≡ askedCheck (size .width) (size .height) bytes count layer asked ⌝ }
+{
+    match size.check_length(bytes) {
+        Checked::Refused(refusal) => Checked::Refused(refusal),
+        Checked::Passed => {
+            if count <= layer {
+                return Checked::Refused(Refusal::NoLayer);
+            }
+            if !asked.left {
+                return Checked::Refused(Refusal::NoRowLeft);
+            }
+            if asked.owed {
+                return Checked::Refused(Refusal::RowOwed);
+            }
+            Checked::Passed
+        }
+    }
+}
 
 // Refusals 7, 8, 10, 11 and 12 of painting on a canvas that is so many bytes long.
 pub fn check_paint(numbers: &[i32], layer: u32, bytes: usize) -> Checked
     requires { ⌜ length (now numbers) ≡ sheetLength ⌝ }
     ensures { λ r. ⌜ ((canvas : List ℕ) → length canvas ≡ bytes → answerOf r ≡ sheetAnswer (sheetOf (now (numbers .entry))) canvas (Call·paint layer)) ⌝ }
 {
-    sheet_checks::check_paint(
-        size_of(numbers),
-        count_of(numbers),
-        places_of(numbers),
-        layer,
-        bytes,
-    )
+    let size = size_of(numbers);
+    match size.check() {
+        Checked::Refused(_) => Checked::Refused(Refusal::SheetRule),
+        Checked::Passed => {
+            if !is_within(0, 16, numbers[2]) {
+                return Checked::Refused(Refusal::SheetRule);
+            }
+            let count = signed::floor0(numbers[2]);
+            let y = next_of(numbers, layer);
+            let PlacesTested::Kept(asked) =
+                test_places(numbers, count as usize, layer as usize, y)
+            else {
+                return Checked::Refused(Refusal::SheetRule);
+            };
+            check_asked(size, bytes, count, layer, asked)
+        }
+    }
 }
 
 // Paints the next row of a layer, where that was not refused, and moves its next row down by one.

@@ -1,19 +1,28 @@
 -- The rows that later layers have painted: one layer more widens them, and an earlier layer whose rows left lie apart from them is
 -- overtaken by none.
 -- Assumes nothing.
-use mathlib.Core.Path.{_≡_, refl, sym, ap, _∙_}
+use mathlib.Core.Path.{_≡_, refl, sym, _∙_}
 use mathlib.Core.Bool.{Bool, true, false, not, _&&_}
 use mathlib.Core.List.{List, [], _∷_}
+use Prim.Native.Nat.{ℕ, _+_, _*_}
 use native.Mathlib.Omega.{arith}
-use lib.IntN.{ℤ}
+use lib.IntN.{ℤ, pos}
+use lib.ListN.{drop}
+use lib.Seq.{getD-take, getD-drop}
 use lib.Signed.{leZ, ltZ}
 use Rattle.signed.specs.Signed.{larger, smaller}
 use Rattle.signed.proofs.Laws.{int, larger-law, smaller-law}
 use Rattle.layer_rows.specs.declared.LayerRows.{LayerRows}
 use Rattle.layer_rows.specs.LayerRows.{rowsOvertake, noRowsOvertake}
 use Rattle.layer_rows.proofs.RowTests.{overtakes-none-painted, overtakes-none-reached, overtakes-none-left}
+use Rattle.record_numbers.specs.RecordNumbers.{numberAt}
+use Rattle.sheet_record.specs.SheetRecord.{placeNumbers}
 use Rattle.record_rules.specs.declared.PaintedRows.{PaintedRows}
 use Rattle.record_rules.specs.RecordRules.{alsoPainted, KeepTo}
+
+-- the last number of a place is its next row
+pub next-in-place : (n : List ℤ) (j : ℕ) → numberAt (placeNumbers n j) 17 ≡ numberAt n (3 + 18 * j + 17)
+next-in-place n j = getD-take 18 (drop (3 + 18 * j) n) 17 (pos 0) (omega arith) ∙ getD-drop (3 + 18 * j) n 17 (pos 0)
 
 -- whether a layer is overtaken goes by the first and the next row of the later one
 pub overtake-by-painted : (earlier a b : LayerRows) → a .first ≡ b .first → a .next ≡ b .next → rowsOvertake earlier a ≡ rowsOvertake earlier b

@@ -1,84 +1,62 @@
--- `place_rules::figure_kept` meets its contract: each number is tested as it is read.
+-- `place_rules::figure_kept` meets its contract: the numbers before the radii, and then the radii by the kind.
 -- Assumes nothing.
-use mathlib.Core.Path.{_≡_, ap, _∙_}
-use mathlib.Core.Bool.{_&&_}
-use lib.IntN.{ℤ, pos, negsuc}
+use mathlib.Core.Path.{_≡_, sym, ap, _∙_}
+use mathlib.Core.Bool.{Bool, true}
+use borrow.Author.Tests.{not-true, not-false}
+use lib.IntN.{ℤ, pos}
 use lib.Signed.{ltZ}
-use Rattle.record_numbers.specs.RecordNumbers.{within}
+use mir.Syntax.{w32}
+use mir.Val.{toZ, ofZ}
+use Rattle.record_numbers.specs.RecordNumbers.{numberAt}
 use Rattle.record_numbers.proofs.Walks.{read-back}
-use Rattle.place_rules.specs.PlaceRules.{radiiKept, figureKept}
+use Rattle.place_rules.specs.PlaceRules.{rectangleKept, figureKept}
 use borrow.Author.Needs.{needs}
 use Rattle.place_rules.proofs.figure_kept.Statement.{statement}
 use Rattle.place_rules.proofs.figure_kept.Tie as tie
 
-shared-slice-copy-out-is-within : tie.Need-shared-slice-copy-out-is-within
-shared-slice-copy-out-is-within c = search needs
+-- the rectangle is within limits, and the kind is tested as it is read
+abbrev start : tie.After-if22 → tie.Start
+start c = c .before .before .before
 
-is-within-requires : tie.Need-is-within-requires
-is-within-requires c κs = search needs
+rectangle : (c : tie.After-if22) → rectangleKept (start c .args .numbers .now) ≡ true
+rectangle c = sym (c .before .before .rectangle-kept .ensures) ∙ not-false _ (c .before .if1 .left)
 
-shared-slice-copy-out-is-within-2 : tie.Need-shared-slice-copy-out-is-within-2
-shared-slice-copy-out-is-within-2 c = search needs
+kind : (c : tie.After-if22) {t : Bool} → ltZ (toZ w32 (ofZ w32 (numberAt (start c .args .numbers .now) 0))) (pos 1) ≡ t
+    → ltZ (numberAt (start c .args .numbers .now) 0) (pos 1) ≡ t
+kind c test = sym (ap (λ (z : ℤ). ltZ z (pos 1)) (read-back (start c .args .numbers .now) 0 (c .if22 .given))) ∙ test
 
-is-within-requires-2 : tie.Need-is-within-requires-2
-is-within-requires-2 c κs = search needs
+rectangle-kept-requires : tie.Need-rectangle-kept-requires
+rectangle-kept-requires c κs = search needs
 
-shared-slice-copy-out-is-within-3 : tie.Need-shared-slice-copy-out-is-within-3
-shared-slice-copy-out-is-within-3 c = search needs
+returns : tie.Need-returns
+unfolding figureKept
+returns c = rw (sym (c .before .rectangle-kept .ensures) ∙ not-true _ (c .if1 .taken))
 
-is-within-requires-3 : tie.Need-is-within-requires-3
-is-within-requires-3 c κs = search needs
-
-shared-slice-copy-out-is-within-4 : tie.Need-shared-slice-copy-out-is-within-4
-shared-slice-copy-out-is-within-4 c = search needs
-
-is-within-requires-4 : tie.Need-is-within-requires-4
-is-within-requires-4 c κs = search needs
-
-shared-slice-copy-out-is-within-5 : tie.Need-shared-slice-copy-out-is-within-5
-shared-slice-copy-out-is-within-5 c = search needs
-
-is-within-requires-5 : tie.Need-is-within-requires-5
-is-within-requires-5 c κs = search needs
-
-shared-slice-copy-out-radii-kept : tie.Need-shared-slice-copy-out-radii-kept
-shared-slice-copy-out-radii-kept c = search needs
+shared-slice-copy-out-if2 : tie.Need-shared-slice-copy-out-if2
+shared-slice-copy-out-if2 c = search needs
 
 radii-kept-requires : tie.Need-radii-kept-requires
 radii-kept-requires c κs = search needs
 
-returns : tie.Need-returns
+returns-2 : tie.Need-returns-2
 unfolding figureKept
-returns c =
-    let radii = c .before in
-    let height = radii .before .before in
-    let width = height .before .before in
-    let y = width .before .before in
-    let x = y .before .before in
-    let kind = x .before .before in
-    let n = kind .before .args .numbers .now in
-    let at0 = x .before .is-within .ensures ∙ ap (within (pos 0) (pos 2)) (read-back n 0 (kind .is-within-arg .given)) in
-    let at1 = y .before .is-within2 .ensures ∙ ap (within (negsuc 4095) (pos 4096)) (read-back n 1 (x .is-within-arg2 .given)) in
-    let at2 = width .before .is-within3 .ensures ∙ ap (within (negsuc 4095) (pos 4096)) (read-back n 2 (y .is-within-arg3 .given)) in
-    let at3 = height .before .is-within4 .ensures ∙ ap (within (pos 0) (pos 1024)) (read-back n 3 (width .is-within-arg4 .given)) in
-    let at4 = radii .before .is-within5 .ensures ∙ ap (within (pos 0) (pos 1024)) (read-back n 4 (height .is-within-arg5 .given)) in
-    let rest = c .radii-kept .ensures ∙ ap (λ (z : ℤ). radiiKept (ltZ z (pos 1)) n) (read-back n 0 (radii .radii-kept-arg .given)) in
-    λ i. ((((at0 i && at1 i) && at2 i) && at3 i) && at4 i) && rest i
+returns-2 c = let read = c .before .before in rw (rectangle read, kind read (c .before .if2 .taken)) (c .radii-kept .ensures)
+
+radii-kept-requires-2 : tie.Need-radii-kept-requires-2
+radii-kept-requires-2 c κs = search needs
+
+returns-3 : tie.Need-returns-3
+unfolding figureKept
+returns-3 c = let read = c .before .before in rw (rectangle read, kind read (c .before .if2 .left)) (c .radii-kept2 .ensures)
 
 pub figure-kept-spec : {M : Type 1} → statement M
 figure-kept-spec =
     tie.close
     (tie.spec
-    shared-slice-copy-out-is-within
-    is-within-requires
-    shared-slice-copy-out-is-within-2
-    is-within-requires-2
-    shared-slice-copy-out-is-within-3
-    is-within-requires-3
-    shared-slice-copy-out-is-within-4
-    is-within-requires-4
-    shared-slice-copy-out-is-within-5
-    is-within-requires-5
-    shared-slice-copy-out-radii-kept
+    rectangle-kept-requires
+    returns
+    shared-slice-copy-out-if2
     radii-kept-requires
-    returns)
+    returns-2
+    radii-kept-requires-2
+    returns-3)

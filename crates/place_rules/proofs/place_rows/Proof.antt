@@ -1,15 +1,14 @@
 -- `place_rules::place_rows` meets its contract: the limits and the two tests of the next row decide whether the layer keeps its rules.
 -- Assumes nothing.
-use mathlib.Core.Path.{_≡_, sym, ap, ap₂, _∙_}
-use mathlib.Core.Bool.{Bool, true, false, _&&_}
-use native.Mathlib.Omega.{arith}
+use mathlib.Core.Path.{_≡_, sym, ap, _∙_}
+use mathlib.Core.Bool.{Bool, true, _&&_}
 use borrow.Author.Tests.{not-true, not-false}
-use lib.Signed.{leZ, ltZ}
+use lib.Signed.{ltZ}
 use mir.Syntax.{w32}
 use mir.Val.{toZ, ofZ}
-use Rattle.signed.proofs.Laws.{int}
 use Rattle.layer_rows.specs.declared.LayerRows.{LayerRows}
-use Rattle.layer_rows.proofs.RowTests.{lt-held}
+use Rattle.layer_rows.proofs.RowTests.{and-false, lt-held}
+use Rattle.book.proofs.Tests.{and-true-of}
 use Rattle.layers.specs.declared.RowsFound.the-variants.{Kept}
 use Rattle.layers.specs.Layers.{layerRows}
 use Rattle.sheet_record.specs.SheetRecord.{layerOf}
@@ -20,14 +19,14 @@ use Rattle.place_rules.proofs.place_rows.Statement.{statement}
 use Rattle.place_rules.proofs.place_rows.Tie as tie
 
 -- what the tests of the limits say
-limits : (c : tie.After-style-kept)
-    → (figureKept (c .before .before .args .numbers .now) && styleKept (c .before .before .args .numbers .now))
-    ≡ (c .before .figure-kept .result && c .style-kept .result)
-limits c = sym (ap₂ _&&_ (c .before .figure-kept .ensures) (c .style-kept .ensures))
+limits : (c : tie.Else2) → (figureKept (c .before .before .before .before .args .numbers .now) && styleKept (c .before .before .before .before .args .numbers .now)) ≡ true
+limits c =
+    and-true-of (sym (c .before .before .before .figure-kept .ensures) ∙ not-false _ (c .before .before .if1 .left))
+    (sym (c .before .style-kept .ensures) ∙ not-false _ (c .if2 .left))
 
 -- the tests made of the rows are those of the layer's
 abbrev start : tie.After-rows-within → tie.Start
-start c = c .before .before .before .before
+start c = c .before .before .before .before .before
 
 by-first : (c : tie.After-rows-within) {t : Bool}
     → ltZ (toZ w32 (ofZ w32 (c .rows-within .result .next))) (toZ w32 (ofZ w32 (c .rows-within .result .first))) ≡ t
@@ -46,35 +45,43 @@ by-end c test =
 figure-kept-requires : tie.Need-figure-kept-requires
 figure-kept-requires c κs = search needs
 
+returns : tie.Need-returns
+returns c =
+    let entry = c .before .before in
+    let n = entry .args .numbers .now in
+    let beyond = sym (c .before .figure-kept .ensures) ∙ not-true _ (c .if1 .taken) in
+    rw (place-beyond-limits n (entry .pre) (ap (λ (t : Bool). t && styleKept n) beyond))
+
 style-kept-requires : tie.Need-style-kept-requires
 style-kept-requires c κs = search needs
 
-returns : tie.Need-returns
-returns c =
-    let entry = c .before .before .before in
-    rw (place-beyond-limits (entry .args .numbers .now) (entry .pre) (limits (c .before) ∙ not-true _ (c .if1 .taken)))
-
-rows-within-requires : tie.Need-rows-within-requires
-rows-within-requires c κs = (c .before .before .before .pre, limits (c .before) ∙ not-false _ (c .if1 .left))
-
 returns-2 : tie.Need-returns-2
 returns-2 c =
-    let found = c .before .before .before in
-    let entry = start found in
-    rw (place-above (entry .args .numbers .now) (entry .pre) (by-first found (c .if2 .taken)))
+    let entry = c .before .before .before .before in
+    let n = entry .args .numbers .now in
+    let beyond = sym (c .before .style-kept .ensures) ∙ not-true _ (c .if2 .taken) in
+    rw (place-beyond-limits n (entry .pre) (ap (λ (t : Bool). figureKept n && t) beyond ∙ and-false (figureKept n)))
+
+rows-within-requires : tie.Need-rows-within-requires
+rows-within-requires c κs = (c .before .before .before .before .pre, limits c)
 
 returns-3 : tie.Need-returns-3
 returns-3 c =
-    let found = c .before .before .before .before .before .before in
+    let found = c .before .before .before in
     let entry = start found in
-    rw (place-below (entry .args .numbers .now) (entry .pre) (by-end found (c .if3 .taken)))
+    rw (place-above (entry .args .numbers .now) (entry .pre) (by-first found (c .if3 .taken)))
 
 returns-4 : tie.Need-returns-4
 returns-4 c =
     let found = c .before .before .before .before .before .before in
     let entry = start found in
-    let kept = limits (found .before .before) ∙ not-false _ (found .before .if1 .left) in
-    rw (place-among (entry .args .numbers .now) (entry .pre) kept (by-first found (c .before .before .before .if2 .left)) (by-end found (c .if3 .left)))
+    rw (place-below (entry .args .numbers .now) (entry .pre) (by-end found (c .if4 .taken)))
+
+returns-5 : tie.Need-returns-5
+returns-5 c =
+    let found = c .before .before .before .before .before .before in
+    let entry = start found in
+    rw (place-among (entry .args .numbers .now) (entry .pre) (limits (found .before)) (by-first found (c .before .before .before .if3 .left)) (by-end found (c .if4 .left)))
     (ap Kept (found .rows-within .ensures .0))
 
 pub place-rows-spec : {M : Type 1} → statement M
@@ -82,9 +89,10 @@ place-rows-spec =
     tie.close
     (tie.spec
     figure-kept-requires
-    style-kept-requires
     returns
-    rows-within-requires
+    style-kept-requires
     returns-2
+    rows-within-requires
     returns-3
-    returns-4)
+    returns-4
+    returns-5)

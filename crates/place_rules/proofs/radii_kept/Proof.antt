@@ -2,7 +2,7 @@
 -- is asked of all.
 -- Assumes nothing.
 use mathlib.Core.Path.{_≡_, refl, sym, ap, ap₂, _∙_}
-use mathlib.Core.Bool.{Bool, true, false, _&&_}
+use mathlib.Core.Bool.{Bool, _&&_}
 use mathlib.Core.List.{List}
 use Prim.Native.Nat.{ℕ, _+_, _-_, _≤_}
 use native.Mathlib.Omega.{arith}
@@ -12,8 +12,7 @@ use mir.Facts.{toZ-ofZ}
 use Rattle.record_numbers.specs.RecordNumbers.{numberAt, allFrom, within}
 use Rattle.record_numbers.proofs.Walks.{read-back, all-from-here, all-from-past}
 use Rattle.place_rules.specs.PlaceRules.{radiusKept, radiiKept}
-use Rattle.place_rules.proofs.Limits.{radius-by-highest}
-use Rattle.place_rules.proofs.Rules.{and-assoc}
+use Rattle.place_rules.proofs.Limits.{and-assoc, and-true, radius-by-highest}
 use Rattle.place_rules.proofs.radii_kept.Statement.{statement}
 use Rattle.place_rules.proofs.radii_kept.Tie as tie
 
@@ -22,14 +21,33 @@ abbrev test : List ℤ → Bool → ℕ → Bool
 test numbers any k = radiusKept any (numberAt numbers k)
 
 abbrev Inv-loop : tie.InvT-loop
-Inv-loop numbers any limit kept₀ k₀ kept k = (k ≤ 13) × ((kept && allFrom (λ j. radiusKept any (numberAt numbers j)) k (13 - k)) ≡ allFrom (λ j. radiusKept any (numberAt numbers j)) 5 8)
+Inv-loop numbers any limit kept₀ k₀ kept k =
+    (k ≤ 13) × ((kept && allFrom (λ j. radiusKept any (numberAt numbers j)) k (13 - k)) ≡ allFrom (λ j. radiusKept any (numberAt numbers j)) 5 8)
 
 abbrev μ-loop : tie.MeasureT-loop
 μ-loop numbers any limit kept₀ k₀ kept k = 13 - k
 
-and-true : (a : Bool) → (a && true) ≡ a
-and-true true = refl
-and-true false = refl
+-- what is left, by the radius that stands there
+abbrev start : tie.After-is-within Inv-loop μ-loop → tie.Start Inv-loop μ-loop
+start c = c .before .before .before .before .before
+
+abbrev place : tie.After-is-within Inv-loop μ-loop → ℕ
+place c = c .before .before .before .loop .k
+
+abbrev left : tie.After-is-within Inv-loop μ-loop → ℕ → Bool
+left c k = allFrom (test (start c .args .numbers .now) (start c .args .any)) k (13 - k)
+
+step : (c : tie.After-is-within Inv-loop μ-loop) → left c (place c) ≡ (c .is-within .result && left c (place c + 1))
+step c =
+    let limit = c .before .before .before .before .highest-radius .ensures in
+    let a = start c .args in
+    let k = place c in
+    let read = c .before .is-within-arg .given in
+    let here = c .is-within .ensures
+    ∙ ap₂ (within (pos 0)) (toZ-ofZ (limit .fits) ∙ limit .is) (read-back (a .numbers .now) k read)
+    ∙ radius-by-highest (a .any) (numberAt (a .numbers .now) k) read in
+    all-from-here (test (a .numbers .now) (a .any)) 13 k (c .before .before .loop-test .taken)
+    ∙ ap (λ (t : Bool). t && left c (k + 1)) (sym here)
 
 highest-radius-requires : tie.Need-highest-radius-requires Inv-loop μ-loop
 highest-radius-requires c κs = search needs
@@ -54,30 +72,18 @@ loop-less c = omega arith
 
 loop-again : tie.Need-loop-again Inv-loop μ-loop
 loop-again c =
-    let walk = c .before .before .before in
-    let limit = walk .before .highest-radius .ensures in
-    let a = walk .before .before .args in
-    let k = walk .loop .k in
-    let rest : Bool = allFrom (test (a .numbers .now) (a .any)) (k + 1) (13 - (k + 1)) in
-    let read = c .before .is-within-arg .given in
-    let here = c .is-within .ensures
-    ∙ ap₂ (within (pos 0)) (toZ-ofZ (limit .fits) ∙ limit .is) (read-back (a .numbers .now) k read)
-    ∙ radius-by-highest (a .any) (numberAt (a .numbers .now) k) read in (
+    let walk = c .before .before .before .loop in (
       omega arith,
-      and-assoc (walk .loop .kept) (c .is-within .result) rest
-          ∙ ap (λ (t : Bool). walk .loop .kept && (t && rest)) here
-          ∙ ap (λ (t : Bool). walk .loop .kept && t) (sym (all-from-here (test (a .numbers .now) (a .any)) 13 k (c .before .before .loop-test .taken)))
-          ∙ walk .loop .inv .1,
+      and-assoc (walk .kept) (c .is-within .result) (left c (walk .k + 1)) ∙ ap (λ (t : Bool). walk .kept && t) (sym (step c)) ∙ walk .inv .1,
     )
 
 returns : tie.Need-returns Inv-loop μ-loop
 unfolding radiiKept
 returns c =
-    let walk = c .before in
-    let a = walk .before .before .args in
-    sym (and-true (walk .loop .kept))
-    ∙ ap (λ (t : Bool). walk .loop .kept && t) (sym (all-from-past (test (a .numbers .now) (a .any)) 13 (walk .loop .k) (c .loop-test .left)))
-    ∙ walk .loop .inv .1
+    let walk = c .before .loop in
+    let a = c .before .before .before .args in
+    let done = all-from-past (test (a .numbers .now) (a .any)) 13 (walk .k) (c .loop-test .left) in
+    sym (ap (λ (t : Bool). walk .kept && t) done ∙ and-true (walk .kept)) ∙ walk .inv .1
 
 pub radii-kept-spec : {M : Type 1} → statement M
 radii-kept-spec =

@@ -5,30 +5,26 @@ use mathlib.Core.Bool.{Bool, true, _&&_}
 use mathlib.Core.List.{List}
 use Prim.Native.Nat.{ℕ, _+_, _*_, _<_}
 use native.Mathlib.Omega.{arith}
-use lib.IntN.{ℤ, pos}
-use lib.ListN.{length, take, drop}
-use lib.Seq.{getD-take, getD-drop}
+use lib.IntN.{ℤ}
+use lib.ListN.{length}
 use mir.Facts.{toZ-ofZ}
 use Rattle.drawing.specs.declared.StrokeRows.{StrokeRows}
 use Rattle.layers.specs.Layers.{layerRows}
-use Rattle.record_numbers.specs.RecordNumbers.{numberAt}
 use Rattle.record_numbers.proofs.Walks.{read-back}
 use Rattle.sheet_record.specs.SheetRecord.{placeNumbers}
 use Rattle.sheet_record.proofs.Parts.{place-part, place-part-length}
 use Rattle.place_rules.specs.PlaceRules.{figureKept, styleKept, firstRowOf}
 use Rattle.place_rules.proofs.Rules.{place-within}
 use Rattle.place_rules.proofs.Area.{rows-of-place}
+use Rattle.record_rules.proofs.Painted.{next-in-place}
 use borrow.Author.Needs.{needs}
 use Rattle.record_rules.proofs.painted_at.Statement.{statement}
 use Rattle.record_rules.proofs.painted_at.Tie as tie
 
--- a place has 18 numbers, the last of which is the next row
+-- a place has 18 numbers
 long-place : (c : tie.Start) → length (placeNumbers (c .args .numbers .now) (c .args .j)) ≡ 18
 long-place c =
     sym (ap length (place-part (c .args .numbers .now) (c .args .j))) ∙ place-part-length (c .args .numbers .now) (c .args .j) (c .pre .0 .0) (c .pre .0 .1)
-
-next-in-place : (n : List ℤ) (j : ℕ) → numberAt (placeNumbers n j) 17 ≡ numberAt n (3 + 18 * j + 17)
-next-in-place n j = getD-take 18 (drop (3 + 18 * j) n) 17 (pos 0) (omega arith) ∙ getD-drop (3 + 18 * j) n 17 (pos 0)
 
 mul-at : tie.Need-mul-at
 mul-at c = search needs

@@ -1,0 +1,64 @@
+-- `record_paint::check_asked` meets its contract: its tests are the definition's, in order.
+-- Assumes nothing.
+use mathlib.Core.Path.{_≡_, refl, sym, ap, _∙_}
+use mathlib.Core.Bool.{Bool, true, false}
+use borrow.Author.Tests.{le-leb, lt-leb, not-true, not-false}
+use Rattle.refusal.specs.declared.Checked.the-variants.{Passed}
+use Rattle.canvas_size.specs.CanvasSize.{canvasLengthCheck}
+use Rattle.record_paint.specs.RecordPaint.{askedCheck}
+use borrow.Author.Needs.{needs}
+use Rattle.record_paint.proofs.check_asked.Statement.{statement}
+use Rattle.record_paint.proofs.check_asked.Tie as tie
+
+-- the canvas has its length
+size : (c : tie.After-enum-told)
+    → canvasLengthCheck (c .before .before .before .args .size .width) (c .before .before .before .args .size .height) (c .before .before .before .args .bytes) ≡ Passed
+size c = sym (c .before .before .check-length .ensures) ∙ c .enum-told .given .1
+
+check-length-requires : tie.Need-check-length-requires
+check-length-requires c κs = search needs
+
+enum-known-refusal : tie.Need-enum-known-refusal
+enum-known-refusal c = search needs
+
+enum-told : tie.Need-enum-told
+enum-told c = search needs
+
+returns : tie.Need-returns
+unfolding askedCheck
+returns c = rw (size (c .before), le-leb _ _ (c .if1 .taken))
+
+returns-2 : tie.Need-returns-2
+unfolding askedCheck
+returns-2 c =
+    let a = c .before .before .before .before .before .before .args in
+    rw (size (c .before .before .before), lt-leb _ _ (c .before .before .if1 .left), not-true (a .asked .left) (c .if2 .taken))
+
+returns-3 : tie.Need-returns-3
+unfolding askedCheck
+returns-3 c =
+    let a = c .before .before .before .before .before .before .before .args in
+    rw (size (c .before .before .before .before), lt-leb _ _ (c .before .before .before .if1 .left), not-false (a .asked .left) (c .before .if2 .left), c .if3 .taken)
+
+returns-4 : tie.Need-returns-4
+unfolding askedCheck
+returns-4 c = rw (sym (c .before .before .before .check-length .ensures) ∙ c .before .refusal .given .1)
+
+returns-5 : tie.Need-returns-5
+unfolding askedCheck
+returns-5 c =
+    let a = c .before .before .before .before .before .before .before .args in
+    rw (size (c .before .before .before .before), lt-leb _ _ (c .before .before .before .if1 .left), not-false (a .asked .left) (c .before .if2 .left), c .if3 .left)
+
+pub check-asked-spec : {M : Type 1} → statement M
+check-asked-spec =
+    tie.close
+    (tie.spec
+    check-length-requires
+    enum-known-refusal
+    enum-told
+    returns
+    returns-2
+    returns-3
+    returns-4
+    returns-5)
