@@ -169,7 +169,7 @@ insets-alike c w h dy inset upper lower is i =
     record { left = is i; right = (is ∙ (λ j. sideInset (upper j) (lower j) h w dy)) i }
 
 -- ---- rows with straight sides
-covered-none : (r : Size) (e : ℕ) → r .height ≤ e → covered r e ≡ 0
+pub covered-none : (r : Size) (e : ℕ) → r .height ≤ e → covered r e ≡ 0
 unfolding covered
 covered-none r e l = rw (le-ltb e (r .height) l)
 

@@ -16,7 +16,7 @@ ghost use Rattle.rounded_rectangle.specs.Relative.{ReadyBox, radii, rowInsets};
 ghost use Rattle.box_rows.specs.Sides.{Evenly, StraightFor};
 
 // Whether two corners are alike.
-fn are_alike(a: Size, b: Size) -> bool
+pub fn are_alike(a: Size, b: Size) -> bool
     ensures { λ r. ⌜ (r ≡ true → a ≡ b) ⌝ }
 {
     if a.width != b.width {

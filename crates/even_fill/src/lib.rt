@@ -21,7 +21,7 @@ ghost use Rattle.even_fill.specs.EvenFill.{fillBetween};
 
 // The fill of a row that leaves out k columns of `width` on either side and contains those between.
 // Where none of these is in the run, the whole run is fill.
-fn filled_between(left: i32, width: u32, run: Range, k: u32) -> Range
+pub fn filled_between(left: i32, width: u32, run: Range, k: u32) -> Range
     requires { ⌜ Near widePoint left ⌝ }
     requires { ⌜ (width ≤ wideStrokeSide) × (2 * k ≤ width) ⌝ }
     requires { ⌜ NearRun run ⌝ }

@@ -1,6 +1,6 @@
 // A figure with its style painted in one call, without a sheet, on a canvas given with its width and
 // height. Document 01 adds it; in the Rust it is `pixels` drawn to a target. Areas and tests are made
-// once for the figure, and its rows painted by crate paint_rows.
+// once for the figure, and its rows painted by crates paint_rows and paint_boxes.
 use canvas_size::CanvasSize;
 use drawing::StrokeRows;
 use figure::Figure;
@@ -56,7 +56,7 @@ fn paint_whole(canvas: &mut [u8], size: CanvasSize, figure: Figure, style: Style
             paint_rows::paint_ellipse(canvas, size, ellipse, style, seen.first, seen.count)
         }
         StyledShape::RoundedBox(b) => {
-            paint_rows::paint_box_rows(canvas, size, b, style, seen.first, seen.count)
+            paint_boxes::paint_box(canvas, size, b, style, seen.first, seen.count)
         }
         StyledShape::Neither => {}
     }

@@ -41,8 +41,8 @@ paint-ellipse-requires c κs =
 enum-known-b : tie.Need-enum-known-b
 enum-known-b c = search needs
 
-paint-box-rows-requires : tie.Need-paint-box-rows-requires
-paint-box-rows-requires c κs =
+paint-box-requires : tie.Need-paint-box-requires
+paint-box-requires c κs =
     let entry = c .before .before .before .before .before .before .before .before .before in
     let seen = c .before .before .before .before .before .before .visible .ensures .1 in
     let near = seen .0 in
@@ -71,7 +71,7 @@ returns-2 c =
     let a = c .before .before .before .before .before .before .before .before .before .before .before .before .args in
     let seen = c .before .before .before .before .before .before .before .before .before .visible in
     let shape = styled.RoundedBox (c .before .before .before .before .before .before .b .given .0 .0) in
-    c .before .before .paint-box-rows .ensures
+    c .before .before .paint-box .ensures
     ∙ ap (λ (z : ℤ). rowsBy (rowOf shape) (a .style) (a .size .width) (a .size .height) z (seen .result .count) (a .canvas .now)) (toZ-ofZ (seen .ensures .1 .0 .fits))
     ∙ visible-rows-whole (rowOf shape) (a .figure) (a .style) (a .size .width) (a .size .height) (rows-of (c .before .before .before .before .before .before .before .before) shape (c .before .before .before .before .before .before .b .given .1)) (c .before .before .before .before .before .before .before .before .before .before .stroke-rows .result) (c .before .before .before .before .before .before .before .before .before .before .stroke-rows .ensures .0) (a .canvas .now) (seen .result) (seen .ensures .0)
 
@@ -90,7 +90,7 @@ paint-whole-spec =
     enum-known-ellipse
     paint-ellipse-requires
     enum-known-b
-    paint-box-rows-requires
+    paint-box-requires
     enum-told
     same-length
     returns

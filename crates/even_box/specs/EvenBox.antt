@@ -1,0 +1,50 @@
+-- A styled box with even corners: the areas that it stands for, and what the code asks of it.
+-- Assumes nothing.
+use mathlib.Core.Path.{_≡_}
+use Prim.Native.Nat.{_+_, _*_, _≤_}
+use lib.IntN.{pos, _+ℤ_}
+use Rattle.geometry.specs.declared.Size.{Size}
+use Rattle.geometry.specs.Bounds.{widePoint, PointNear, SizeUpTo}
+use Rattle.corner.specs.Bounds.{wideStrokeSide}
+use Rattle.corner_radii.specs.declared.CornerRadii.{CornerRadii}
+use Rattle.rounded_rectangle.specs.declared.RoundedRectangle.{RoundedRectangle}
+use Rattle.rounded_rectangle.specs.Relative.{Ready}
+use Rattle.figure.specs.Bounds.{AreaRectangle}
+use Rattle.styled_box.specs.declared.StyledBox.{StyledBox}
+use Rattle.styled_box.specs.Ready.{strokeBox, fillBox}
+use Rattle.even_box.specs.declared.EvenBox.{EvenBox}
+use Rattle.even_box.specs.declared.Evenness.{Evenness}
+use Rattle.even_box.specs.declared.Evenness.the-variants.{Even, Uneven}
+
+-- the same radius at each corner
+abbrev pub fourCorners : Size → CornerRadii
+fourCorners radius =
+    record { «top_left» = radius; «top_right» = radius; «bottom_right» = radius; «bottom_left» = radius }
+
+-- the areas that an even box stands for
+abbrev pub evenStroke : EvenBox → RoundedRectangle
+evenStroke b = record { rectangle = b .area; corners = fourCorners (b .corner .radius) }
+
+abbrev pub evenFill : EvenBox → RoundedRectangle
+evenFill b = record { rectangle = b .inner; corners = fourCorners (b .«inner_corner» .radius) }
+
+-- an even box: corners on one row of the fill area do not overlap; the fill area begins as many rows below the top as it ends
+-- above the
+-- bottom; the corners of both areas, and the border, keep to so many rows at the top and at the bottom, and these do not meet
+pub record ReadyEven (b : EvenBox) : Type 0 where
+  pub area : AreaRectangle (b .area)
+  pub inner-at : PointNear widePoint (b .inner .«top_left»)
+  pub inner-size : SizeUpTo wideStrokeSide (b .inner .size)
+  pub corner : Ready (b .corner)
+  pub inner-corner : Ready (b .«inner_corner»)
+  pub apart : 2 * b .«inner_corner» .radius .width ≤ b .inner .size .width
+  pub above : b .inner .«top_left» .y ≡ b .area .«top_left» .y +ℤ pos (b .border)
+  pub middle : b .inner .size .height + 2 * b .border ≡ b .area .size .height
+  pub stroke-rows : b .corner .radius .height ≤ b .«corner_rows»
+  pub fill-rows : b .border + b .«inner_corner» .radius .height ≤ b .«corner_rows»
+  pub half : 2 * b .«corner_rows» ≤ b .area .size .height
+
+-- an even box stands for the areas of this styled box; if it is not even nothing is said
+abbrev pub EvenOf : StyledBox → Evenness → Type 0
+EvenOf b (Even e) = (strokeBox b ≡ evenStroke e) × (fillBox b ≡ evenFill e) × ReadyEven e
+EvenOf b Uneven = Unit {0}

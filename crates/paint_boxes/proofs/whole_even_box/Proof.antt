@@ -1,0 +1,58 @@
+-- `paint_boxes::whole_even_box` meets its contract: the tests have said that the rows are all of the box's.
+-- Assumes nothing.
+use borrow.Author.Needs.{needs}
+use native.Mathlib.Omega.{arith}
+use mathlib.Core.Path.{subst}
+use mir.Syntax.{w32}
+use mir.Val.{SFits}
+use Rattle.signed.proofs.Laws.{int}
+use Rattle.even_box.specs.EvenBox.{EvenOf}
+use Rattle.paint_boxes.proofs.whole_even_box.Statement.{statement}
+use Rattle.paint_boxes.proofs.whole_even_box.Tie as tie
+
+returns : tie.Need-returns
+returns c = search needs
+
+returns-2 : tie.Need-returns-2
+returns-2 c = search needs
+
+returns-3 : tie.Need-returns-3
+returns-3 c = search needs
+
+even-box-requires : tie.Need-even-box-requires
+even-box-requires c κs = search needs
+
+enum-known-even : tie.Need-enum-known-even
+enum-known-even c = search needs
+
+enum-told : tie.Need-enum-told
+enum-told c = search needs
+
+returns-4 : tie.Need-returns-4
+returns-4 c = search needs
+
+returns-5 : tie.Need-returns-5
+returns-5 c =
+    let tested = c .before .before .before .before in
+    let entry = tested .before .before .before .before .before .before .before .before .before .before .before in
+    let top-fits : SFits w32 (entry .args .b .area .«top_left» .y) = entry .pre .area .at .y .fits in
+    let not-above = tested .before .before .before .before .before .if1 .left in
+    let not-below = tested .before .before .if2 .left in (
+      subst (EvenOf (entry .args .b)) (c .before .even .given .1) (c .before .before .before .even-box .ensures),
+      omega
+          (arith, int),
+      omega (arith, tested .if3 .left),
+    )
+
+pub whole-even-box-spec : {M : Type 1} → statement M
+whole-even-box-spec =
+    tie.close
+    (tie.spec
+    returns
+    returns-2
+    returns-3
+    even-box-requires
+    enum-known-even
+    enum-told
+    returns-4
+    returns-5)

@@ -1,0 +1,2 @@
+pub mod Spaced
+pub mod Whole
