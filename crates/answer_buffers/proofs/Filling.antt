@@ -1,11 +1,11 @@
--- A canvas filled byte by byte: what is filled and what is left make the whole.
+-- A canvas filled byte by byte: what is filled and what is left make the whole. And a part of a buffer that is lent.
 -- Assumes nothing.
 use mathlib.Core.Path.{_≡_, refl, sym, ap, _∙_}
 use mathlib.Core.List.{List, [], _∷_, _++_, append-nil}
 use Prim.Native.Nat.{ℕ, zero, suc, _+_, _*_, _-_, _%_, _<_, _≤_}
 use native.Mathlib.Numerals.{add-one}
 use native.Mathlib.Omega.{arith}
-use lib.ListN.{length, drop, set, drop-of-length-le}
+use lib.ListN.{length, take, drop, set, replicate, drop-of-length-le}
 use lib.Seq.{sets, sets-eq}
 use Rattle.answer_buffers.specs.Buffers.{seededFrom, seeded}
 
@@ -44,3 +44,16 @@ module _ (seed : ℕ) (before : List ℕ) where
   still-none canvas i full =
       let none : length before - i ≡ 0 = omega arith in
       ap (λ (n : ℕ). sets canvas i (seededFrom seed i n)) none
+
+-- ---- A part that is lent.
+take-replicate : {A : Type 0} (a : A) (n m : ℕ) → n ≤ m → take n (replicate m a) ≡ replicate n a
+take-replicate a zero m le = refl
+take-replicate a (suc n) zero le = absurd (omega arith)
+take-replicate {A} a (suc n) (suc m) le = ap (λ (l : List A). a ∷ l) (take-replicate a n m (omega arith))
+
+-- a part from the first on, and such a part of equal things
+pub from-first : {A : Type 0} (n : ℕ) (l : List A) → take (n - 0) l ≡ take n l
+from-first n l = let all : n - 0 ≡ n = omega arith in ap (λ (k : ℕ). take k l) all
+
+pub lent-part : {A : Type 0} (a : A) (n m : ℕ) → n ≤ m → take (n - 0) (replicate m a) ≡ replicate n a
+lent-part a n m le = from-first n (replicate m a) ∙ take-replicate a n m le
