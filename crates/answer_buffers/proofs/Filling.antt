@@ -15,7 +15,8 @@ length-seeded seed i zero = refl
 length-seeded seed i (suc n) = ap suc (length-seeded seed (i + 1) n)
 
 seeded-more : (seed : ℕ) (canvas : List ℕ) (i n : ℕ)
-    → sets (set canvas i ((seed + 37 * i) % 256)) (suc i) (seededFrom seed (i + 1) n) ≡ sets canvas i (seededFrom seed i (suc n))
+    → sets (set canvas i ((seed + 37 * i) % 256)) (suc i) (seededFrom seed (i + 1) n) ≡ sets canvas i
+    (seededFrom seed i (suc n))
 unfolding seededFrom
 seeded-more seed canvas i n = refl
 
@@ -30,10 +31,12 @@ module _ (seed : ℕ) (before : List ℕ) where
       let long : length (seeded seed (length before)) ≡ length before = length-seeded seed 0 (length before) in
       ap (λ (n : ℕ). sets before 0 (seededFrom seed 0 n)) all
       ∙ sets-eq (seeded seed (length before)) before 0 (omega arith)
-      ∙ ap (λ (rest : List ℕ). seeded seed (length before) ++ rest) (drop-of-length-le before {i = 0 + length (seeded seed (length before))} (omega arith))
+      ∙ ap (λ (rest : List ℕ). seeded seed (length before) ++ rest)
+      (drop-of-length-le before {i = 0 + length (seeded seed (length before))} (omega arith))
       ∙ append-nil _
 
-  pub still-next : (canvas : List ℕ) (i b : ℕ) → i < length before → b ≡ (seed + 37 * i) % 256 → stillTo (set canvas i b) (i + 1) ≡ stillTo canvas i
+  pub still-next : (canvas : List ℕ) (i b : ℕ) → i < length before → b ≡ (seed + 37 * i) % 256 → stillTo (set canvas i b)
+      (i + 1) ≡ stillTo canvas i
   still-next canvas i b room e =
       let one : length before - i ≡ suc (length before - (i + 1)) = omega arith in
       (λ k. sets (set canvas i (e k)) (add-one i k) (seededFrom seed (i + 1) (length before - (i + 1))))

@@ -32,7 +32,8 @@ isLengthGiven tokens sides = isU32 (tokenAt tokens (plus sides 2))
 -- the length that is asked for: the one given, else width by height
 unfoldable pub askedLength : List ℕ → ℕ → ℕ
 askedLength tokens sides =
-    cond (isLengthGiven tokens sides) (u32At tokens (plus sides 2)) (canvasArea (u32At tokens sides) (u32At tokens (plus sides 1)))
+    cond (isLengthGiven tokens sides) (u32At tokens (plus sides 2))
+    (canvasArea (u32At tokens sides) (u32At tokens (plus sides 1)))
 
 -- the place after it, where a seed may stand
 unfoldable pub lengthEnd : List ℕ → ℕ → ℕ
@@ -55,7 +56,8 @@ canvasText isFull canvas = cond isFull (hexText canvas) (decimal (sumOf canvas))
 -- the canvas that is lent: filled where a seed stands, else zeros
 abbrev pub canvasLent : List ℕ → List ℕ
 canvasLent tokens =
-    filled tokens (lengthEnd tokens (sidesAt tokens)) (replicate (lentLength (askedLength tokens (sidesAt tokens)) canvasRoom) 0)
+    filled tokens (lengthEnd tokens (sidesAt tokens))
+    (replicate (lentLength (askedLength tokens (sidesAt tokens)) canvasRoom) 0)
 
 -- what the call says, and the canvas after it
 abbrev pub paintedText : ℕ → Bool → Figure → Style → ℕ → ℕ → List ℕ → List ℕ
@@ -65,8 +67,10 @@ paintedText least isFull figure style W H canvas =
 -- `paint::paint_figure`
 abbrev pub paintText : Bool → List ℕ → List ℕ
 paintText isFull tokens =
-    queryText (paintFits tokens (lengthEnd tokens (sidesAt tokens))) (bytes "FIGURE stroke fill width align W H [LENGTH] [b SEED]")
-    (paintedText (leastShort (askedLength tokens (sidesAt tokens))) isFull (figureAt tokens 0) (styleAt tokens (figureWords tokens 0))
+    queryText (paintFits tokens (lengthEnd tokens (sidesAt tokens)))
+    (bytes "FIGURE stroke fill width align W H [LENGTH] [b SEED]")
+    (paintedText (leastShort (askedLength tokens (sidesAt tokens))) isFull (figureAt tokens 0)
+    (styleAt tokens (figureWords tokens 0))
     (u32At tokens (sidesAt tokens)) (u32At tokens (plus (sidesAt tokens) 1)) (canvasLent tokens))
 
 -- the queries of this crate, by their names

@@ -26,7 +26,8 @@ module _ (tokens : List ℕ) (at : ℕ) where
   unfolding areCalls
   calls-over turns some over = ap (λ (n : ℕ). areCalls tokens n at) (one-turn turns some) ∙ rw (eq-eqb _ _ over)
 
-  pub calls-next : (turns : ℕ) → 0 < turns → (at ≡ length tokens → ⊥) → areCalls tokens turns at ≡ areCalls tokens (turns - 1) (callEnd tokens at)
+  pub calls-next : (turns : ℕ) → 0 < turns → (at ≡ length tokens → ⊥) → areCalls tokens turns at ≡ areCalls tokens
+      (turns - 1) (callEnd tokens at)
   unfolding areCalls
   calls-next turns some before = ap (λ (n : ℕ). areCalls tokens n at) (one-turn turns some) ∙ rw (ne-eqb _ _ before)
 
@@ -42,7 +43,8 @@ module _ (tokens : List ℕ) (sheet : Sheet) (at : ℕ) (canvas : List ℕ) wher
 
   abbrev leftAfter : ℕ → List ℕ
   leftAfter turns =
-      runText tokens turns (sheetAfter sheet canvas (callAt tokens at)) (callEnd tokens at) (canvasAfter sheet canvas (callAt tokens at))
+      runText tokens turns (sheetAfter sheet canvas (callAt tokens at)) (callEnd tokens at)
+      (canvasAfter sheet canvas (callAt tokens at))
 
   pub run-over : (turns : ℕ) → 0 < turns → at ≡ length tokens → runText tokens turns sheet at canvas ≡ decimal (sumOf canvas)
   unfolding runText
@@ -58,10 +60,13 @@ module _ (tokens : List ℕ) (sheet : Sheet) (at : ℕ) (canvas : List ℕ) wher
   run-next turns some before = ap (λ (n : ℕ). runText tokens n sheet at canvas) (one-turn turns some) ∙ rw (ne-eqb _ _ before)
 
   -- a call made and its answer put: what is left, put now, makes the whole
-  pub run-step : (turns : ℕ) → 0 < turns → (at ≡ length tokens → ⊥) → (said : Answer) (sheet′ : Sheet) (at′ : ℕ) (canvas′ : List ℕ) (o o′ : Output)
+  pub run-step : (turns : ℕ) → 0 < turns → (at ≡ length tokens → ⊥) → (said : Answer) (sheet′ : Sheet) (at′ : ℕ)
+      (canvas′ : List ℕ) (o o′ : Output)
       → said ≡ answerHere → sheet′ ≡ sheetAfter sheet canvas (callAt tokens at) → at′ ≡ callEnd tokens at
       → canvas′ ≡ canvasAfter sheet canvas (callAt tokens at) → o′ ≡ put (decimal (answerNumber said) ++ bytes " ") o
       → put (runText tokens (turns - 1) sheet′ at′ canvas′) o′ ≡ put (runText tokens turns sheet at canvas) o
   run-step turns some before said sheet′ at′ canvas′ o o′ p q r s e =
-      (λ i. put (runText tokens (turns - 1) (q i) (r i) (s i)) ((e ∙ ap (λ (a : Answer). put (decimal (answerNumber a) ++ bytes " ") o) p) i))
-      ∙ sym (ap (λ (t : List ℕ). put t o) (run-next turns some before) ∙ put-append (decimal (answerNumber answerHere) ++ bytes " ") _ o)
+      (λ i. put (runText tokens (turns - 1) (q i) (r i) (s i))
+      ((e ∙ ap (λ (a : Answer). put (decimal (answerNumber a) ++ bytes " ") o) p) i))
+      ∙ sym (ap (λ (t : List ℕ). put t o) (run-next turns some before) ∙ put-append
+      (decimal (answerNumber answerHere) ++ bytes " ") _ o)

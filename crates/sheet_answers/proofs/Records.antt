@@ -16,7 +16,8 @@ module _ (tokens : List ℕ) (n at : ℕ) where
   end-more rest = refl
 
   -- a layer passed, and none left
-  pub layers-end-next : (k at′ : ℕ) → k < n → at′ ≡ layerEnd tokens at → layersEnd tokens (n - (k + 1)) at′ ≡ layersEnd tokens (n - k) at
+  pub layers-end-next : (k at′ : ℕ) → k < n → at′ ≡ layerEnd tokens at → layersEnd tokens
+      (n - (k + 1)) at′ ≡ layersEnd tokens (n - k) at
   layers-end-next k at′ room e =
       let one : n - k ≡ suc (n - (k + 1)) = omega arith in
       ap (layersEnd tokens (n - (k + 1))) e ∙ sym (ap (λ (m : ℕ). layersEnd tokens m at) one ∙ end-more (n - (k + 1)))
@@ -26,12 +27,14 @@ module _ (tokens : List ℕ) (n at : ℕ) where
   layers-end-none k over = let none : n - k ≡ 0 = omega arith in ap (λ (m : ℕ). layersEnd tokens m at) none
 
   sets-more : (list : List Layer) (k rest : ℕ)
-      → sets (set list k (layerAt tokens at)) (suc k) (layersAt tokens rest (layerEnd tokens at)) ≡ sets list k (layersAt tokens (suc rest) at)
+      → sets (set list k (layerAt tokens at)) (suc k) (layersAt tokens rest (layerEnd tokens at)) ≡ sets list k
+      (layersAt tokens (suc rest) at)
   unfolding layersAt
   sets-more list k rest = refl
 
   -- a layer put, and none left
-  pub layers-put-next : (list : List Layer) (k at′ : ℕ) (layer : Layer) → k < n → layer ≡ layerAt tokens at → at′ ≡ layerEnd tokens at
+  pub layers-put-next : (list : List Layer) (k at′ : ℕ) (layer : Layer) → k < n → layer ≡ layerAt tokens at
+      → at′ ≡ layerEnd tokens at
       → sets (set list k layer) (k + 1) (layersAt tokens (n - (k + 1)) at′) ≡ sets list k (layersAt tokens (n - k) at)
   layers-put-next list k at′ layer room e f =
       let one : n - k ≡ suc (n - (k + 1)) = omega arith in

@@ -95,7 +95,8 @@ itemAt tokens at = styledFigure (figureAt tokens at) (styleAt tokens (plus at (f
 
 abbrev pub addText : List ℕ → List ℕ
 addText tokens =
-    queryText (eqb (formEnd tokens (recordEnd tokens) (bytes "fkkug")) (length tokens)) (bytes "RECORD FIGURE stroke fill width align")
+    queryText (eqb (formEnd tokens (recordEnd tokens) (bytes "fkkug")) (length tokens))
+    (bytes "RECORD FIGURE stroke fill width align")
     (toldText (sheetText (sheetAfter (sheetAt tokens) [] (add (itemAt tokens (recordEnd tokens)))))
     (sheetAnswer (sheetAt tokens) [] (add (itemAt tokens (recordEnd tokens)))))
 
@@ -106,7 +107,8 @@ leastShort asked = cond (ltb canvasRoom asked) 8 14
 -- `Sheet::paint` of a layer on a canvas: the sheet after it, and the sum of the canvas
 abbrev pub paintedText : ℕ → Sheet → ℕ → List ℕ → List ℕ
 paintedText least s layer canvas =
-    lentToldText least (sheetText (sheetAfter s canvas (paint layer)) ++ (bytes " " ++ decimal (sumOf (canvasAfter s canvas (paint layer)))))
+    lentToldText least (sheetText (sheetAfter s canvas (paint layer)) ++
+    (bytes " " ++ decimal (sumOf (canvasAfter s canvas (paint layer)))))
     (sheetAnswer s canvas (paint layer))
 
 abbrev pub paintText : List ℕ → List ℕ

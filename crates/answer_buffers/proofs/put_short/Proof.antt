@@ -22,7 +22,9 @@ same-length c = search needs
 returns : tie.Need-returns
 unfolding shortText
 returns c =
-    let from : c .before .before .before .before .before .before .before .args .least ≤ number (c .before .before .before .before .before .before .before .args .refusal) = omega (arith, c .before .before .before .before .before .number .ensures) in
+    let from : c .before .before .before .before .before .before .before .args .least ≤ number
+    (c .before .before .before .before .before .before .before .args .refusal) = omega
+    (arith, c .before .before .before .before .before .number .ensures) in
     rw (le-leb _ _ from) (c .before .before .put-too-large .ensures)
 
 put-refused-requires : tie.Need-put-refused-requires
@@ -34,7 +36,9 @@ same-length-2 c = search needs
 returns-2 : tie.Need-returns-2
 unfolding shortText
 returns-2 c =
-    let below : number (c .before .before .before .before .before .before .before .args .refusal) < c .before .before .before .before .before .before .before .args .least = omega (arith, c .before .before .before .before .before .number .ensures) in
+    let below : number (c .before .before .before .before .before .before .before .args .refusal) <
+    c .before .before .before .before .before .before .before .args .least = omega
+    (arith, c .before .before .before .before .before .number .ensures) in
     rw (lt-leb _ _ below) (c .before .before .put-refused .ensures)
 
 pub put-short-spec : {M : Type 1} → statement M

@@ -32,7 +32,8 @@ same-length : tie.Need-same-length
 same-length c = search needs
 
 returns : tie.Need-returns
-returns c = puts-usage _ _ _ (sym (c .before .before .before .before .before .before .fits2 .ensures) ∙ not-true _ (c .before .before .before .before .before .if1 .taken)) (c .before .before .put-usage .ensures)
+returns c = puts-usage _ _ _ (sym (c .before .before .before .before .before .before .fits2 .ensures) ∙ not-true _
+    (c .before .before .before .before .before .if1 .taken)) (c .before .before .put-usage .ensures)
 
 u32-at-requires : tie.Need-u32-at-requires
 u32-at-requires c κs = search needs
@@ -81,21 +82,37 @@ same-length-2 c = search needs
 
 returns-2 : tie.Need-returns-2
 returns-2 c =
-    let given = c .before .before .before .before .before .before .before .before .before .before .before .before .before .before .before .before .before .before .before .before .args in
+    let given = c .before .before .before .before .before .before .before .before .before .before .before .before .before
+    .before .before .before .before .before .before .before .args in
     let tokens = given .tokens .now in
-    let asked = c .before .before .before .before .before .before .before .before .before .before .before .before .before .long .ensures .0 ∙ c .before .before .before .before .before .before .before .before .before .before .before .before .before .before .u32-at .ensures in
-    let room = c .before .before .before .before .before .before .before .before .before .before .before .long2 .ensures .0 ∙ c .before .before .before .before .before .before .before .before .before .before .before .before .u32-at2 .ensures in
-    let least = c .before .before .before .before .before .before .before .before .before .before .least-short .ensures ∙ (λ i. leastShort (asked i) (room i)) in
-    let end = c .before .before .before .before .before .before .before .before .before .lent .ensures .0 ∙ ap (λ (n : ℕ). lentLength n canvasRoom) asked in
-    let file-end = c .before .before .before .before .before .before .before .before .lent2 .ensures .0 ∙ ap (λ (n : ℕ). lentLength n fileRoom) room in
-    let long = ap (λ (l : List ℕ). length l) (lent-part {A = ℕ} 0 (c .before .before .before .before .before .before .before .before .before .lent .result) canvasRoom (c .before .before .before .before .before .before .before .before .before .lent .ensures .1)) ∙ length-replicate (c .before .before .before .before .before .before .before .before .before .lent .result) 0 ∙ end in
-    let file = lent-part {A = ℕ} 0 (c .before .before .before .before .before .before .before .before .lent2 .result) fileRoom (c .before .before .before .before .before .before .before .before .lent2 .ensures .1) ∙ ap (λ (n : ℕ). replicate n 0) file-end in
+    let asked = c .before .before .before .before .before .before .before .before .before .before .before .before .before
+    .long .ensures .0 ∙ c .before .before .before .before .before .before .before .before .before .before .before
+    .before .before .before .u32-at .ensures in
+    let room = c .before .before .before .before .before .before .before .before .before .before .before .long2 .ensures .0
+    ∙ c .before .before .before .before .before .before .before .before .before .before .before .before .u32-at2 .ensures in
+    let least = c .before .before .before .before .before .before .before .before .before .before .least-short .ensures ∙
+    (λ i. leastShort (asked i) (room i)) in
+    let end = c .before .before .before .before .before .before .before .before .before .lent .ensures .0 ∙ ap
+    (λ (n : ℕ). lentLength n canvasRoom) asked in
+    let file-end = c .before .before .before .before .before .before .before .before .lent2 .ensures .0 ∙ ap
+    (λ (n : ℕ). lentLength n fileRoom) room in
+    let long = ap (λ (l : List ℕ). length l)
+    (lent-part {A = ℕ} 0 (c .before .before .before .before .before .before .before .before .before .lent .result)
+    canvasRoom (c .before .before .before .before .before .before .before .before .before .lent .ensures .1))
+    ∙ length-replicate (c .before .before .before .before .before .before .before .before .before .lent .result) 0 ∙ end in
+    let file = lent-part {A = ℕ} 0 (c .before .before .before .before .before .before .before .before .lent2 .result)
+    fileRoom (c .before .before .before .before .before .before .before .before .lent2 .ensures .1) ∙ ap
+    (λ (n : ℕ). replicate n 0) file-end in
     let W = u32At tokens 0 in
     let H = u32At tokens 1 in
     let seed = u32At tokens 3 in
-    puts-query _ _ _ (sym (c .before .before .before .before .before .before .before .before .before .before .before .before .before .before .before .before .fits2 .ensures) ∙ not-false _ (c .before .before .before .before .before .before .before .before .before .before .before .before .before .before .before .if1 .left))
+    puts-query _ _ _ (sym (c .before .before .before .before .before .before .before .before .before .before .before .before
+    .before .before .before .before .fits2 .ensures) ∙ not-false _
+    (c .before .before .before .before .before .before .before .before .before .before .before .before .before .before
+    .before .if1 .left))
     (puts-as
-    (λ i. writtenText (least i) (given .is-full) (writeCall W H (seeded seed (long i)) (file i)) (fileAfter W H (seeded seed (long i)) (file i)))
+    (λ i. writtenText (least i) (given .is-full) (writeCall W H (seeded seed (long i)) (file i))
+    (fileAfter W H (seeded seed (long i)) (file i)))
     (c .before .before .before .before .write-on .ensures))
 
 pub p5-spec : {M : Type 1} → statement M

@@ -27,7 +27,9 @@ same-length : tie.Need-same-length
 same-length c = search needs
 
 returns : tie.Need-returns
-returns c = puts-as (ap (λ (l : List ℕ). hexText l) (from-first (c .before .before .before .before .before .before .before .before .args .count) (c .before .before .before .before .before .before .before .before .args .file .now))) (c .before .before .put-hex .ensures)
+returns c = puts-as (ap (λ (l : List ℕ). hexText l)
+    (from-first (c .before .before .before .before .before .before .before .before .args .count)
+    (c .before .before .before .before .before .before .before .before .args .file .now))) (c .before .before .put-hex .ensures)
 
 put-hex-requires-2 : tie.Need-put-hex-requires-2
 put-hex-requires-2 c κs = search needs
@@ -36,7 +38,10 @@ same-length-2 : tie.Need-same-length-2
 same-length-2 c = search needs
 
 returns-2 : tie.Need-returns-2
-returns-2 c = puts-as (ap (λ (l : List ℕ). hexText l) (sym (take-all (c .before .before .before .before .before .before .before .args .count) (c .before .before .before .before .before .before .before .args .file .now) (c .before .before .before .before .if1 .left)))) (c .before .before .put-hex2 .ensures)
+returns-2 c = puts-as (ap (λ (l : List ℕ). hexText l)
+    (sym (take-all (c .before .before .before .before .before .before .before .args .count)
+    (c .before .before .before .before .before .before .before .args .file .now)
+    (c .before .before .before .before .if1 .left)))) (c .before .before .put-hex2 .ensures)
 
 pub put-front-spec : {M : Type 1} → statement M
 put-front-spec =

@@ -22,7 +22,9 @@ same-length : tie.Need-same-length
 same-length c = search needs
 
 returns : tie.Need-returns
-returns c = puts-then (c .before .before .before .before .before .before .before .before .before .before .put-number .ensures) (puts-then (c .before .before .before .before .before .before .put-byte .ensures) (c .before .before .put-file .ensures))
+returns c = puts-then (c .before .before .before .before .before .before .before .before .before .before .put-number
+    .ensures) (puts-then (c .before .before .before .before .before .before .put-byte .ensures)
+    (c .before .before .put-file .ensures))
 
 pub put-written-spec : {M : Type 1} → statement M
 put-written-spec =

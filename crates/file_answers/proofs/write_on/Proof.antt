@@ -1,4 +1,5 @@
--- `file_answers::write_on` meets its contract: each answer by its own. The length of a file that is written is at most that of its buffer, so it fits.
+-- `file_answers::write_on` meets its contract: each answer by its own. The length of a file that is written is at most that of
+-- its buffer, so it fits.
 -- Assumes nothing.
 use mathlib.Core.Path.{_≡_, refl, sym, ap, _∙_}
 use Prim.Native.Nat.{ℕ, _≤_}
@@ -42,13 +43,18 @@ enum-known-answer-2 c = search needs
 
 put-written-requires : tie.Need-put-written-requires
 put-written-requires c κs =
-    let given = c .before .before .before .before .before .before .before .before .before .before .before .before .before .before .before .before .before .before .before .before .before .args in
+    let given = c .before .before .before .before .before .before .before .before .before .before .before .before .before
+    .before .before .before .before .before .before .before .before .args in
     let file = given .file .now in
     let width = c .before .before .before .before .before .before .before .before .before .before .before .u32-at2 .ensures in
     let height = c .before .before .before .before .before .before .before .before .before .before .u32-at3 .ensures in
-    let canvas = c .before .before .before .before .before .before .before .before .before .before .before .before .before .before .fill .ensures ∙ ap (λ (seed : ℕ). seeded seed (length (given .canvas .now))) (c .before .before .before .before .before .before .before .before .before .before .before .before .before .before .before .u32-at .ensures) in
+    let canvas = c .before .before .before .before .before .before .before .before .before .before .before .before .before
+    .before .fill .ensures ∙ ap (λ (seed : ℕ). seeded seed (length (given .canvas .now)))
+    (c .before .before .before .before .before .before .before .before .before .before .before .before .before .before
+    .before .u32-at .ensures) in
     let says = sym (ap (λ (a : WriteAnswer). writeOutcome a) (c .before .before .before .answer2 .given .1))
-    ∙ c .before .before .before .before .before .before .before .write-p5 .ensures .0 ∙ (λ i. writeCall (width i) (height i) (canvas i) file) in
+    ∙ c .before .before .before .before .before .before .before .write-p5 .ensures .0 ∙
+    (λ i. writeCall (width i) (height i) (canvas i) file) in
     let within = file-fits _ _ _ file _ (sym says) in
     omega (arith, within)
 
@@ -63,15 +69,24 @@ same-length-3 c = search needs
 
 returns : tie.Need-returns
 returns c =
-    let given = c .before .before .before .before .before .before .before .before .before .before .before .before .before .before .before .before .before .before .before .before .before .before .before .args in
+    let given = c .before .before .before .before .before .before .before .before .before .before .before .before .before
+    .before .before .before .before .before .before .before .before .before .before .args in
     let file = given .file .now in
-    let width = c .before .before .before .before .before .before .before .before .before .before .before .before .before .u32-at2 .ensures in
-    let height = c .before .before .before .before .before .before .before .before .before .before .before .before .u32-at3 .ensures in
-    let canvas = c .before .before .before .before .before .before .before .before .before .before .before .before .before .before .before .before .fill .ensures ∙ ap (λ (seed : ℕ). seeded seed (length (given .canvas .now))) (c .before .before .before .before .before .before .before .before .before .before .before .before .before .before .before .before .before .u32-at .ensures) in
+    let width = c .before .before .before .before .before .before .before .before .before .before .before .before .before
+    .u32-at2 .ensures in
+    let height = c .before .before .before .before .before .before .before .before .before .before .before .before .u32-at3
+    .ensures in
+    let canvas = c .before .before .before .before .before .before .before .before .before .before .before .before .before
+    .before .before .before .fill .ensures ∙ ap (λ (seed : ℕ). seeded seed (length (given .canvas .now)))
+    (c .before .before .before .before .before .before .before .before .before .before .before .before .before .before
+    .before .before .before .u32-at .ensures) in
     let says = sym (ap (λ (a : WriteAnswer). writeOutcome a) (c .before .before .before .before .before .answer .given .1))
-    ∙ c .before .before .before .before .before .before .before .before .before .write-p5 .ensures .0 ∙ (λ i. writeCall (width i) (height i) (canvas i) file) in
-    let after = fileAfter (u32At (given .tokens .now) 0) (u32At (given .tokens .now) 1) (seeded (u32At (given .tokens .now) 3) (length (given .canvas .now))) file in
-    puts-as (ap (λ (o : Outcome). writtenText (given .least) (given .is-full) o after) says) (c .before .before .put-short .ensures)
+    ∙ c .before .before .before .before .before .before .before .before .before .write-p5 .ensures .0 ∙
+    (λ i. writeCall (width i) (height i) (canvas i) file) in
+    let after = fileAfter (u32At (given .tokens .now) 0) (u32At (given .tokens .now) 1)
+    (seeded (u32At (given .tokens .now) 3) (length (given .canvas .now))) file in
+    puts-as (ap (λ (o : Outcome). writtenText (given .least) (given .is-full) o after) says)
+    (c .before .before .put-short .ensures)
 
 same-length-4 : tie.Need-same-length-4
 same-length-4 c = search needs
@@ -84,14 +99,23 @@ same-length-6 c = search needs
 
 returns-2 : tie.Need-returns-2
 returns-2 c =
-    let given = c .before .before .before .before .before .before .before .before .before .before .before .before .before .before .before .before .before .before .before .before .before .before .before .before .args in
+    let given = c .before .before .before .before .before .before .before .before .before .before .before .before .before
+    .before .before .before .before .before .before .before .before .before .before .before .args in
     let file = given .file .now in
-    let width = c .before .before .before .before .before .before .before .before .before .before .before .before .before .before .u32-at2 .ensures in
-    let height = c .before .before .before .before .before .before .before .before .before .before .before .before .before .u32-at3 .ensures in
-    let canvas = c .before .before .before .before .before .before .before .before .before .before .before .before .before .before .before .before .before .fill .ensures ∙ ap (λ (seed : ℕ). seeded seed (length (given .canvas .now))) (c .before .before .before .before .before .before .before .before .before .before .before .before .before .before .before .before .before .before .u32-at .ensures) in
-    let says = sym (ap (λ (a : WriteAnswer). writeOutcome a) (c .before .before .before .before .before .before .answer2 .given .1))
-    ∙ c .before .before .before .before .before .before .before .before .before .before .write-p5 .ensures .0 ∙ (λ i. writeCall (width i) (height i) (canvas i) file) in
-    let after = c .before .before .before .before .before .before .before .before .before .before .write-p5 .ensures .1 ∙ (λ i. fileAfter (width i) (height i) (canvas i) file) in
+    let width = c .before .before .before .before .before .before .before .before .before .before .before .before .before
+    .before .u32-at2 .ensures in
+    let height = c .before .before .before .before .before .before .before .before .before .before .before .before .before
+    .u32-at3 .ensures in
+    let canvas = c .before .before .before .before .before .before .before .before .before .before .before .before .before
+    .before .before .before .before .fill .ensures ∙ ap (λ (seed : ℕ). seeded seed (length (given .canvas .now)))
+    (c .before .before .before .before .before .before .before .before .before .before .before .before .before .before
+    .before .before .before .before .u32-at .ensures) in
+    let says = sym (ap (λ (a : WriteAnswer). writeOutcome a)
+    (c .before .before .before .before .before .before .answer2 .given .1))
+    ∙ c .before .before .before .before .before .before .before .before .before .before .write-p5 .ensures .0 ∙
+    (λ i. writeCall (width i) (height i) (canvas i) file) in
+    let after = c .before .before .before .before .before .before .before .before .before .before .write-p5 .ensures .1 ∙
+    (λ i. fileAfter (width i) (height i) (canvas i) file) in
     puts-as (λ i. writtenText (given .least) (given .is-full) (says i) (after i)) (c .before .before .put-written .ensures)
 
 pub write-on-spec : {M : Type 1} → statement M

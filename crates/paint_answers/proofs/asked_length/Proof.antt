@@ -23,7 +23,10 @@ long-requires c κs = search needs
 
 returns : tie.Need-returns
 unfolding askedLength
-returns c = rw (sym (c .before .before .before .before .is-length-given .ensures) ∙ c .before .before .before .if1 .taken) (c .long .ensures .0 ∙ c .before .u32-at .ensures ∙ ap (λ (k : ℕ). u32At (c .before .before .before .before .before .before .args .tokens .now) k) (c .before .before .plus .ensures))
+returns c = rw (sym (c .before .before .before .before .is-length-given .ensures) ∙ c .before .before .before .if1 .taken)
+    (c .long .ensures .0 ∙ c .before .u32-at .ensures ∙ ap
+    (λ (k : ℕ). u32At (c .before .before .before .before .before .before .args .tokens .now) k)
+    (c .before .before .plus .ensures))
 
 u32-at-requires-2 : tie.Need-u32-at-requires-2
 u32-at-requires-2 c κs = search needs
@@ -40,8 +43,12 @@ area-requires c κs = search needs
 returns-2 : tie.Need-returns-2
 unfolding askedLength
 returns-2 c =
-    let height = c .before .u32-at3 .ensures ∙ ap (λ (k : ℕ). u32At (c .before .before .before .before .before .before .before .args .tokens .now) k) (c .before .before .plus2 .ensures) in
-    rw (sym (c .before .before .before .before .before .is-length-given .ensures) ∙ c .before .before .before .before .if1 .left) (c .area .ensures ∙ (λ i. canvasArea (c .before .before .before .u32-at2 .ensures i) (height i)))
+    let height = c .before .u32-at3 .ensures ∙ ap
+    (λ (k : ℕ). u32At (c .before .before .before .before .before .before .before .args .tokens .now) k)
+    (c .before .before .plus2 .ensures) in
+    rw (sym (c .before .before .before .before .before .is-length-given .ensures)
+    ∙ c .before .before .before .before .if1 .left)
+    (c .area .ensures ∙ (λ i. canvasArea (c .before .before .before .u32-at2 .ensures i) (height i)))
 
 pub asked-length-spec : {M : Type 1} → statement M
 asked-length-spec =

@@ -19,7 +19,9 @@ is-u32-requires c κs = search needs
 
 returns : tie.Need-returns
 unfolding isLengthGiven
-returns c = c .is-u32 .ensures ∙ ap isU32 (c .before .token .ensures ∙ ap (λ (k : ℕ). tokenAt (c .before .before .before .before .args .tokens .now) k) (c .before .before .plus .ensures))
+returns c = c .is-u32 .ensures ∙ ap isU32
+    (c .before .token .ensures ∙ ap (λ (k : ℕ). tokenAt (c .before .before .before .before .args .tokens .now) k)
+    (c .before .before .plus .ensures))
 
 pub is-length-given-spec : {M : Type 1} → statement M
 is-length-given-spec =

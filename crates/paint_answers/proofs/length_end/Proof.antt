@@ -19,7 +19,8 @@ plus-requires-2 c κs = search needs
 
 returns : tie.Need-returns
 unfolding lengthEnd
-returns c = rw (sym (c .before .before .before .is-length-given .ensures) ∙ c .before .before .if1 .taken) (c .plus2 .ensures ∙ ap (λ (k : ℕ). plus k 1) (c .before .plus .ensures))
+returns c = rw (sym (c .before .before .before .is-length-given .ensures) ∙ c .before .before .if1 .taken)
+    (c .plus2 .ensures ∙ ap (λ (k : ℕ). plus k 1) (c .before .plus .ensures))
 
 plus-requires-3 : tie.Need-plus-requires-3
 plus-requires-3 c κs = search needs

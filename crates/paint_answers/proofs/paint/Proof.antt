@@ -42,10 +42,14 @@ returns c =
     let given = c .before .before .before .before .before .before .before .before .before .before .before .before .args in
     let tokens = given .tokens .now in
     let words = c .before .before .before .before .before .before .before .before .before .figure-words .ensures in
-    let sides = c .before .before .before .before .before .before .before .before .plus .ensures ∙ ap (λ (k : ℕ). plus k 4) words in
-    let seed-at = c .before .before .before .before .before .before .before .length-end .ensures ∙ ap (λ (k : ℕ). lengthEnd tokens k) sides in
-    let fit = ap (λ (k : ℕ). paintFits tokens k) (sym seed-at) ∙ sym (c .before .before .before .before .before .before .paint-fits .ensures) in
-    puts-usage _ _ _ (fit ∙ not-true _ (c .before .before .before .before .before .if1 .taken)) (c .before .before .put-usage .ensures)
+    let sides = c .before .before .before .before .before .before .before .before .plus .ensures ∙ ap
+    (λ (k : ℕ). plus k 4) words in
+    let seed-at = c .before .before .before .before .before .before .before .length-end .ensures ∙ ap
+    (λ (k : ℕ). lengthEnd tokens k) sides in
+    let fit = ap (λ (k : ℕ). paintFits tokens k) (sym seed-at) ∙ sym
+    (c .before .before .before .before .before .before .paint-fits .ensures) in
+    puts-usage _ _ _ (fit ∙ not-true _ (c .before .before .before .before .before .if1 .taken))
+    (c .before .before .put-usage .ensures)
 
 asked-length-requires : tie.Need-asked-length-requires
 asked-length-requires c κs = search needs
@@ -74,18 +78,27 @@ same-length-2 c = search needs
 returns-2 : tie.Need-returns-2
 unfolding sidesAt
 returns-2 c =
-    let given = c .before .before .before .before .before .before .before .before .before .before .before .before .before .before .before .before .args in
+    let given = c .before .before .before .before .before .before .before .before .before .before .before .before .before
+    .before .before .before .args in
     let tokens = given .tokens .now in
-    let words = c .before .before .before .before .before .before .before .before .before .before .before .before .before .figure-words .ensures in
-    let sides = c .before .before .before .before .before .before .before .before .before .before .before .before .plus .ensures ∙ ap (λ (k : ℕ). plus k 4) words in
-    let seed-at = c .before .before .before .before .before .before .before .before .before .before .before .length-end .ensures ∙ ap (λ (k : ℕ). lengthEnd tokens k) sides in
-    let fit = ap (λ (k : ℕ). paintFits tokens k) (sym seed-at) ∙ sym (c .before .before .before .before .before .before .before .before .before .before .paint-fits .ensures) in
-    let asked = c .before .before .before .before .before .before .before .before .asked-length .ensures ∙ ap (λ (k : ℕ). askedLength tokens k) sides in
+    let words = c .before .before .before .before .before .before .before .before .before .before .before .before .before
+    .figure-words .ensures in
+    let sides = c .before .before .before .before .before .before .before .before .before .before .before .before .plus
+    .ensures ∙ ap (λ (k : ℕ). plus k 4) words in
+    let seed-at = c .before .before .before .before .before .before .before .before .before .before .before .length-end
+    .ensures ∙ ap (λ (k : ℕ). lengthEnd tokens k) sides in
+    let fit = ap (λ (k : ℕ). paintFits tokens k) (sym seed-at) ∙ sym
+    (c .before .before .before .before .before .before .before .before .before .before .paint-fits .ensures) in
+    let asked = c .before .before .before .before .before .before .before .before .asked-length .ensures ∙ ap
+    (λ (k : ℕ). askedLength tokens k) sides in
     let least = c .before .before .before .before .before .before .before .least-short .ensures ∙ ap leastShort asked in
-    let end = c .before .before .before .before .before .before .lent .ensures .0 ∙ ap (λ (n : ℕ). lentLength n canvasRoom) asked in
-    let canvas = lent-part {A = ℕ} 0 (c .before .before .before .before .before .before .lent .result) canvasRoom (c .before .before .before .before .before .before .lent .ensures .1) ∙ ap (λ (n : ℕ). replicate n 0) end in
+    let end = c .before .before .before .before .before .before .lent .ensures .0 ∙ ap
+    (λ (n : ℕ). lentLength n canvasRoom) asked in
+    let canvas = lent-part {A = ℕ} 0 (c .before .before .before .before .before .before .lent .result) canvasRoom
+    (c .before .before .before .before .before .before .lent .ensures .1) ∙ ap (λ (n : ℕ). replicate n 0) end in
     puts-query _ _ _ (fit ∙ not-false _ (c .before .before .before .before .before .before .before .before .before .if1 .left))
-    (puts-as (λ i. paintedText (least i) (given .is-full) (figureAt tokens 0) (styleAt tokens (words i)) (u32At tokens (sides i)) (u32At tokens (plus (sides i) 1)) (filled tokens (seed-at i) (canvas i)))
+    (puts-as (λ i. paintedText (least i) (given .is-full) (figureAt tokens 0) (styleAt tokens (words i))
+    (u32At tokens (sides i)) (u32At tokens (plus (sides i) 1)) (filled tokens (seed-at i) (canvas i)))
     (c .before .before .before .paint-filled .ensures))
 
 pub paint-spec : {M : Type 1} → statement M

@@ -24,9 +24,13 @@ same-length-2 c = search needs
 
 returns : tie.Need-returns
 returns c =
-    let given = c .before .before .before .before .before .before .before .before .before .before .before .before .before .before .args in
+    let given = c .before .before .before .before .before .before .before .before .before .before .before .before .before
+    .before .args in
     let tokens = given .tokens .now in
-    puts-as (λ i. paintedText (given .least) (given .is-full) (figureAt tokens 0) (styleAt tokens (given .words)) (u32At tokens (given .sides)) (u32At tokens (plus (given .sides) 1)) (c .before .before .before .before .before .before .before .before .before .fill-seeded .ensures i)) (c .before .before .before .before .paint-on .ensures)
+    puts-as (λ i. paintedText (given .least) (given .is-full) (figureAt tokens 0) (styleAt tokens (given .words))
+    (u32At tokens (given .sides)) (u32At tokens (plus (given .sides) 1))
+    (c .before .before .before .before .before .before .before .before .before .fill-seeded .ensures i))
+    (c .before .before .before .before .paint-on .ensures)
 
 pub paint-filled-spec : {M : Type 1} → statement M
 paint-filled-spec =

@@ -25,7 +25,8 @@ seed-end-requires c κs = search needs
 
 returns-2 : tie.Need-returns-2
 unfolding paintFits
-returns-2 c = rw (ne-eqb _ _ (λ e. c .before .if1 .left (c .before .before .form-end .ensures ∙ e))) (ap (λ (n : ℕ). eqb n (length (c .before .before .before .before .before .args .tokens .now))) (c .seed-end .ensures))
+returns-2 c = rw (ne-eqb _ _ (λ e. c .before .if1 .left (c .before .before .form-end .ensures ∙ e)))
+    (ap (λ (n : ℕ). eqb n (length (c .before .before .before .before .before .args .tokens .now))) (c .seed-end .ensures))
 
 pub paint-fits-spec : {M : Type 1} → statement M
 paint-fits-spec =

@@ -52,17 +52,26 @@ same-length-2 c = search needs
 
 returns : tie.Need-returns
 returns c =
-    let given = c .before .before .before .before .before .before .before .before .before .before .before .before .before .before .before .before .before .before .before .args in
+    let given = c .before .before .before .before .before .before .before .before .before .before .before .before .before
+    .before .before .before .before .before .before .args in
     let tokens = given .tokens .now in
     let canvas = given .canvas .now in
-    let figure = c .before .before .before .before .before .before .before .before .before .before .before .before .before .before .before .figure-at .ensures in
-    let style = c .before .before .before .before .before .before .before .before .before .before .before .before .before .before .style-at .ensures in
-    let width = c .before .before .before .before .before .before .before .before .before .before .before .before .before .u32-at .ensures in
-    let height = c .before .before .before .before .before .before .before .before .before .before .before .u32-at2 .ensures ∙ ap (λ (k : ℕ). u32At tokens k) (c .before .before .before .before .before .before .before .before .before .before .before .before .plus .ensures) in
+    let figure = c .before .before .before .before .before .before .before .before .before .before .before .before .before
+    .before .before .figure-at .ensures in
+    let style = c .before .before .before .before .before .before .before .before .before .before .before .before .before
+    .before .style-at .ensures in
+    let width = c .before .before .before .before .before .before .before .before .before .before .before .before .before
+    .u32-at .ensures in
+    let height = c .before .before .before .before .before .before .before .before .before .before .before .u32-at2 .ensures
+    ∙ ap (λ (k : ℕ). u32At tokens k)
+    (c .before .before .before .before .before .before .before .before .before .before .before .before .plus .ensures) in
     let says = sym (ap (λ (a : PaintAnswer). paintOutcome a) (c .before .before .before .before .before .answer .given .1))
-    ∙ c .before .before .before .before .before .before .before .before .before .paint-figure .ensures .0 ∙ (λ i. paintCall (figure i) (style i) (width i) (height i) canvas) in
-    let after = canvasAfter (figureAt tokens 0) (styleAt tokens (given .words)) (u32At tokens (given .sides)) (u32At tokens (plus (given .sides) 1)) canvas in
-    puts-as (ap (λ (o : Outcome). lentText (given .least) (canvasText (given .is-full) after) o) says) (c .before .before .put-short .ensures)
+    ∙ c .before .before .before .before .before .before .before .before .before .paint-figure .ensures .0 ∙
+    (λ i. paintCall (figure i) (style i) (width i) (height i) canvas) in
+    let after = canvasAfter (figureAt tokens 0) (styleAt tokens (given .words)) (u32At tokens (given .sides))
+    (u32At tokens (plus (given .sides) 1)) canvas in
+    puts-as (ap (λ (o : Outcome). lentText (given .least) (canvasText (given .is-full) after) o) says)
+    (c .before .before .put-short .ensures)
 
 same-length-3 : tie.Need-same-length-3
 same-length-3 c = search needs
@@ -72,17 +81,26 @@ same-length-4 c = search needs
 
 returns-2 : tie.Need-returns-2
 returns-2 c =
-    let given = c .before .before .before .before .before .before .before .before .before .before .before .before .before .before .before .before .before .before .before .args in
+    let given = c .before .before .before .before .before .before .before .before .before .before .before .before .before
+    .before .before .before .before .before .before .args in
     let tokens = given .tokens .now in
     let canvas = given .canvas .now in
-    let figure = c .before .before .before .before .before .before .before .before .before .before .before .before .before .before .before .figure-at .ensures in
-    let style = c .before .before .before .before .before .before .before .before .before .before .before .before .before .before .style-at .ensures in
-    let width = c .before .before .before .before .before .before .before .before .before .before .before .before .before .u32-at .ensures in
-    let height = c .before .before .before .before .before .before .before .before .before .before .before .u32-at2 .ensures ∙ ap (λ (k : ℕ). u32At tokens k) (c .before .before .before .before .before .before .before .before .before .before .before .before .plus .ensures) in
+    let figure = c .before .before .before .before .before .before .before .before .before .before .before .before .before
+    .before .before .figure-at .ensures in
+    let style = c .before .before .before .before .before .before .before .before .before .before .before .before .before
+    .before .style-at .ensures in
+    let width = c .before .before .before .before .before .before .before .before .before .before .before .before .before
+    .u32-at .ensures in
+    let height = c .before .before .before .before .before .before .before .before .before .before .before .u32-at2 .ensures
+    ∙ ap (λ (k : ℕ). u32At tokens k)
+    (c .before .before .before .before .before .before .before .before .before .before .before .before .plus .ensures) in
     let says = sym (ap (λ (a : PaintAnswer). paintOutcome a) (c .before .before .before .before .before .enum-told .given .1))
-    ∙ c .before .before .before .before .before .before .before .before .before .paint-figure .ensures .0 ∙ (λ i. paintCall (figure i) (style i) (width i) (height i) canvas) in
-    let after = c .before .before .before .before .before .before .before .before .before .paint-figure .ensures .1 ∙ (λ i. canvasAfter (figure i) (style i) (width i) (height i) canvas) in
-    puts-as (λ i. lentText (given .least) (canvasText (given .is-full) (after i)) (says i)) (c .before .before .put-canvas .ensures)
+    ∙ c .before .before .before .before .before .before .before .before .before .paint-figure .ensures .0 ∙
+    (λ i. paintCall (figure i) (style i) (width i) (height i) canvas) in
+    let after = c .before .before .before .before .before .before .before .before .before .paint-figure .ensures .1 ∙
+    (λ i. canvasAfter (figure i) (style i) (width i) (height i) canvas) in
+    puts-as (λ i. lentText (given .least) (canvasText (given .is-full) (after i)) (says i))
+    (c .before .before .put-canvas .ensures)
 
 pub paint-on-spec : {M : Type 1} → statement M
 paint-on-spec =

@@ -35,8 +35,11 @@ same-length-2 c = search needs
 returns : tie.Need-returns
 returns c =
     let given = c .before .before .before .before .before .before .before .before .before .before .before .args in
-    let says = sym (ap (λ (a : PointsAnswer). pointsOutcome a) (c .before .before .before .before .before .answer .given .1)) ∙ c .before .before .before .before .before .before .before .before .points .ensures .0 in
-    puts-as (ap (λ (o : Outcome). listedText (given .least) (given .is-full) o (listAfter (given .figure) (given .list .now))) says) (c .before .before .put-short .ensures)
+    let says = sym (ap (λ (a : PointsAnswer). pointsOutcome a)
+    (c .before .before .before .before .before .answer .given .1))
+    ∙ c .before .before .before .before .before .before .before .before .points .ensures .0 in
+    puts-as (ap (λ (o : Outcome). listedText (given .least) (given .is-full) o
+    (listAfter (given .figure) (given .list .now))) says) (c .before .before .put-short .ensures)
 
 same-length-3 : tie.Need-same-length-3
 same-length-3 c = search needs
@@ -47,8 +50,12 @@ same-length-4 c = search needs
 returns-2 : tie.Need-returns-2
 returns-2 c =
     let given = c .before .before .before .before .before .before .before .before .before .before .before .before .args in
-    let says = sym (ap (λ (a : PointsAnswer). pointsOutcome a) (c .before .before .before .before .before .before .answer2 .given .1)) ∙ c .before .before .before .before .before .before .before .before .before .points .ensures .0 in
-    puts-as (λ i. listedText (given .least) (given .is-full) (says i) (c .before .before .before .before .before .before .before .before .before .points .ensures .1 i)) (c .before .before .put-points .ensures)
+    let says = sym (ap (λ (a : PointsAnswer). pointsOutcome a)
+    (c .before .before .before .before .before .before .answer2 .given .1))
+    ∙ c .before .before .before .before .before .before .before .before .before .points .ensures .0 in
+    puts-as (λ i. listedText (given .least) (given .is-full) (says i)
+    (c .before .before .before .before .before .before .before .before .before .points .ensures .1 i))
+    (c .before .before .put-points .ensures)
 
 pub list-on-spec : {M : Type 1} → statement M
 list-on-spec =

@@ -33,8 +33,11 @@ same-length c = search needs
 returns : tie.Need-returns
 returns c =
     let given = c .before .before .before .before .before .before .before .before .args in
-    let list = lent-part (pos 0) (c .before .before .before .before .before .before .lent .result) listRoom (c .before .before .before .before .before .before .lent .ensures .1) ∙ ap (λ (n : ℕ). replicate n (pos 0)) (c .before .before .before .before .before .before .lent .ensures .0) in
-    puts-as (λ i. listedText (given .least) (given .is-full) (pointsCall (given .figure) (list i)) (listAfter (given .figure) (list i))) (c .before .before .before .list-on .ensures)
+    let list = lent-part (pos 0) (c .before .before .before .before .before .before .lent .result) listRoom
+    (c .before .before .before .before .before .before .lent .ensures .1) ∙ ap (λ (n : ℕ). replicate n (pos 0))
+    (c .before .before .before .before .before .before .lent .ensures .0) in
+    puts-as (λ i. listedText (given .least) (given .is-full) (pointsCall (given .figure) (list i))
+    (listAfter (given .figure) (list i))) (c .before .before .before .list-on .ensures)
 
 pub list-points-spec : {M : Type 1} → statement M
 list-points-spec =

@@ -31,7 +31,10 @@ returns : tie.Need-returns
 unfolding pointsText
 returns c =
     let given = c .before .before .before .before .before .before .before .before .before .before .args in
-    rw (sym (c .before .before .before .before .before .before .fits2 .ensures) ∙ c .before .before .before .before .before .if1 .taken) (puts-as (ap (λ (f : Figure). roomText (given .is-full) f listRoom 13) (c .before .before .before .before .figure-at .ensures)) (c .before .before .list-points .ensures))
+    rw (sym (c .before .before .before .before .before .before .fits2 .ensures)
+    ∙ c .before .before .before .before .before .if1 .taken)
+    (puts-as (ap (λ (f : Figure). roomText (given .is-full) f listRoom 13)
+    (c .before .before .before .before .figure-at .ensures)) (c .before .before .list-points .ensures))
 
 slice-aggregate-fits-2 : tie.Need-slice-aggregate-fits-2
 slice-aggregate-fits-2 c = search needs
@@ -51,8 +54,10 @@ same-length-2 c = search needs
 returns-2 : tie.Need-returns-2
 unfolding pointsText
 returns-2 c =
-    rw (sym (c .before .before .before .before .before .before .before .before .before .fits2 .ensures) ∙ c .before .before .before .before .before .before .before .before .if1 .left)
-    (puts-usage _ _ _ (sym (c .before .before .before .before .before .before .fits3 .ensures) ∙ not-true _ (c .before .before .before .before .before .if2 .taken)) (c .before .before .put-usage .ensures))
+    rw (sym (c .before .before .before .before .before .before .before .before .before .fits2 .ensures)
+    ∙ c .before .before .before .before .before .before .before .before .if1 .left)
+    (puts-usage _ _ _ (sym (c .before .before .before .before .before .before .fits3 .ensures) ∙ not-true _
+    (c .before .before .before .before .before .if2 .taken)) (c .before .before .put-usage .ensures))
 
 figure-words-requires : tie.Need-figure-words-requires
 figure-words-requires c κs = search needs
@@ -78,12 +83,20 @@ same-length-3 c = search needs
 returns-3 : tie.Need-returns-3
 unfolding pointsText
 returns-3 c =
-    let given = c .before .before .before .before .before .before .before .before .before .before .before .before .before .before .before .before .before .args in
-    let room = c .before .before .before .before .before .before .long .ensures .0 ∙ c .before .before .before .before .before .before .before .u32-at .ensures ∙ ap (λ (k : ℕ). u32At (given .tokens .now) k) (c .before .before .before .before .before .before .before .before .figure-words .ensures) in
+    let given = c .before .before .before .before .before .before .before .before .before .before .before .before .before
+    .before .before .before .before .args in
+    let room = c .before .before .before .before .before .before .long .ensures .0
+    ∙ c .before .before .before .before .before .before .before .u32-at .ensures ∙ ap
+    (λ (k : ℕ). u32At (given .tokens .now) k)
+    (c .before .before .before .before .before .before .before .before .figure-words .ensures) in
     let least = c .before .before .before .before .least-short .ensures ∙ ap leastShort room in
-    rw (sym (c .before .before .before .before .before .before .before .before .before .before .before .before .before .fits2 .ensures) ∙ c .before .before .before .before .before .before .before .before .before .before .before .before .if1 .left)
-    (puts-query _ _ _ (sym (c .before .before .before .before .before .before .before .before .before .before .fits3 .ensures) ∙ not-false _ (c .before .before .before .before .before .before .before .before .before .if2 .left))
-    (puts-as (λ i. roomText (given .is-full) (c .before .before .before .before .before .figure-at2 .ensures i) (room i) (least i)) (c .before .before .list-points2 .ensures)))
+    rw (sym (c .before .before .before .before .before .before .before .before .before .before .before .before .before
+    .fits2 .ensures) ∙ c .before .before .before .before .before .before .before .before .before .before .before .before
+    .if1 .left)
+    (puts-query _ _ _ (sym (c .before .before .before .before .before .before .before .before .before .before .fits3
+    .ensures) ∙ not-false _ (c .before .before .before .before .before .before .before .before .before .if2 .left))
+    (puts-as (λ i. roomText (given .is-full) (c .before .before .before .before .before .figure-at2 .ensures i) (room i)
+    (least i)) (c .before .before .list-points2 .ensures)))
 
 pub points-spec : {M : Type 1} → statement M
 points-spec =

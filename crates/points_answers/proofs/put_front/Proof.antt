@@ -27,7 +27,10 @@ same-length : tie.Need-same-length
 same-length c = search needs
 
 returns : tie.Need-returns
-returns c = puts-as (ap (λ (l : List ℤ). numbersText (c .before .before .before .before .before .before .before .args .is-full) l) (from-first (c .before .before .before .before .before .before .before .args .end) (c .before .before .before .before .before .before .before .args .list .now))) (c .before .before .put-numbers .ensures)
+returns c = puts-as (ap (λ (l : List ℤ). numbersText
+    (c .before .before .before .before .before .before .before .args .is-full) l)
+    (from-first (c .before .before .before .before .before .before .before .args .end)
+    (c .before .before .before .before .before .before .before .args .list .now))) (c .before .before .put-numbers .ensures)
 
 put-numbers-requires-2 : tie.Need-put-numbers-requires-2
 put-numbers-requires-2 c κs = search needs
@@ -36,7 +39,10 @@ same-length-2 : tie.Need-same-length-2
 same-length-2 c = search needs
 
 returns-2 : tie.Need-returns-2
-returns-2 c = puts-as (ap (λ (l : List ℤ). numbersText (c .before .before .before .before .before .before .args .is-full) l) (sym (take-all (c .before .before .before .before .before .before .args .end) (c .before .before .before .before .before .before .args .list .now) (c .before .before .before .before .if1 .left)))) (c .before .before .put-numbers2 .ensures)
+returns-2 c = puts-as (ap (λ (l : List ℤ). numbersText (c .before .before .before .before .before .before .args .is-full) l)
+    (sym (take-all (c .before .before .before .before .before .before .args .end)
+    (c .before .before .before .before .before .before .args .list .now) (c .before .before .before .before .if1 .left))))
+    (c .before .before .put-numbers2 .ensures)
 
 pub put-front-spec : {M : Type 1} → statement M
 put-front-spec =

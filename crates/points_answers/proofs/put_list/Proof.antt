@@ -14,7 +14,9 @@ use Rattle.points_answers.proofs.put_list.Statement.{statement}
 use Rattle.points_answers.proofs.put_list.Tie as tie
 
 abbrev Inv-loop : tie.InvT-loop
-Inv-loop list out₀ at place₀ i₀ out place i = (i ≤ length list) × (length out ≡ length out₀) × (put (each nextText (drop i list)) (record { held = out; next = place }) ≡ put (each nextText list) (record { held = out₀; next = at }))
+Inv-loop list out₀ at place₀ i₀ out place i = (i ≤ length list) × (length out ≡ length out₀) ×
+    (put (each nextText (drop i list)) (record { held = out; next = place }) ≡ put (each nextText list)
+    (record { held = out₀; next = at }))
 
 abbrev μ-loop : tie.MeasureT-loop
 μ-loop list out₀ at place₀ i₀ out place i = length list - i
@@ -46,7 +48,8 @@ loop-again c =
     let put-one = puts-held-next (getD list (head .i) (pos 0)) fits (c .before .before .put-next-signed .ensures) in (
       omega arith,
       search needs,
-      put-each-here nextText list (head .i) (pos 0) (c .before .before .before .before .before .loop-test .taken) _ _ (put-one .output) ∙ head .inv .2,
+      put-each-here nextText list (head .i) (pos 0) (c .before .before .before .before .before .loop-test .taken) _ _
+          (put-one .output) ∙ head .inv .2,
     )
 
 same-length : tie.Need-same-length Inv-loop μ-loop
@@ -55,7 +58,10 @@ same-length c = search needs
 returns : tie.Need-returns Inv-loop μ-loop
 returns c =
     let head = c .before .loop in
-    record { output = sym (put-each-past nextText (c .before .before .before .args .list .now) (head .i) (c .loop-test .left) _) ∙ head .inv .2 }
+    record {
+      output = sym (put-each-past nextText (c .before .before .before .args .list .now) (head .i)
+          (c .loop-test .left) _) ∙ head .inv .2;
+    }
 
 pub put-list-spec : {M : Type 1} → statement M
 put-list-spec =

@@ -32,7 +32,9 @@ same-length-2 c = search needs
 
 returns-2 : tie.Need-returns-2
 unfolding numbersText
-returns-2 c = rw (c .before .before .before .before .before .if1 .left) (puts-as (ap (λ (n : ℕ). bytes " " ++ decimal n) (c .before .before .before .adler32-signed .ensures)) (c .before .before .put-next .ensures))
+returns-2 c = rw (c .before .before .before .before .before .if1 .left)
+    (puts-as (ap (λ (n : ℕ). bytes " " ++ decimal n) (c .before .before .before .adler32-signed .ensures))
+    (c .before .before .put-next .ensures))
 
 pub put-numbers-spec : {M : Type 1} → statement M
 put-numbers-spec =

@@ -19,7 +19,8 @@ same-length : tie.Need-same-length
 same-length c = search needs
 
 returns : tie.Need-returns
-returns c = puts-then (c .before .before .before .before .before .before .put-number .ensures) (c .before .before .put-front .ensures)
+returns c = puts-then (c .before .before .before .before .before .before .put-number .ensures)
+    (c .before .before .put-front .ensures)
 
 pub put-points-spec : {M : Type 1} → statement M
 put-points-spec =

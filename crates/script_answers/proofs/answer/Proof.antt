@@ -19,7 +19,9 @@ same-length : tie.Need-same-length
 same-length c = search needs
 
 returns : tie.Need-returns
-returns c = answers-named _ _ _ _ (sym (c .before .before .before .before .before .is-name .ensures) ∙ c .before .before .before .before .if1 .taken) (c .before .before .script .ensures)
+returns c = answers-named _ _ _ _
+    (sym (c .before .before .before .before .before .is-name .ensures) ∙ c .before .before .before .before .if1 .taken)
+    (c .before .before .script .ensures)
 
 returns-2 : tie.Need-returns-2
 returns-2 c =

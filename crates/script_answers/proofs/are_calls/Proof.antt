@@ -21,7 +21,8 @@ loop-holds c = refl
 returns : tie.Need-returns Inv-loop μ-loop
 returns c =
     let head = c .before .before .loop in
-    sym (calls-over (c .before .before .before .before .args .tokens .now) (head .at) (head .turns) (c .before .loop-test .taken) (c .if1 .taken)) ∙ head .inv
+    sym (calls-over (c .before .before .before .before .args .tokens .now) (head .at) (head .turns)
+    (c .before .loop-test .taken) (c .if1 .taken)) ∙ head .inv
 
 call-end-requires : tie.Need-call-end-requires Inv-loop μ-loop
 call-end-requires c κs = search needs

@@ -27,7 +27,8 @@ form-end-requires-2 c κs = search needs
 
 returns-2 : tie.Need-returns-2
 unfolding callEnd
-returns-2 c = rw (sym (c .before .before .before .is-paint-call .ensures) ∙ c .before .before .if1 .left) (c .form-end2 .ensures)
+returns-2 c = rw (sym (c .before .before .before .is-paint-call .ensures) ∙ c .before .before .if1 .left)
+    (c .form-end2 .ensures)
 
 pub call-end-spec : {M : Type 1} → statement M
 call-end-spec =

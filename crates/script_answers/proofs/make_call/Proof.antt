@@ -38,11 +38,17 @@ unfolding callAt
 returns c =
     let given = c .before .before .before .before .before .before .before .before .before .before .args in
     let done = c .before .before .paint .ensures in
-    let layer = c .before .before .before .before .u32-at .ensures ∙ ap (λ (k : ℕ). u32At (given .tokens .now) k) (c .before .before .before .before .before .before .before .plus .ensures) in
+    let layer = c .before .before .before .before .u32-at .ensures ∙ ap (λ (k : ℕ). u32At (given .tokens .now) k)
+    (c .before .before .before .before .before .before .before .plus .ensures) in
     let call : Call·paint (c .before .before .before .before .u32-at .result) ≡ callAt (given .tokens .now) (given .at) =
-    rw (sym (c .before .before .before .before .before .before .is-paint-call .ensures) ∙ c .before .before .before .before .before .if1 .taken) (ap Call·paint layer) in (
+    rw (sym (c .before .before .before .before .before .before .is-paint-call .ensures)
+    ∙ c .before .before .before .before .before .if1 .taken) (ap Call·paint layer) in (
       done .0 ∙ ap (sheetAnswer (given .sheet) (given .canvas .now)) call,
-      (done .1 .0 ∙ ap (sheetAfter (given .sheet) (given .canvas .now)) call, done .1 .1 ∙ ap (canvasAfter (given .sheet) (given .canvas .now)) call),
+      (
+        done .1 .0 ∙ ap (sheetAfter (given .sheet) (given .canvas .now)) call,
+        done .1 .1 ∙ ap
+            (canvasAfter (given .sheet) (given .canvas .now)) call,
+      ),
     )
 
 figure-words-requires : tie.Need-figure-words-requires
@@ -71,14 +77,17 @@ returns-2 c =
     let place = c .before .before .before .before .before .before .before .plus .ensures in
     let words = c .before .before .before .before .figure-words .ensures ∙ ap (λ (k : ℕ). figureWords tokens k) place in
     let figure = c .before .figure-at .ensures ∙ ap (λ (k : ℕ). figureAt tokens k) place in
-    let style = c .before .before .style-at .ensures ∙ ap (λ (k : ℕ). styleAt tokens k) (c .before .before .before .plus2 .ensures ∙ (λ i. plus (place i) (words i))) in
+    let style = c .before .before .style-at .ensures ∙ ap (λ (k : ℕ). styleAt tokens k)
+    (c .before .before .before .plus2 .ensures ∙ (λ i. plus (place i) (words i))) in
     let item = styledFigure (c .before .figure-at .result) (c .before .before .style-at .result) in
     let call : Call·add item ≡ callAt tokens (given .at) =
-    rw (sym (c .before .before .before .before .before .before .is-paint-call .ensures) ∙ c .before .before .before .before .before .if1 .left) (λ i. Call·add (styledFigure (figure i) (style i))) in
+    rw (sym (c .before .before .before .before .before .before .is-paint-call .ensures)
+    ∙ c .before .before .before .before .before .if1 .left) (λ i. Call·add (styledFigure (figure i) (style i))) in
     let same = add-any-canvas s (sixteen start) canvas item in (
       c .add .ensures .0 ∙ same ∙ ap (sheetAnswer s canvas) call,
       (
-        c .add .ensures .1 ∙ ap (λ (a : Answer). ifAccepted a (carriedOutSheet s (Call·add item)) s) same ∙ ap (sheetAfter s canvas) call,
+        c .add .ensures .1 ∙ ap (λ (a : Answer). ifAccepted a (carriedOutSheet s (Call·add item)) s) same ∙ ap
+            (sheetAfter s canvas) call,
         sym (add-keeps-canvas s (sixteen start) canvas item) ∙ ap (canvasAfter s canvas) call,
       ),
     )

@@ -23,7 +23,9 @@ same-length : tie.Need-same-length
 same-length c = search needs
 
 returns : tie.Need-returns
-returns c = puts-as (ap (λ (n : ℕ). decimal n ++ bytes " ") (c .before .before .before .before .before .before .before .number-of .ensures)) (puts-then (c .before .before .before .before .before .before .put-number .ensures) (c .before .before .put-byte .ensures))
+returns c = puts-as (ap (λ (n : ℕ). decimal n ++ bytes " ")
+    (c .before .before .before .before .before .before .before .number-of .ensures))
+    (puts-then (c .before .before .before .before .before .before .put-number .ensures) (c .before .before .put-byte .ensures))
 
 pub put-answer-spec : {M : Type 1} → statement M
 put-answer-spec =

@@ -18,7 +18,8 @@ same-length : tie.Need-same-length
 same-length c = search needs
 
 returns : tie.Need-returns
-returns c = puts-as (ap (λ (n : ℕ). decimal n) (c .before .before .before .adler32 .ensures)) (c .before .before .put-number .ensures)
+returns c = puts-as (ap (λ (n : ℕ). decimal n) (c .before .before .before .adler32 .ensures))
+    (c .before .before .put-number .ensures)
 
 pub put-sum-spec : {M : Type 1} → statement M
 put-sum-spec =

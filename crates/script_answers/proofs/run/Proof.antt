@@ -14,7 +14,8 @@ use Rattle.script_answers.proofs.run.Tie as tie
 abbrev Inv-loop : tie.InvT-loop
 Inv-loop tokens from canvas₀ out₀ at current₀ next₀ place₀ turns₀ canvas out current next place turns =
     (length canvas ≡ length canvas₀) × (length out ≡ length out₀)
-    × (put (runText tokens turns current next canvas) (record { held = out; next = place }) ≡ put (runText tokens (length tokens) current₀ from canvas₀) (record { held = out₀; next = at }))
+    × (put (runText tokens turns current next canvas) (record { held = out; next = place }) ≡ put
+    (runText tokens (length tokens) current₀ from canvas₀) (record { held = out₀; next = at }))
 
 abbrev μ-loop : tie.MeasureT-loop
 μ-loop tokens from canvas₀ out₀ at current₀ next₀ place₀ turns₀ canvas out current next place turns = turns
@@ -34,8 +35,14 @@ same-length-2 c = search needs
 returns : tie.Need-returns Inv-loop μ-loop
 returns c =
     let head = c .before .before .before .before .before .before .before .loop in
-    let over = run-over (c .before .before .before .before .before .before .before .before .before .before .before .args .tokens .now) (head .current) (head .next) (head .canvas) (head .turns) (c .before .before .before .before .before .before .loop-test .taken) (c .before .before .before .before .before .if1 .taken) in
-    record { output = c .before .before .put-sum .ensures .output ∙ sym (ap (λ (t : List ℕ). put t (record { held = head .out; next = head .place })) over) ∙ head .inv .2 }
+    let over = run-over (c .before .before .before .before .before .before .before .before .before .before .before .args
+    .tokens .now) (head .current) (head .next) (head .canvas) (head .turns)
+    (c .before .before .before .before .before .before .loop-test .taken)
+    (c .before .before .before .before .before .if1 .taken) in
+    record {
+      output = c .before .before .put-sum .ensures .output ∙ sym
+          (ap (λ (t : List ℕ). put t (record { held = head .out; next = head .place })) over) ∙ head .inv .2;
+    }
 
 make-call-requires : tie.Need-make-call-requires Inv-loop μ-loop
 make-call-requires c κs = search needs
@@ -58,7 +65,10 @@ loop-again c =
     let made = c .before .before .before .before .before .before .before .before .make-call .ensures in (
       c .before .before .before .before .before .before .before .before .make-call .kept .1 .1 .1 .0 ∙ head .inv .0,
       c .before .before .before .put-answer .kept .1 .0 ∙ head .inv .1,
-      run-step (c .before .before .before .before .before .before .before .before .before .before .before .before .before .before .before .before .args .tokens .now) (head .current) (head .next) (head .canvas) (head .turns) (c .before .before .before .before .before .before .before .before .before .before .before .loop-test .taken) (c .before .before .before .before .before .before .before .before .before .before .if1 .left) _ _ _ _ _ _
+      run-step (c .before .before .before .before .before .before .before .before .before .before .before .before .before
+          .before .before .before .args .tokens .now) (head .current) (head .next) (head .canvas) (head .turns)
+          (c .before .before .before .before .before .before .before .before .before .before .before .loop-test .taken)
+          (c .before .before .before .before .before .before .before .before .before .before .if1 .left) _ _ _ _ _ _
           (made .0) (made .1 .0) (c .call-end .ensures) (made .1 .1) (c .before .before .before .put-answer .ensures .output)
           ∙ head .inv .2,
     )
@@ -75,8 +85,13 @@ same-length-4 c = search needs
 returns-2 : tie.Need-returns-2 Inv-loop μ-loop
 returns-2 c =
     let head = c .before .before .before .before .before .before .loop in
-    let over = run-out (c .before .before .before .before .before .before .before .before .before .before .args .tokens .now) (head .current) (head .next) (head .canvas) (head .turns) (c .before .before .before .before .before .loop-test .left) in
-    record { output = c .before .before .put-sum2 .ensures .output ∙ sym (ap (λ (t : List ℕ). put t (record { held = head .out; next = head .place })) over) ∙ head .inv .2 }
+    let over = run-out (c .before .before .before .before .before .before .before .before .before .before .args .tokens
+    .now) (head .current) (head .next) (head .canvas) (head .turns)
+    (c .before .before .before .before .before .loop-test .left) in
+    record {
+      output = c .before .before .put-sum2 .ensures .output ∙ sym
+          (ap (λ (t : List ℕ). put t (record { held = head .out; next = head .place })) over) ∙ head .inv .2;
+    }
 
 pub run-spec : {M : Type 1} → statement M
 run-spec =

@@ -22,7 +22,13 @@ same-length-2 : tie.Need-same-length-2
 same-length-2 c = search needs
 
 returns : tie.Need-returns
-returns c = puts-as (ap (λ (l : List ℕ). callsText (c .before .before .before .before .before .before .before .before .before .before .before .before .before .before .args .tokens .now) (c .before .before .before .before .before .before .before .before .before .before .before .before .before .before .args .from) (c .before .before .before .before .before .before .before .before .before .before .before .before .before .before .args .is-too-large) l) (c .before .before .before .before .before .before .before .before .before .fill-seeded .ensures)) (c .before .before .before .before .run-on .ensures)
+returns c = puts-as (ap (λ (l : List ℕ). callsText
+    (c .before .before .before .before .before .before .before .before .before .before .before .before .before .before .args
+    .tokens .now) (c .before .before .before .before .before .before .before .before .before .before .before .before .before
+    .before .args .from) (c .before .before .before .before .before .before .before .before .before .before .before .before
+    .before .before .args .is-too-large) l)
+    (c .before .before .before .before .before .before .before .before .before .fill-seeded .ensures))
+    (c .before .before .before .before .run-on .ensures)
 
 pub run-filled-spec : {M : Type 1} → statement M
 run-filled-spec =

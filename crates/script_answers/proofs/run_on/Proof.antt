@@ -44,15 +44,19 @@ same-length c = search needs
 returns : tie.Need-returns
 unfolding callsText
 returns c =
-    let given = c .before .before .before .before .before .before .before .before .before .before .before .before .before .before .args in
+    let given = c .before .before .before .before .before .before .before .before .before .before .before .before .before
+    .before .args in
     let tokens = given .tokens .now in
     let canvas = given .canvas .now in
     let width = c .before .before .before .before .before .before .before .before .before .before .u32-at .ensures in
     let height = c .before .before .before .before .before .before .before .before .before .u32-at2 .ensures in
     let whole = runText tokens (length tokens) (openedSheet (u32At tokens 0) (u32At tokens 1)) (given .from) canvas in
     let text : Bool → List ℕ = λ b. cond b tooLargeText whole in
-    let says = sym (ap (λ (a : SheetAnswer). said a) (c .before .before .before .before .before .enum-told .given .1)) ∙ c .before .before .before .before .before .before .before .before .«open» .ensures .0 ∙ (λ i. openAnswer (width i) (height i)) in
-    puts-as (ap text (sym (c .before .before .before .before .if1 .taken)) ∙ ap (λ (a : Answer). openedText (text (given .is-too-large)) a) says) (c .before .before .put-too-large .ensures)
+    let says = sym (ap (λ (a : SheetAnswer). said a) (c .before .before .before .before .before .enum-told .given .1))
+    ∙ c .before .before .before .before .before .before .before .before .«open» .ensures .0 ∙
+    (λ i. openAnswer (width i) (height i)) in
+    puts-as (ap text (sym (c .before .before .before .before .if1 .taken)) ∙ ap
+    (λ (a : Answer). openedText (text (given .is-too-large)) a) says) (c .before .before .put-too-large .ensures)
 
 run-requires : tie.Need-run-requires
 run-requires c κs = search needs
@@ -63,14 +67,17 @@ same-length-2 c = search needs
 returns-2 : tie.Need-returns-2
 unfolding callsText
 returns-2 c =
-    let given = c .before .before .before .before .before .before .before .before .before .before .before .before .before .before .args in
+    let given = c .before .before .before .before .before .before .before .before .before .before .before .before .before
+    .before .args in
     let tokens = given .tokens .now in
     let canvas = given .canvas .now in
     let width = c .before .before .before .before .before .before .before .before .before .before .u32-at .ensures in
     let height = c .before .before .before .before .before .before .before .before .before .u32-at2 .ensures in
     let whole = runText tokens (length tokens) (openedSheet (u32At tokens 0) (u32At tokens 1)) (given .from) canvas in
     let text : Bool → List ℕ = λ b. cond b tooLargeText whole in
-    let says = sym (ap (λ (a : SheetAnswer). said a) (c .before .before .before .before .before .answer .given .1)) ∙ c .before .before .before .before .before .before .before .before .«open» .ensures .0 ∙ (λ i. openAnswer (width i) (height i)) in
+    let says = sym (ap (λ (a : SheetAnswer). said a) (c .before .before .before .before .before .answer .given .1))
+    ∙ c .before .before .before .before .before .before .before .before .«open» .ensures .0 ∙
+    (λ i. openAnswer (width i) (height i)) in
     puts-as (ap (λ (a : Answer). openedText (text (given .is-too-large)) a) says) (c .before .before .put-refused .ensures)
 
 same-length-3 : tie.Need-same-length-3
@@ -82,16 +89,24 @@ same-length-4 c = search needs
 returns-3 : tie.Need-returns-3
 unfolding callsText
 returns-3 c =
-    let given = c .before .before .before .before .before .before .before .before .before .before .before .before .before .before .before .before .before .args in
+    let given = c .before .before .before .before .before .before .before .before .before .before .before .before .before
+    .before .before .before .before .args in
     let tokens = given .tokens .now in
     let canvas = given .canvas .now in
-    let width = c .before .before .before .before .before .before .before .before .before .before .before .before .before .u32-at .ensures in
-    let height = c .before .before .before .before .before .before .before .before .before .before .before .before .u32-at2 .ensures in
+    let width = c .before .before .before .before .before .before .before .before .before .before .before .before .before
+    .u32-at .ensures in
+    let height = c .before .before .before .before .before .before .before .before .before .before .before .before .u32-at2
+    .ensures in
     let whole = runText tokens (length tokens) (openedSheet (u32At tokens 0) (u32At tokens 1)) (given .from) canvas in
     let text : Bool → List ℕ = λ b. cond b tooLargeText whole in
-    let says = sym (ap (λ (a : SheetAnswer). said a) (c .before .before .before .before .before .before .before .before .enum-told .given .1)) ∙ c .before .before .before .before .before .before .before .before .before .before .before .«open» .ensures .0 ∙ (λ i. openAnswer (width i) (height i)) in
-    let sheet = c .before .before .before .before .before .before .before .before .before .before .before .«open» .ensures .1 ∙ (λ i. openedSheet (width i) (height i)) in
-    puts-as (ap (λ (s : Sheet). runText tokens (length tokens) s (given .from) canvas) sheet ∙ ap text (sym (c .before .before .before .before .before .before .before .if1 .left))
+    let says = sym (ap (λ (a : SheetAnswer). said a)
+    (c .before .before .before .before .before .before .before .before .enum-told .given .1))
+    ∙ c .before .before .before .before .before .before .before .before .before .before .before .«open» .ensures .0 ∙
+    (λ i. openAnswer (width i) (height i)) in
+    let sheet = c .before .before .before .before .before .before .before .before .before .before .before .«open» .ensures
+    .1 ∙ (λ i. openedSheet (width i) (height i)) in
+    puts-as (ap (λ (s : Sheet). runText tokens (length tokens) s (given .from) canvas) sheet ∙ ap text
+    (sym (c .before .before .before .before .before .before .before .if1 .left))
     ∙ ap (λ (a : Answer). openedText (text (given .is-too-large)) a) says)
     (c .before .before .before .before .run .ensures)
 

@@ -34,8 +34,10 @@ returns : tie.Need-returns
 returns c =
     let tokens = c .before .before .before .before .before .before .before .before .before .before .args .tokens .now in
     let from = c .before .before .before .before .before .before .before .seed-end .ensures in
-    let fit = ap (λ (k : ℕ). scriptFits tokens k) (sym from) ∙ sym (c .before .before .before .before .before .before .script-fits .ensures) in
-    puts-usage _ _ _ (fit ∙ not-true _ (c .before .before .before .before .before .if1 .taken)) (c .before .before .put-usage .ensures)
+    let fit = ap (λ (k : ℕ). scriptFits tokens k) (sym from) ∙ sym
+    (c .before .before .before .before .before .before .script-fits .ensures) in
+    puts-usage _ _ _ (fit ∙ not-true _ (c .before .before .before .before .before .if1 .taken))
+    (c .before .before .put-usage .ensures)
 
 u32-at-requires : tie.Need-u32-at-requires
 u32-at-requires c κs = search needs
@@ -67,14 +69,24 @@ same-length-2 c = search needs
 returns-2 : tie.Need-returns-2
 unfolding scriptLength
 returns-2 c =
-    let tokens = c .before .before .before .before .before .before .before .before .before .before .before .before .before .before .before .args .tokens .now in
-    let from = c .before .before .before .before .before .before .before .before .before .before .before .before .seed-end .ensures in
-    let fit = ap (λ (k : ℕ). scriptFits tokens k) (sym from) ∙ sym (c .before .before .before .before .before .before .before .before .before .before .before .script-fits .ensures) in
-    let asked : c .before .before .before .before .before .before .before .area .result ≡ scriptLength tokens = c .before .before .before .before .before .before .before .area .ensures ∙ (λ i. canvasArea (c .before .before .before .before .before .before .before .before .before .u32-at .ensures i) (c .before .before .before .before .before .before .before .before .u32-at2 .ensures i)) in
-    let end = c .before .before .before .before .before .before .lent .ensures .0 ∙ ap (λ (n : ℕ). lentLength n canvasRoom) asked in
-    let canvas = lent-part {A = ℕ} 0 (c .before .before .before .before .before .before .lent .result) canvasRoom (c .before .before .before .before .before .before .lent .ensures .1) ∙ ap (λ (n : ℕ). replicate n 0) end in
-    puts-query _ _ _ (fit ∙ not-false _ (c .before .before .before .before .before .before .before .before .before .before .if1 .left))
-    (puts-as (λ i. callsText tokens (from i) (ltb canvasRoom (asked i)) (filled tokens 2 (canvas i))) (c .before .before .before .run-filled .ensures))
+    let tokens = c .before .before .before .before .before .before .before .before .before .before .before .before .before
+    .before .before .args .tokens .now in
+    let from = c .before .before .before .before .before .before .before .before .before .before .before .before .seed-end
+    .ensures in
+    let fit = ap (λ (k : ℕ). scriptFits tokens k) (sym from) ∙ sym
+    (c .before .before .before .before .before .before .before .before .before .before .before .script-fits .ensures) in
+    let asked : c .before .before .before .before .before .before .before .area .result ≡ scriptLength tokens =
+    c .before .before .before .before .before .before .before .area .ensures ∙
+    (λ i. canvasArea (c .before .before .before .before .before .before .before .before .before .u32-at .ensures i)
+    (c .before .before .before .before .before .before .before .before .u32-at2 .ensures i)) in
+    let end = c .before .before .before .before .before .before .lent .ensures .0 ∙ ap
+    (λ (n : ℕ). lentLength n canvasRoom) asked in
+    let canvas = lent-part {A = ℕ} 0 (c .before .before .before .before .before .before .lent .result) canvasRoom
+    (c .before .before .before .before .before .before .lent .ensures .1) ∙ ap (λ (n : ℕ). replicate n 0) end in
+    puts-query _ _ _ (fit ∙ not-false _
+    (c .before .before .before .before .before .before .before .before .before .before .if1 .left))
+    (puts-as (λ i. callsText tokens (from i) (ltb canvasRoom (asked i)) (filled tokens 2 (canvas i)))
+    (c .before .before .before .run-filled .ensures))
 
 pub script-spec : {M : Type 1} → statement M
 script-spec =

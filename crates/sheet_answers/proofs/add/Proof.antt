@@ -41,8 +41,10 @@ returns : tie.Need-returns
 returns c =
     let tokens = c .before .before .before .before .before .before .before .before .before .before .before .args .tokens .now in
     let after = c .before .before .before .before .before .before .before .before .record-end .ensures in
-    let ends = c .before .before .before .before .before .before .form-end .ensures ∙ ap (λ (k : ℕ). formEnd tokens k (bytes "fkkug")) after in
-    puts-usage _ _ _ (ne-eqb _ _ (λ e. c .before .before .before .before .before .if1 .taken (ends ∙ e))) (c .before .before .put-usage .ensures)
+    let ends = c .before .before .before .before .before .before .form-end .ensures ∙ ap
+    (λ (k : ℕ). formEnd tokens k (bytes "fkkug")) after in
+    puts-usage _ _ _ (ne-eqb _ _ (λ e. c .before .before .before .before .before .if1 .taken (ends ∙ e)))
+    (c .before .before .put-usage .ensures)
 
 figure-words-requires : tie.Need-figure-words-requires
 figure-words-requires c κs = search needs
@@ -79,31 +81,59 @@ same-length-2 c = search needs
 
 returns-2 : tie.Need-returns-2
 returns-2 c =
-    let tokens = c .before .before .before .before .before .before .before .before .before .before .before .before .before .before .before .before .before .before .before .before .args .tokens .now in
-    let after = c .before .before .before .before .before .before .before .before .before .before .before .before .before .before .before .before .before .record-end .ensures in
-    let ends = c .before .before .before .before .before .before .before .before .before .before .before .before .before .before .before .form-end .ensures ∙ ap (λ (k : ℕ). formEnd tokens k (bytes "fkkug")) after in
-    let style = c .before .before .before .before .before .before .before .before .before .before .before .style-at .ensures ∙ ap (λ (k : ℕ). styleAt tokens k) (c .before .before .before .before .before .before .before .before .before .before .before .before .plus .ensures ∙ (λ i. plus (after i) ((c .before .before .before .before .before .before .before .before .before .before .before .before .before .figure-words .ensures ∙ ap (λ (k : ℕ). figureWords tokens k) after) i))) in
-    let figure = c .before .before .before .before .before .before .before .before .before .figure-at .ensures ∙ ap (λ (k : ℕ). figureAt tokens k) after in
+    let tokens = c .before .before .before .before .before .before .before .before .before .before .before .before .before
+    .before .before .before .before .before .before .before .args .tokens .now in
+    let after = c .before .before .before .before .before .before .before .before .before .before .before .before .before
+    .before .before .before .before .record-end .ensures in
+    let ends = c .before .before .before .before .before .before .before .before .before .before .before .before .before
+    .before .before .form-end .ensures ∙ ap (λ (k : ℕ). formEnd tokens k (bytes "fkkug")) after in
+    let style = c .before .before .before .before .before .before .before .before .before .before .before .style-at .ensures
+    ∙ ap (λ (k : ℕ). styleAt tokens k)
+    (c .before .before .before .before .before .before .before .before .before .before .before .before .plus .ensures ∙
+    (λ i. plus (after i) ((c .before .before .before .before .before .before .before .before .before .before .before
+    .before .before .figure-words .ensures ∙ ap (λ (k : ℕ). figureWords tokens k) after) i))) in
+    let figure = c .before .before .before .before .before .before .before .before .before .figure-at .ensures ∙ ap
+    (λ (k : ℕ). figureAt tokens k) after in
     let says = sym (ap (λ (a : SheetAnswer). said a) (c .before .before .before .before .before .answer .given .1))
-    ∙ c .before .before .before .before .before .before .before .before .add .ensures .0 ∙ (λ i. sheetAnswer (c .before .before .before .before .before .before .before .before .before .before .sheet-at .ensures i) [] (Call·add (styledFigure (figure i) (style i)))) in
-    let sheet = c .before .before .before .before .before .before .before .before .add .ensures .1 ∙ (λ i. sheetAfter (c .before .before .before .before .before .before .before .before .before .before .sheet-at .ensures i) [] (Call·add (styledFigure (figure i) (style i)))) in
+    ∙ c .before .before .before .before .before .before .before .before .add .ensures .0 ∙
+    (λ i. sheetAnswer (c .before .before .before .before .before .before .before .before .before .before .sheet-at
+    .ensures i) [] (Call·add (styledFigure (figure i) (style i)))) in
+    let sheet = c .before .before .before .before .before .before .before .before .add .ensures .1 ∙
+    (λ i. sheetAfter (c .before .before .before .before .before .before .before .before .before .before .sheet-at
+    .ensures i) [] (Call·add (styledFigure (figure i) (style i)))) in
     let text = sheetText (sheetAfter (sheetAt tokens) [] (Call·add (itemAt tokens (recordEnd tokens)))) in
-    puts-query _ _ _ (eq-eqb _ _ (sym ends ∙ c .before .before .before .before .before .before .before .before .before .before .before .before .before .before .if1 .left)) (puts-as (ap (λ (a : Answer). toldText text a) says) (c .before .before .put-refused .ensures))
+    puts-query _ _ _ (eq-eqb _ _ (sym ends
+    ∙ c .before .before .before .before .before .before .before .before .before .before .before .before .before .before
+    .if1 .left)) (puts-as (ap (λ (a : Answer). toldText text a) says) (c .before .before .put-refused .ensures))
 
 same-length-3 : tie.Need-same-length-3
 same-length-3 c = search needs
 
 returns-3 : tie.Need-returns-3
 returns-3 c =
-    let tokens = c .before .before .before .before .before .before .before .before .before .before .before .before .before .before .before .before .before .before .before .args .tokens .now in
-    let after = c .before .before .before .before .before .before .before .before .before .before .before .before .before .before .before .before .record-end .ensures in
-    let ends = c .before .before .before .before .before .before .before .before .before .before .before .before .before .before .form-end .ensures ∙ ap (λ (k : ℕ). formEnd tokens k (bytes "fkkug")) after in
-    let style = c .before .before .before .before .before .before .before .before .before .before .style-at .ensures ∙ ap (λ (k : ℕ). styleAt tokens k) (c .before .before .before .before .before .before .before .before .before .before .before .plus .ensures ∙ (λ i. plus (after i) ((c .before .before .before .before .before .before .before .before .before .before .before .before .figure-words .ensures ∙ ap (λ (k : ℕ). figureWords tokens k) after) i))) in
-    let figure = c .before .before .before .before .before .before .before .before .figure-at .ensures ∙ ap (λ (k : ℕ). figureAt tokens k) after in
+    let tokens = c .before .before .before .before .before .before .before .before .before .before .before .before .before
+    .before .before .before .before .before .before .args .tokens .now in
+    let after = c .before .before .before .before .before .before .before .before .before .before .before .before .before
+    .before .before .before .record-end .ensures in
+    let ends = c .before .before .before .before .before .before .before .before .before .before .before .before .before
+    .before .form-end .ensures ∙ ap (λ (k : ℕ). formEnd tokens k (bytes "fkkug")) after in
+    let style = c .before .before .before .before .before .before .before .before .before .before .style-at .ensures ∙ ap
+    (λ (k : ℕ). styleAt tokens k) (c .before .before .before .before .before .before .before .before .before .before
+    .before .plus .ensures ∙ (λ i. plus (after i)
+    ((c .before .before .before .before .before .before .before .before .before .before .before .before .figure-words
+    .ensures ∙ ap (λ (k : ℕ). figureWords tokens k) after) i))) in
+    let figure = c .before .before .before .before .before .before .before .before .figure-at .ensures ∙ ap
+    (λ (k : ℕ). figureAt tokens k) after in
     let says = sym (ap (λ (a : SheetAnswer). said a) (c .before .before .before .before .enum-told .given .1))
-    ∙ c .before .before .before .before .before .before .before .add .ensures .0 ∙ (λ i. sheetAnswer (c .before .before .before .before .before .before .before .before .before .sheet-at .ensures i) [] (Call·add (styledFigure (figure i) (style i)))) in
-    let sheet = c .before .before .before .before .before .before .before .add .ensures .1 ∙ (λ i. sheetAfter (c .before .before .before .before .before .before .before .before .before .sheet-at .ensures i) [] (Call·add (styledFigure (figure i) (style i)))) in
-    puts-query _ _ _ (eq-eqb _ _ (sym ends ∙ c .before .before .before .before .before .before .before .before .before .before .before .before .before .if1 .left)) (puts-as (λ i. toldText (sheetText (sheet i)) (says i)) (c .before .before .put-sheet .ensures))
+    ∙ c .before .before .before .before .before .before .before .add .ensures .0 ∙
+    (λ i. sheetAnswer (c .before .before .before .before .before .before .before .before .before .sheet-at .ensures i)
+    [] (Call·add (styledFigure (figure i) (style i)))) in
+    let sheet = c .before .before .before .before .before .before .before .add .ensures .1 ∙
+    (λ i. sheetAfter (c .before .before .before .before .before .before .before .before .before .sheet-at .ensures i) []
+    (Call·add (styledFigure (figure i) (style i)))) in
+    puts-query _ _ _ (eq-eqb _ _ (sym ends
+    ∙ c .before .before .before .before .before .before .before .before .before .before .before .before .before .if1
+    .left)) (puts-as (λ i. toldText (sheetText (sheet i)) (says i)) (c .before .before .put-sheet .ensures))
 
 pub add-spec : {M : Type 1} → statement M
 add-spec =

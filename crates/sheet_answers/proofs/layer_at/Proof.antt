@@ -32,9 +32,11 @@ unfolding layerAt
 returns c =
     let given = c .before .before .before .before .before .before .before .args in
     let tokens = given .tokens .now in
-    let place = c .before .before .before .before .plus .ensures ∙ ap (λ (k : ℕ). plus (given .at) k) (c .before .before .before .before .before .figure-words .ensures) in
+    let place = c .before .before .before .before .plus .ensures ∙ ap (λ (k : ℕ). plus (given .at) k)
+    (c .before .before .before .before .before .figure-words .ensures) in
     let style = c .before .before .style-at .ensures ∙ ap (λ (k : ℕ). styleAt tokens k) place in
-    let next = read-held (c .i32-at .ensures) ∙ ap (λ (k : ℕ). i32At tokens k) (c .before .plus2 .ensures ∙ ap (λ (k : ℕ). plus k 4) place) in
+    let next = read-held (c .i32-at .ensures) ∙ ap (λ (k : ℕ). i32At tokens k)
+    (c .before .plus2 .ensures ∙ ap (λ (k : ℕ). plus k 4) place) in
     λ i. record { figure = c .before .before .before .figure-at .ensures i; style = style i; «next_row» = next i }
 
 pub layer-at-spec : {M : Type 1} → statement M

@@ -35,7 +35,8 @@ loop-again c =
     let head = c .before .before .loop in
     let given = c .before .before .before .before .args in (
       omega arith,
-      layers-end-next (given .tokens .now) (given .listed) (head .at) (head .k) (c .layer-end .result) (c .before .loop-test .taken) (c .layer-end .ensures) ∙ head .inv .1,
+      layers-end-next (given .tokens .now) (given .listed) (head .at) (head .k) (c .layer-end .result)
+          (c .before .loop-test .taken) (c .layer-end .ensures) ∙ head .inv .1,
     )
 
 returns : tie.Need-returns Inv-loop μ-loop

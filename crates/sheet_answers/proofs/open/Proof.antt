@@ -33,7 +33,8 @@ same-length : tie.Need-same-length
 same-length c = search needs
 
 returns : tie.Need-returns
-returns c = puts-usage _ _ _ (sym (c .before .before .before .before .before .before .fits2 .ensures) ∙ not-true _ (c .before .before .before .before .before .if1 .taken)) (c .before .before .put-usage .ensures)
+returns c = puts-usage _ _ _ (sym (c .before .before .before .before .before .before .fits2 .ensures) ∙ not-true _
+    (c .before .before .before .before .before .if1 .taken)) (c .before .before .put-usage .ensures)
 
 u32-at-requires : tie.Need-u32-at-requires
 u32-at-requires c κs = search needs
@@ -61,19 +62,32 @@ same-length-2 c = search needs
 
 returns-2 : tie.Need-returns-2
 returns-2 c =
-    let tokens = c .before .before .before .before .before .before .before .before .before .before .before .before .before .before .before .before .args .tokens .now in
-    let says = sym (ap (λ (a : SheetAnswer). said a) (c .before .before .before .before .before .answer .given .1)) ∙ c .before .before .before .before .before .before .before .before .«open» .ensures .0 ∙ (λ i. openAnswer (c .before .before .before .before .before .before .before .before .before .before .u32-at .ensures i) (c .before .before .before .before .before .before .before .before .before .u32-at2 .ensures i)) in
-    puts-query _ _ _ (sym (c .before .before .before .before .before .before .before .before .before .before .before .before .fits2 .ensures) ∙ not-false _ (c .before .before .before .before .before .before .before .before .before .before .before .if1 .left))
-    (puts-as (ap (λ (a : Answer). toldText (decimal (openedSheet (u32At tokens 0) (u32At tokens 1) .count)) a) says) (c .before .before .put-refused .ensures))
+    let tokens = c .before .before .before .before .before .before .before .before .before .before .before .before .before
+    .before .before .before .args .tokens .now in
+    let says = sym (ap (λ (a : SheetAnswer). said a) (c .before .before .before .before .before .answer .given .1))
+    ∙ c .before .before .before .before .before .before .before .before .«open» .ensures .0 ∙
+    (λ i. openAnswer (c .before .before .before .before .before .before .before .before .before .before .u32-at .ensures
+    i) (c .before .before .before .before .before .before .before .before .before .u32-at2 .ensures i)) in
+    puts-query _ _ _ (sym (c .before .before .before .before .before .before .before .before .before .before .before .before
+    .fits2 .ensures) ∙ not-false _ (c .before .before .before .before .before .before .before .before .before .before
+    .before .if1 .left))
+    (puts-as (ap (λ (a : Answer). toldText (decimal (openedSheet (u32At tokens 0) (u32At tokens 1) .count)) a) says)
+    (c .before .before .put-refused .ensures))
 
 same-length-3 : tie.Need-same-length-3
 same-length-3 c = search needs
 
 returns-3 : tie.Need-returns-3
 returns-3 c =
-    let says = sym (ap (λ (a : SheetAnswer). said a) (c .before .before .before .before .enum-told .given .1)) ∙ c .before .before .before .before .before .before .before .«open» .ensures .0 ∙ (λ i. openAnswer (c .before .before .before .before .before .before .before .before .before .u32-at .ensures i) (c .before .before .before .before .before .before .before .before .u32-at2 .ensures i)) in
-    let opened = c .before .before .before .before .before .before .before .«open» .ensures .1 ∙ (λ i. openedSheet (c .before .before .before .before .before .before .before .before .before .u32-at .ensures i) (c .before .before .before .before .before .before .before .before .u32-at2 .ensures i)) in
-    puts-query _ _ _ (sym (c .before .before .before .before .before .before .before .before .before .before .before .fits2 .ensures) ∙ not-false _ (c .before .before .before .before .before .before .before .before .before .before .if1 .left))
+    let says = sym (ap (λ (a : SheetAnswer). said a) (c .before .before .before .before .enum-told .given .1))
+    ∙ c .before .before .before .before .before .before .before .«open» .ensures .0 ∙
+    (λ i. openAnswer (c .before .before .before .before .before .before .before .before .before .u32-at .ensures i)
+    (c .before .before .before .before .before .before .before .before .u32-at2 .ensures i)) in
+    let opened = c .before .before .before .before .before .before .before .«open» .ensures .1 ∙
+    (λ i. openedSheet (c .before .before .before .before .before .before .before .before .before .u32-at .ensures i)
+    (c .before .before .before .before .before .before .before .before .u32-at2 .ensures i)) in
+    puts-query _ _ _ (sym (c .before .before .before .before .before .before .before .before .before .before .before .fits2
+    .ensures) ∙ not-false _ (c .before .before .before .before .before .before .before .before .before .before .if1 .left))
     (puts-as (λ i. toldText (decimal (opened i .count)) (says i)) (c .before .before .put-number .ensures))
 
 pub open-spec : {M : Type 1} → statement M

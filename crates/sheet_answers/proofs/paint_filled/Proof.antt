@@ -38,11 +38,19 @@ same-length-2 c = search needs
 
 returns : tie.Need-returns
 returns c =
-    let given = c .before .before .before .before .before .before .before .before .before .before .before .before .before .before .before .before .before .before .args in
+    let given = c .before .before .before .before .before .before .before .before .before .before .before .before .before
+    .before .before .before .before .before .args in
     let tokens = given .tokens .now in
-    let seed = c .before .before .before .before .before .before .before .before .before .before .before .before .u32-at .ensures ∙ ap (λ (k : ℕ). u32At tokens k) (c .before .before .before .before .before .before .before .before .before .before .before .before .before .plus .ensures) in
-    let canvas = c .before .before .before .before .before .before .before .before .before .before .before .fill .ensures ∙ ap (λ (n : ℕ). seeded n (length (given .canvas .now))) seed in
-    puts-as (λ i. paintedText (given .least) (c .before .before .before .before .before .before .before .sheet-at .ensures i) (c .before .before .before .before .before .before .before .before .u32-at2 .ensures i) (canvas i)) (c .before .before .before .before .paint-on .ensures)
+    let seed = c .before .before .before .before .before .before .before .before .before .before .before .before .u32-at
+    .ensures ∙ ap (λ (k : ℕ). u32At tokens k)
+    (c .before .before .before .before .before .before .before .before .before .before .before .before .before .plus
+    .ensures) in
+    let canvas = c .before .before .before .before .before .before .before .before .before .before .before .fill .ensures
+    ∙ ap (λ (n : ℕ). seeded n (length (given .canvas .now))) seed in
+    puts-as (λ i. paintedText (given .least)
+    (c .before .before .before .before .before .before .before .sheet-at .ensures i)
+    (c .before .before .before .before .before .before .before .before .u32-at2 .ensures i) (canvas i))
+    (c .before .before .before .before .paint-on .ensures)
 
 pub paint-filled-spec : {M : Type 1} → statement M
 paint-filled-spec =

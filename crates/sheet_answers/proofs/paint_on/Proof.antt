@@ -45,10 +45,13 @@ same-length-2 c = search needs
 
 returns : tie.Need-returns
 returns c =
-    let given = c .before .before .before .before .before .before .before .before .before .before .before .before .before .before .args in
+    let given = c .before .before .before .before .before .before .before .before .before .before .before .before .before
+    .before .args in
     let canvas = given .canvas .now in
-    let says = sym (ap (λ (a : SheetAnswer). said a) (c .before .before .before .before .before .answer .given .1)) ∙ c .before .before .before .before .before .before .before .before .before .before .paint .ensures .0 in
-    let text = sheetText (sheetAfter (given .sheet) canvas (Call·paint (given .layer))) ++ (bytes " " ++ decimal (sumOf (canvasAfter (given .sheet) canvas (Call·paint (given .layer))))) in
+    let says = sym (ap (λ (a : SheetAnswer). said a) (c .before .before .before .before .before .answer .given .1))
+    ∙ c .before .before .before .before .before .before .before .before .before .before .paint .ensures .0 in
+    let text = sheetText (sheetAfter (given .sheet) canvas (Call·paint (given .layer))) ++
+    (bytes " " ++ decimal (sumOf (canvasAfter (given .sheet) canvas (Call·paint (given .layer))))) in
     puts-as (ap (λ (a : Answer). lentToldText (given .least) text a) says) (c .before .before .put-short .ensures)
 
 same-length-3 : tie.Need-same-length-3
@@ -59,12 +62,21 @@ same-length-4 c = search needs
 
 returns-2 : tie.Need-returns-2
 returns-2 c =
-    let given = c .before .before .before .before .before .before .before .before .before .before .before .before .before .before .before .before .before .before .before .args in
+    let given = c .before .before .before .before .before .before .before .before .before .before .before .before .before
+    .before .before .before .before .before .before .args in
     let canvas = given .canvas .now in
-    let says = sym (ap (λ (a : SheetAnswer). said a) (c .before .before .before .before .before .before .before .before .before .before .enum-told .given .1)) ∙ c .before .before .before .before .before .before .before .before .before .before .before .before .before .before .before .paint .ensures .0 in
-    let sum = c .before .before .before .adler32 .ensures ∙ ap (λ (l : List ℕ). sumOf l) (c .before .before .before .before .before .before .before .before .before .before .before .before .before .before .before .paint .ensures .1 .1) in
-    puts-as (λ i. lentToldText (given .least) (sheetText (c .before .before .before .before .before .before .before .before .before .before .before .before .before .before .before .paint .ensures .1 .0 i) ++ (bytes " " ++ decimal (sum i))) (says i))
-    (puts-then (c .before .before .before .before .before .before .before .before .put-sheet .ensures) (c .before .before .put-next .ensures))
+    let says = sym (ap (λ (a : SheetAnswer). said a)
+    (c .before .before .before .before .before .before .before .before .before .before .enum-told .given .1))
+    ∙ c .before .before .before .before .before .before .before .before .before .before .before .before .before .before
+    .before .paint .ensures .0 in
+    let sum = c .before .before .before .adler32 .ensures ∙ ap (λ (l : List ℕ). sumOf l)
+    (c .before .before .before .before .before .before .before .before .before .before .before .before .before .before
+    .before .paint .ensures .1 .1) in
+    puts-as (λ i. lentToldText (given .least)
+    (sheetText (c .before .before .before .before .before .before .before .before .before .before .before .before
+    .before .before .before .paint .ensures .1 .0 i) ++ (bytes " " ++ decimal (sum i))) (says i))
+    (puts-then (c .before .before .before .before .before .before .before .before .put-sheet .ensures)
+    (c .before .before .put-next .ensures))
 
 pub paint-on-spec : {M : Type 1} → statement M
 paint-on-spec =

@@ -25,7 +25,8 @@ abbrev μ-loop : tie.MeasureT-loop
 μ-loop out₀ at sheet count at-place₀ place₀ out at-place place = 16 - place
 
 -- a sheet has 16 places
-layers-long : (c : tie.Start Inv-loop μ-loop) → length (take (c .args .t1 .count) (c .args .t1 .layers)) ≡ min (c .args .t1 .count) 16
+layers-long : (c : tie.Start Inv-loop μ-loop) → length (take (c .args .t1 .count) (c .args .t1 .layers)) ≡ min
+    (c .args .t1 .count) 16
 layers-long c =
     length-take (c .args .t1 .count) (c .args .t1 .layers)
     ∙ ap (λ (n : ℕ). min (c .args .t1 .count) n) (sixteen-places (c .args .t1 .layers) (c .good .0 .1 .1 .1 .1 .1 .0 .1 .0 .1))
@@ -43,7 +44,8 @@ returns : tie.Need-returns Inv-loop μ-loop
 returns c =
     let head = c .before .before .loop in
     let s = c .before .before .before .before .before .args .t1 in
-    let over : length (take (s .count) (s .layers)) ≤ head .place = omega (arith, layers-long (c .before .before .before .before .before), c .before .before .before .long .ensures .0) in
+    let over : length (take (s .count) (s .layers)) ≤ head .place = omega
+    (arith, layers-long (c .before .before .before .before .before), c .before .before .before .long .ensures .0) in
     record { output = sym (put-each-past nextRowText (take (s .count) (s .layers)) (head .place) over _) ∙ head .inv .2 }
 
 mul-layer : tie.Need-mul-layer Inv-loop μ-loop
@@ -66,8 +68,13 @@ loop-again c =
     let head = c .before .before .before .before .before .before .before .loop in
     let s = c .before .before .before .before .before .before .before .before .before .before .args .t1 in
     let o : Output = record { held = head .out; next = head .at-place } in
-    let within : head .place < length (take (s .count) (s .layers)) = omega (arith, layers-long (c .before .before .before .before .before .before .before .before .before .before), c .before .before .before .before .before .before .before .before .long .ensures .0) in
-    let counted : head .place < s .count = omega (arith, c .before .before .before .before .before .before .before .before .long .ensures .0) in
+    let within : head .place < length (take (s .count) (s .layers)) = omega (
+      arith,
+      layers-long (c .before .before .before .before .before .before .before .before .before .before),
+      c .before .before .before .before .before .before .before .before .long .ensures .0,
+    ) in
+    let counted : head .place < s .count = omega
+    (arith, c .before .before .before .before .before .before .before .before .long .ensures .0) in
     let here = c .before .before .put-next-row .ensures .output
     ∙ ap (λ (l : Layer). put (nextRowText l) o) (sym (getD-take (s .count) (s .layers) (head .place) blankLayer counted)) in (
       omega arith,
@@ -82,7 +89,8 @@ returns-2 : tie.Need-returns-2 Inv-loop μ-loop
 returns-2 c =
     let head = c .before .loop in
     let s = c .before .before .before .before .args .t1 in
-    let over : length (take (s .count) (s .layers)) ≤ head .place = omega (arith, layers-long (c .before .before .before .before)) in
+    let over : length (take (s .count) (s .layers)) ≤ head .place = omega
+    (arith, layers-long (c .before .before .before .before)) in
     record { output = sym (put-each-past nextRowText (take (s .count) (s .layers)) (head .place) over _) ∙ head .inv .2 }
 
 pub put-rows-spec : {M : Type 1} → statement M

@@ -17,7 +17,8 @@ same-length c = search needs
 
 returns : tie.Need-returns
 unfolding sheetText
-returns c = puts-then (c .before .before .before .before .before .before .put-number .ensures) (c .before .before .put-rows .ensures)
+returns c = puts-then (c .before .before .before .before .before .before .put-number .ensures)
+    (c .before .before .put-rows .ensures)
 
 pub put-sheet-spec : {M : Type 1} → statement M
 put-sheet-spec =

@@ -38,10 +38,20 @@ returns : tie.Need-returns
 unfolding sheetAt
 returns c =
     let tokens = c .before .before .before .before .before .before .before .before .before .before .args .tokens .now in
-    let opened = c .before .before .before .before .before .before .«open» .ensures .1 ∙ (λ i. openedSheet (c .before .before .before .before .before .before .before .before .u32-at .ensures i) (c .before .before .before .before .before .before .before .u32-at2 .ensures i)) in
-    let listed = c .before .long .ensures .0 ∙ c .before .before .least .ensures ∙ ap (λ (n : ℕ). min n 16) (c .before .before .before .u32-at4 .ensures) in
+    let opened = c .before .before .before .before .before .before .«open» .ensures .1 ∙
+    (λ i. openedSheet (c .before .before .before .before .before .before .before .before .u32-at .ensures i)
+    (c .before .before .before .before .before .before .before .u32-at2 .ensures i)) in
+    let listed = c .before .long .ensures .0 ∙ c .before .before .least .ensures ∙ ap (λ (n : ℕ). min n 16)
+    (c .before .before .before .u32-at4 .ensures) in
     c .with-layers .ensures
-    ∙ (λ i. record { width = opened i .width; height = opened i .height; count = c .before .before .before .before .u32-at3 .ensures i; layers = sets (opened i .layers) 0 (layersAt tokens (listed i) 4) })
+    ∙ (λ i. record {
+      width = opened i .width;
+      height = opened i .height;
+      count =
+          c .before .before .before .before .u32-at3 .ensures i;
+      layers = sets (opened i .layers) 0
+          (layersAt tokens (listed i) 4);
+    })
 
 pub sheet-at-spec : {M : Type 1} → statement M
 sheet-at-spec =

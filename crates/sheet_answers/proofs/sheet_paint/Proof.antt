@@ -38,8 +38,10 @@ returns : tie.Need-returns
 returns c =
     let tokens = c .before .before .before .before .before .before .before .before .before .before .before .args .tokens .now in
     let after = c .before .before .before .before .before .before .before .before .record-end .ensures in
-    let ends = c .before .before .before .before .before .before .form-end .ensures ∙ ap (λ (k : ℕ). formEnd tokens k (bytes "uuu")) after in
-    puts-usage _ _ _ (ne-eqb _ _ (λ e. c .before .before .before .before .before .if1 .taken (ends ∙ e))) (c .before .before .put-usage .ensures)
+    let ends = c .before .before .before .before .before .before .form-end .ensures ∙ ap
+    (λ (k : ℕ). formEnd tokens k (bytes "uuu")) after in
+    puts-usage _ _ _ (ne-eqb _ _ (λ e. c .before .before .before .before .before .if1 .taken (ends ∙ e)))
+    (c .before .before .put-usage .ensures)
 
 plus-requires : tie.Need-plus-requires
 plus-requires c κs = search needs
@@ -73,15 +75,27 @@ same-length-2 c = search needs
 
 returns-2 : tie.Need-returns-2
 returns-2 c =
-    let tokens = c .before .before .before .before .before .before .before .before .before .before .before .before .before .before .before .before .before .args .tokens .now in
-    let after = c .before .before .before .before .before .before .before .before .before .before .before .before .before .before .record-end .ensures in
-    let ends = c .before .before .before .before .before .before .before .before .before .before .before .before .form-end .ensures ∙ ap (λ (k : ℕ). formEnd tokens k (bytes "uuu")) after in
-    let asked = c .before .before .before .before .before .before .before .before .long .ensures .0 ∙ c .before .before .before .before .before .before .before .before .before .u32-at .ensures ∙ ap (λ (k : ℕ). u32At tokens k) (c .before .before .before .before .before .before .before .before .before .before .plus .ensures ∙ ap (λ (k : ℕ). plus k 1) after) in
+    let tokens = c .before .before .before .before .before .before .before .before .before .before .before .before .before
+    .before .before .before .before .args .tokens .now in
+    let after = c .before .before .before .before .before .before .before .before .before .before .before .before .before
+    .before .record-end .ensures in
+    let ends = c .before .before .before .before .before .before .before .before .before .before .before .before .form-end
+    .ensures ∙ ap (λ (k : ℕ). formEnd tokens k (bytes "uuu")) after in
+    let asked = c .before .before .before .before .before .before .before .before .long .ensures .0
+    ∙ c .before .before .before .before .before .before .before .before .before .u32-at .ensures ∙ ap
+    (λ (k : ℕ). u32At tokens k) (c .before .before .before .before .before .before .before .before .before .before .plus
+    .ensures ∙ ap (λ (k : ℕ). plus k 1) after) in
     let least = c .before .before .before .before .before .before .before .least-short .ensures ∙ ap leastShort asked in
-    let end = c .before .before .before .before .before .before .lent .ensures .0 ∙ ap (λ (n : ℕ). lentLength n canvasRoom) asked in
-    let long = ap (λ (l : List ℕ). length l) (lent-part {A = ℕ} 0 (c .before .before .before .before .before .before .lent .result) canvasRoom (c .before .before .before .before .before .before .lent .ensures .1)) ∙ length-replicate (c .before .before .before .before .before .before .lent .result) 0 ∙ end in
-    puts-query _ _ _ (eq-eqb _ _ (sym ends ∙ c .before .before .before .before .before .before .before .before .before .before .before .if1 .left))
-    (puts-as (λ i. paintedText (least i) (sheetAt tokens) (u32At tokens (after i)) (seeded (u32At tokens (plus (after i) 2)) (long i))) (c .before .before .before .paint-filled .ensures))
+    let end = c .before .before .before .before .before .before .lent .ensures .0 ∙ ap
+    (λ (n : ℕ). lentLength n canvasRoom) asked in
+    let long = ap (λ (l : List ℕ). length l)
+    (lent-part {A = ℕ} 0 (c .before .before .before .before .before .before .lent .result) canvasRoom
+    (c .before .before .before .before .before .before .lent .ensures .1)) ∙ length-replicate
+    (c .before .before .before .before .before .before .lent .result) 0 ∙ end in
+    puts-query _ _ _ (eq-eqb _ _ (sym ends
+    ∙ c .before .before .before .before .before .before .before .before .before .before .before .if1 .left))
+    (puts-as (λ i. paintedText (least i) (sheetAt tokens) (u32At tokens (after i))
+    (seeded (u32At tokens (plus (after i) 2)) (long i))) (c .before .before .before .paint-filled .ensures))
 
 pub sheet-paint-spec : {M : Type 1} → statement M
 sheet-paint-spec =

@@ -15,7 +15,8 @@ use Rattle.sheet_answers.proofs.with_layers.Tie as tie
 abbrev Inv-loop : tie.InvT-loop
 Inv-loop tokens listed current₀ at₀ place₀ current at place =
     (place ≤ listed)
-    × (withLayers current (sets (current .layers) place (layersAt tokens (listed - place) at)) ≡ withLayers current₀ (sets (current₀ .layers) 0 (layersAt tokens listed 4)))
+    × (withLayers current (sets (current .layers) place (layersAt tokens (listed - place) at)) ≡ withLayers current₀
+    (sets (current₀ .layers) 0 (layersAt tokens listed 4)))
 
 abbrev μ-loop : tie.MeasureT-loop
 μ-loop tokens listed current₀ at₀ place₀ current at place = listed - place
@@ -52,7 +53,8 @@ loop-again c =
     let s = head .current in (
       omega arith,
       ap (λ (l : List Layer). withLayers s l)
-          (layers-put-next (given .tokens .now) (given .listed) (head .at) (s .layers) (head .place) (c .layer-end .result) (c .before .layer-at .result)
+          (layers-put-next (given .tokens .now) (given .listed) (head .at) (s .layers) (head .place) (c .layer-end .result)
+          (c .before .layer-at .result)
           (c .before .before .loop-test .taken) (c .before .layer-at .ensures) (c .layer-end .ensures))
           ∙ head .inv .1,
     )
@@ -62,7 +64,8 @@ returns c =
     let head = c .before .loop in
     let given = c .before .before .before .args in
     let s = head .current in
-    sym (ap (λ (l : List Layer). withLayers s l) (layers-put-none (given .tokens .now) (given .listed) (head .at) (s .layers) (head .place) (c .loop-test .left)))
+    sym (ap (λ (l : List Layer). withLayers s l)
+    (layers-put-none (given .tokens .now) (given .listed) (head .at) (s .layers) (head .place) (c .loop-test .left)))
     ∙ head .inv .1
 
 pub with-layers-spec : {M : Type 1} → statement M
