@@ -7,7 +7,9 @@ use Prim.Native.Char.{code}
 use lib.Dec.{leb, ltb}
 use lib.ListN.{length}
 use Rattle.query_records.specs.Queries.{plus, tokenAt, isLetter, u32At, formEnd}
+use Rattle.refusal.specs.Refusal.{Outcome, refused, answered}
 use Rattle.answer_text.specs.Text.{bytes}
+use Rattle.answer_records.specs.Answers.{refusedText}
 
 -- a length that is lent: the one asked for, and none where it is too large
 unfoldable pub lentLength : ℕ → ℕ → ℕ
@@ -20,6 +22,15 @@ canvasArea W H = cond (ltb 1024 W) 0 (cond (ltb 1024 H) 0 (W * H))
 -- what is said of a canvas, list or file that is too large for the program
 abbrev pub tooLargeText : List ℕ
 tooLargeText = bytes "error larger than the buffers of this program"
+
+-- what is said of a refusal, where refusals from the number `least` on come of what the program could not lend
+unfoldable pub shortText : ℕ → ℕ → List ℕ
+shortText least n = cond (leb least n) tooLargeText (refusedText n)
+
+-- what is said of a call that was lent such a buffer, and else the text that is made of it
+abbrev pub lentText : ℕ → List ℕ → Outcome → List ℕ
+lentText least text (refused n) = shortText least n
+lentText least text (answered values) = text
 
 -- the bytes of a canvas with a seed, n of them from the i-th on: byte i is (seed + 37 i) mod 256
 unfoldable pub seededFrom : ℕ → ℕ → ℕ → List ℕ

@@ -1,16 +1,19 @@
 // What the answers have in common that lend a list, a canvas or a file of their own frame, 36,864 bytes
 // at most: how much is lent, and how a canvas is filled before.
+use answer_records::put_refused;
 use answer_text::put_text;
 use query_records::form_end;
 use query_records::is_letter;
 use query_records::plus;
 use query_records::token;
 use query_records::u32_at;
+use refusal::Refusal;
 ghost use mathlib.Core.Path.{_≡_};
 ghost use Prim.Native.Nat.{_%_, _≤_};
 ghost use lib.ListN.{length};
+ghost use Rattle.refusal.specs.Refusal.{number};
 ghost use Rattle.answer_text.specs.Text.{Puts};
-ghost use Rattle.answer_buffers.specs.Buffers.{lentLength, canvasArea, tooLargeText, seeded, isSeed, filled, seedEnd};
+ghost use Rattle.answer_buffers.specs.Buffers.{lentLength, canvasArea, tooLargeText, shortText, seeded, isSeed, filled, seedEnd};
 
 // The bytes of a canvas.
 pub const CANVAS: usize = 36864;
@@ -19,6 +22,19 @@ pub fn put_too_large(out: &mut [u8], at: usize) -> usize
     ensures { λ r. ⌜ Puts (now (out .entry)) at tooLargeText (now (out .exit)) r ⌝ }
 {
     put_text(out, at, b"error larger than the buffers of this program")
+}
+
+// No refusal comes of what the program could not lend.
+pub const NONE_SHORT: u32 = 14;
+
+// A refusal; from the number `least` on refusals come of what the program could not lend.
+pub fn put_short(out: &mut [u8], at: usize, least: u32, refusal: Refusal) -> usize
+    ensures { λ r. ⌜ Puts (now (out .entry)) at (shortText least (number refusal)) (now (out .exit)) r ⌝ }
+{
+    if least <= refusal.number() {
+        return put_too_large(out, at);
+    }
+    put_refused(out, at, refusal)
 }
 
 // A length that is lent from a canvas or list: the one asked for, and none where it is too large.

@@ -14,11 +14,13 @@ use Rattle.answer_records.specs.Answers.{valuesText, usageText, queryTex
 pub next-texts-append : (xs ys : List ℤ) → nextTexts (xs ++ ys) ≡ nextTexts xs ++ nextTexts ys
 unfolding each
 next-texts-append [] ys = refl
-next-texts-append (v ∷ xs) ys = ap (λ (t : List ℕ). nextText v ++ t) (next-texts-append xs ys) ∙ sym (append-assoc (nextText v) _ _)
+next-texts-append (v ∷ xs) ys = ap (λ (t : List ℕ). nextText v ++ t) (next-texts-append xs ys) ∙ sym
+    (append-assoc (nextText v) _ _)
 
 pub values-append : (v : ℤ) (xs ys : List ℤ) → valuesText (v ∷ xs) ++ nextTexts ys ≡ valuesText (v ∷ (xs ++ ys))
 values-append v xs ys =
-    append-assoc (signedText v) (nextTexts xs) (nextTexts ys) ∙ ap (λ (t : List ℕ). signedText v ++ t) (sym (next-texts-append xs ys))
+    append-assoc (signedText v) (nextTexts xs) (nextTexts ys) ∙ ap (λ (t : List ℕ). signedText v ++ t)
+    (sym (next-texts-append xs ys))
 
 -- ---- A query, by whether its words fit.
 module _ {l m : List ℕ} {i j : ℕ} (fit : Bool) (words text : List ℕ) where

@@ -34,7 +34,8 @@ puts-nothing l i = record { output = refl }
 
 -- the same text by another name
 pub puts-as : {l m s t : List ℕ} {i j : ℕ} → s ≡ t → Puts l i s m j → Puts l i t m j
-puts-as {l} {m} {s} {t} {i} {j} e p = record { output = p .output ∙ ap (λ (x : List ℕ). put x (record { held = l; next = i })) e }
+puts-as {l} {m} {s} {t} {i} {j} e p = record
+    { output = p .output ∙ ap (λ (x : List ℕ). put x (record { held = l; next = i })) e }
 
 -- ---- A walk over a text, or over things that are put one after another: what is put and what is left make the whole.
 
@@ -53,7 +54,8 @@ module _ {A : Type 0} (text : A → List ℕ) (xs : List A) (i : ℕ) where
       → put (each text (drop (i + 1) xs)) o′ ≡ put (each text (drop i xs)) o
   unfolding each
   put-each-here d within o o′ e =
-      ap (put (each text (drop (i + 1) xs))) e ∙ rw (drop-cons xs i d within, add-one i) (sym (put-append (text (getD xs i d)) _ o))
+      ap (put (each text (drop (i + 1) xs))) e ∙ rw (drop-cons xs i d within, add-one i)
+      (sym (put-append (text (getD xs i d)) _ o))
 
   pub put-each-past : length xs ≤ i → (o : Output) → put (each text (drop i xs)) o ≡ o
   unfolding each put
@@ -69,8 +71,10 @@ signed-from-0 (pos n) from-0 = refl
 signed-from-0 (negsuc n) from-0 = absurd (omega (arith, ltZ-false (negsuc n) (pos 0) from-0))
 
 -- ---- A number that was held as 32 bits on the way.
-pub puts-held : (v : ℤ) → SFits w32 v → {l m : List ℕ} {i j : ℕ} → Puts l i (signedText (toZ w32 (ofZ w32 v))) m j → Puts l i (signedText v) m j
+pub puts-held : (v : ℤ) → SFits w32 v → {l m : List ℕ} {i j : ℕ} → Puts l i (signedText (toZ w32 (ofZ w32 v))) m j
+    → Puts l i (signedText v) m j
 puts-held v fits p = puts-as (ap (λ (z : ℤ). signedText z) (toZ-ofZ fits)) p
 
-pub puts-held-next : (v : ℤ) → SFits w32 v → {l m : List ℕ} {i j : ℕ} → Puts l i (nextText (toZ w32 (ofZ w32 v))) m j → Puts l i (nextText v) m j
+pub puts-held-next : (v : ℤ) → SFits w32 v → {l m : List ℕ} {i j : ℕ} → Puts l i (nextText (toZ w32 (ofZ w32 v))) m j
+    → Puts l i (nextText v) m j
 puts-held-next v fits p = puts-as (ap (λ (z : ℤ). nextText z) (toZ-ofZ fits)) p

@@ -19,7 +19,8 @@ module _ (word : List ℕ) (n i : ℕ) where
 
   pub digits-here : i < length word
       → digitsFrom n (drop i word)
-      ≡ cond (isDigit (getD word i 0)) (cond (leb oneMore 4294967295) (digitsFrom oneMore (drop (i + 1) word)) TooLarge) NotDigits
+      ≡ cond (isDigit (getD word i 0))
+      (cond (leb oneMore 4294967295) (digitsFrom oneMore (drop (i + 1) word)) TooLarge) NotDigits
   unfolding digitsFrom
   digits-here within = rw (drop-cons word i 0 within, add-one i)
 

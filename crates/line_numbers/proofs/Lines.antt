@@ -56,7 +56,8 @@ tokens-last line at n last = rw (eq-eqb _ _ last)
 
 tokens-next : (line : List ℕ) (at n : ℕ) → (wordStart line at ≡ length line → ⊥)
     → tokensFrom (suc n) line at
-    ≡ tokenOf (part line (wordStart line at) (wordEnd line (wordStart line at))) ∷ tokensFrom n line (wordEnd line (wordStart line at))
+    ≡ tokenOf (part line (wordStart line at) (wordEnd line (wordStart line at))) ∷ tokensFrom n line
+    (wordEnd line (wordStart line at))
 unfolding tokensFrom
 tokens-next line at n before-last = rw (ne-eqb _ _ before-last)
 
@@ -69,7 +70,8 @@ module _ (line : List ℕ) (at : ℕ) where
 
   pub tokens-more : (room : ℕ) → 0 < room → (wordStart line at ≡ length line → ⊥)
       → tokensFrom room line at
-      ≡ tokenOf (part line (wordStart line at) (wordEnd line (wordStart line at))) ∷ tokensFrom (room - 1) line (wordEnd line (wordStart line at))
+      ≡ tokenOf (part line (wordStart line at) (wordEnd line (wordStart line at))) ∷ tokensFrom (room - 1) line
+      (wordEnd line (wordStart line at))
   tokens-more room some before-last =
       ap (λ (n : ℕ). tokensFrom n line at) (one-room room some) ∙ tokens-next line at (room - 1) before-last
 
@@ -107,7 +109,8 @@ module _ (line : List ℕ) (from : ℕ) (before : List ℕ) where
           sym (ap (sets tokens count) none) ∙ still .list,
         )
 
-    pub still-none : count < length before → wordStart line at ≡ length line → (count ≡ length whole) × (tokens ≡ sets before 0 whole)
+    pub still-none : count < length before → wordStart line at ≡ length line → (count ≡ length whole) ×
+        (tokens ≡ sets before 0 whole)
     still-none room last = none-left (tokens-none line at (length before - count) (omega arith) last)
 
     pub still-full : length before ≤ count → (count ≡ length whole) × (tokens ≡ sets before 0 whole)
@@ -135,7 +138,8 @@ module _ (line : List ℕ) (from : ℕ) (before : List ℕ) where
         }
 
     -- the same, by what the code finds
-    pub still-next-by : (start end token : ℕ) → start ≡ wordStart line at → end ≡ wordEnd line start → token ≡ tokenOf (part line start end)
+    pub still-next-by : (start end token : ℕ) → start ≡ wordStart line at → end ≡ wordEnd line start → token ≡ tokenOf
+        (part line start end)
         → count < length before → (start ≡ length line → ⊥) → StillTo (set tokens count token) end (count + 1)
     still-next-by start end token p q r room before-last =
         let ends : end ≡ wordEnd line (wordStart line at) = q ∙ ap (wordEnd line) p in

@@ -12,24 +12,28 @@ use Rattle.answer_records.specs.Answers.{outcomeText, boolText, queryText, Said
 
 -- `Rectangle::center`
 abbrev pub centerText : List ℕ → List ℕ
-centerText tokens = queryText (fits tokens (bytes "iiuu")) (bytes "x y w h") (outcomeText [] (centerCall (rectangleAt tokens 0)))
+centerText tokens = queryText (fits tokens (bytes "iiuu")) (bytes "x y w h")
+    (outcomeText [] (centerCall (rectangleAt tokens 0)))
 
 -- `Rectangle::with_center`
 abbrev pub withCenterText : List ℕ → List ℕ
 withCenterText tokens =
-    queryText (fits tokens (bytes "iiuu")) (bytes "cx cy w h") (outcomeText [] (withCenterCall (pointAt tokens 0) (sizeAt tokens 2)))
+    queryText (fits tokens (bytes "iiuu")) (bytes "cx cy w h")
+    (outcomeText [] (withCenterCall (pointAt tokens 0) (sizeAt tokens 2)))
 
 -- `Rectangle::rows`, `Rectangle::columns`
 abbrev pub rowsText : List ℕ → List ℕ
 rowsText tokens = queryText (fits tokens (bytes "iiuu")) (bytes "x y w h") (outcomeText [] (rowsCall (rectangleAt tokens 0)))
 
 abbrev pub columnsText : List ℕ → List ℕ
-columnsText tokens = queryText (fits tokens (bytes "iiuu")) (bytes "x y w h") (outcomeText [] (columnsCall (rectangleAt tokens 0)))
+columnsText tokens = queryText (fits tokens (bytes "iiuu")) (bytes "x y w h")
+    (outcomeText [] (columnsCall (rectangleAt tokens 0)))
 
 -- `Rectangle::offset`
 abbrev pub offsetText : List ℕ → List ℕ
 offsetText tokens =
-    queryText (fits tokens (bytes "iiuui")) (bytes "x y w h k") (outcomeText [] (offsetCall (rectangleAt tokens 0) (i32At tokens 4)))
+    queryText (fits tokens (bytes "iiuui")) (bytes "x y w h k")
+    (outcomeText [] (offsetCall (rectangleAt tokens 0) (i32At tokens 4)))
 
 -- the run that is asked, and whether it contains a number and whether it is empty: `Range::contains`, `Range::is_empty`
 abbrev pub rangeAt : List ℕ → Range

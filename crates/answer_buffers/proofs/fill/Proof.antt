@@ -1,4 +1,5 @@
--- `answer_buffers::fill` meets its contract. Invariant: the bytes put and those left make the whole, and the value is that of the next byte.
+-- `answer_buffers::fill` meets its contract. Invariant: the bytes put and those left make the whole, and the value is that of
+-- the next byte.
 -- Assumes nothing.
 use mathlib.Core.Path.{_≡_, refl, sym, ap, _∙_}
 use Prim.Native.Nat.{_+_, _*_, _-_, _%_, _≤_, _<_}
@@ -10,7 +11,8 @@ use Rattle.answer_buffers.proofs.fill.Statement.{statement}
 use Rattle.answer_buffers.proofs.fill.Tie as tie
 
 abbrev Inv-loop : tie.InvT-loop
-Inv-loop canvas₀ seed value₀ i₀ canvas value i = (i ≤ length canvas₀) × (length canvas ≡ length canvas₀) × (value % 256 ≡ (seed + 37 * i) % 256) × (value < 293) × (stillTo seed canvas₀ canvas i ≡ stillTo seed canvas₀ canvas₀ 0)
+Inv-loop canvas₀ seed value₀ i₀ canvas value i = (i ≤ length canvas₀) × (length canvas ≡ length canvas₀) ×
+    (value % 256 ≡ (seed + 37 * i) % 256) × (value < 293) × (stillTo seed canvas₀ canvas i ≡ stillTo seed canvas₀ canvas₀ 0)
 
 abbrev μ-loop : tie.MeasureT-loop
 μ-loop canvas₀ seed value₀ i₀ canvas value i = length canvas₀ - i
@@ -42,7 +44,8 @@ loop-again c =
       simp length-set (head .inv .1),
       omega arith,
       omega arith,
-      still-next (entry .seed) (entry .canvas .now) (head .canvas) (head .i) (c .low-byte .result) room (c .low-byte .ensures ∙ head .inv .2) ∙ head .inv .4,
+      still-next (entry .seed) (entry .canvas .now) (head .canvas) (head .i) (c .low-byte .result) room
+          (c .low-byte .ensures ∙ head .inv .2) ∙ head .inv .4,
     )
 
 same-length : tie.Need-same-length Inv-loop μ-loop
@@ -53,7 +56,8 @@ returns c =
     let head = c .before .loop in
     let entry = c .before .before .before .args in
     let full : length (entry .canvas .now) ≤ head .i = omega arith in
-    sym (still-none (entry .seed) (entry .canvas .now) (head .canvas) (head .i) full) ∙ head .inv .4 ∙ still-all (entry .seed) (entry .canvas .now)
+    sym (still-none (entry .seed) (entry .canvas .now) (head .canvas) (head .i) full) ∙ head .inv .4 ∙ still-all
+    (entry .seed) (entry .canvas .now)
 
 pub fill-spec : {M : Type 1} → statement M
 fill-spec =

@@ -28,8 +28,11 @@ returns : tie.Need-returns
 unfolding filled
 returns c =
     let given = c .before .before .before .before .before .before .before .before .before .before .args in
-    let seed = c .before .before .before .u32-at .ensures ∙ ap (λ (k : ℕ). u32At (given .tokens .now) k) (c .before .before .before .before .plus .ensures) in
-    rw (sym (c .before .before .before .before .before .before .before .is-seed .ensures) ∙ c .before .before .before .before .before .before .if1 .taken) (c .before .before .fill .ensures ∙ ap (λ (n : ℕ). seeded n (length (given .canvas .now))) seed)
+    let seed = c .before .before .before .u32-at .ensures ∙ ap (λ (k : ℕ). u32At (given .tokens .now) k)
+    (c .before .before .before .before .plus .ensures) in
+    rw (sym (c .before .before .before .before .before .before .before .is-seed .ensures)
+    ∙ c .before .before .before .before .before .before .if1 .taken)
+    (c .before .before .fill .ensures ∙ ap (λ (n : ℕ). seeded n (length (given .canvas .now))) seed)
 
 returns-2 : tie.Need-returns-2
 unfolding filled

@@ -23,7 +23,8 @@ returns c =
     let run = c .before .before .before .before .before .before .before .before .before .before .before .args .range in
     let start-fits : SFits w32 (run .start) = search needs in
     let end-fits : SFits w32 (run .end) = search needs in
-    puts-then (puts-held (run .start) start-fits (c .before .before .before .before .before .before .before .put-signed .ensures))
+    puts-then (puts-held (run .start) start-fits
+    (c .before .before .before .before .before .before .before .put-signed .ensures))
     (puts-then (puts-held-next (run .end) end-fits (c .before .before .put-next-signed .ensures)) (puts-nothing _ _))
 
 pub put-range-spec : {M : Type 1} → statement M

@@ -26,12 +26,17 @@ same-length c = search needs
 returns : tie.Need-returns
 unfolding each
 returns c =
-    let corner = c .before .before .before .before .before .before .before .before .before .before .before .before .before .before .before .before .before .before .before .before .before .args .rectangle .«top_left» in
+    let corner = c .before .before .before .before .before .before .before .before .before .before .before .before .before
+    .before .before .before .before .before .before .before .before .args .rectangle .«top_left» in
     let x-fits : SFits w32 (corner .x) = search needs in
     let y-fits : SFits w32 (corner .y) = search needs in
-    puts-then (puts-held (corner .x) x-fits (c .before .before .before .before .before .before .before .before .before .before .before .before .before .before .before .put-signed .ensures))
-    (puts-then (puts-held-next (corner .y) y-fits (c .before .before .before .before .before .before .before .before .before .before .put-next-signed .ensures))
-    (puts-then (c .before .before .before .before .before .before .put-next .ensures) (puts-then (c .before .before .put-next2 .ensures) (puts-nothing _ _))))
+    puts-then (puts-held (corner .x) x-fits
+    (c .before .before .before .before .before .before .before .before .before .before .before .before .before .before
+    .before .put-signed .ensures))
+    (puts-then (puts-held-next (corner .y) y-fits
+    (c .before .before .before .before .before .before .before .before .before .before .put-next-signed .ensures))
+    (puts-then (c .before .before .before .before .before .before .put-next .ensures)
+    (puts-then (c .before .before .put-next2 .ensures) (puts-nothing _ _))))
 
 pub put-rectangle-spec : {M : Type 1} → statement M
 put-rectangle-spec =

@@ -26,7 +26,9 @@ same-length : tie.Need-same-length
 same-length c = search needs
 
 returns : tie.Need-returns
-returns c = puts-as (ap (λ (n : ℕ). bytes "refused " ++ decimal n) (c .before .before .before .number .ensures)) (puts-then (c .before .before .before .before .before .before .before .put-text .ensures) (c .before .before .put-number .ensures))
+returns c = puts-as (ap (λ (n : ℕ). bytes "refused " ++ decimal n) (c .before .before .before .number .ensures))
+    (puts-then (c .before .before .before .before .before .before .before .put-text .ensures)
+    (c .before .before .put-number .ensures))
 
 pub put-refused-spec : {M : Type 1} → statement M
 put-refused-spec =

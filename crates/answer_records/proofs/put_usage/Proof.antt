@@ -18,7 +18,8 @@ same-length : tie.Need-same-length
 same-length c = search needs
 
 returns : tie.Need-returns
-returns c = puts-then (c .before .before .before .before .before .before .put-text .ensures) (c .before .before .put-text2 .ensures)
+returns c = puts-then (c .before .before .before .before .before .before .put-text .ensures)
+    (c .before .before .put-text2 .ensures)
 
 pub put-usage-spec : {M : Type 1} → statement M
 put-usage-spec =

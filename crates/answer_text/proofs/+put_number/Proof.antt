@@ -32,8 +32,14 @@ put-number-below t =
 
 -- the contracts of its callees, itself below t among them
 abbrev known : ℕ → put-number-lts.Claims
-known t =
-    (last-digit-reads.Asked, last-digit-reads.Learnt, put-byte-reads.Asked, put-byte-reads.Learnt, put-number-below t, put-number.Post)
+known t = (
+  last-digit-reads.Asked,
+  last-digit-reads.Learnt,
+  put-byte-reads.Asked,
+  put-byte-reads.Learnt,
+  put-number-below t,
+  put-number.Post,
+)
 
 -- the one digit of a number below ten
 one-digit : (n d : ℕ) → n < 10 → d ≡ digit (n % 10) → d ∷ [] ≡ decimal n
@@ -76,7 +82,8 @@ module _ (t : ℕ) where
   last-put-requires c κs = tt
 
   last-same-length : put-number-lts.Need-same-length-2 (known t) (put-number-at t) put-number.Post
-  last-same-length c = c .before .before .put-byte2 .kept .0 ∙ c .before .before .before .before .before .before .before .put-number .kept .0
+  last-same-length c = c .before .before .put-byte2 .kept .0
+      ∙ c .before .before .before .before .before .before .before .put-number .kept .0
 
   last-returns : put-number-lts.Need-returns-2 (known t) (put-number-at t) put-number.Post
   last-returns c =

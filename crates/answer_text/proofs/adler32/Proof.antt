@@ -11,7 +11,8 @@ use Rattle.answer_text.proofs.adler32.Statement.{statement}
 use Rattle.answer_text.proofs.adler32.Tie as tie
 
 abbrev Inv-loop : tie.InvT-loop
-Inv-loop bytes low₀ high₀ i₀ low high i = (i ≤ length bytes) × (low < modulus) × (high < modulus) × (sumFrom low high (drop i bytes) ≡ sumOf bytes)
+Inv-loop bytes low₀ high₀ i₀ low high i = (i ≤ length bytes) × (low < modulus) × (high < modulus) ×
+    (sumFrom low high (drop i bytes) ≡ sumOf bytes)
 
 abbrev μ-loop : tie.MeasureT-loop
 μ-loop bytes low₀ high₀ i₀ low high i = length bytes - i
@@ -44,7 +45,8 @@ loop-again c =
       low .1,
       high .1,
       (λ i. sumFrom (low .0 i) ((high .0 ∙ ap (nextHigh (head .high)) (low .0)) i) (drop (head .i + 1) entry))
-          ∙ sym (sum-here entry (head .low) (head .high) (head .i) (c .before .before .before .loop-test .taken)) ∙ head .inv .3,
+          ∙ sym (sum-here entry (head .low) (head .high) (head .i) (c .before .before .before .loop-test .taken))
+          ∙ head .inv .3,
     )
 
 mul-result : tie.Need-mul-result Inv-loop μ-loop
@@ -56,7 +58,8 @@ add-result c = search needs
 returns : tie.Need-returns Inv-loop μ-loop
 returns c =
     let head = c .before .loop in
-    sym (sum-past (c .before .before .before .args .bytes .now) (head .low) (head .high) (head .i) (c .loop-test .left)) ∙ head .inv .3
+    sym (sum-past (c .before .before .before .args .bytes .now) (head .low) (head .high) (head .i) (c .loop-test .left))
+    ∙ head .inv .3
 
 pub adler32-spec : {M : Type 1} → statement M
 adler32-spec =

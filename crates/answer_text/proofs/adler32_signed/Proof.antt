@@ -24,7 +24,8 @@ bytes-made low high v n rest bits {a} {b} {c} {d} p q r s =
     ∙ ap (λ (k : ℕ). sumFrom low high (k / 1 % 256 ∷ k / 256 % 256 ∷ k / 65536 % 256 ∷ k / 16777216 % 256 ∷ rest)) bits
 
 abbrev Inv-loop : tie.InvT-loop
-Inv-loop list low₀ high₀ i₀ low high i = (i ≤ length list) × (low < modulus) × (high < modulus) × (sumFrom low high (each fourBytes (drop i list)) ≡ signedSumOf list)
+Inv-loop list low₀ high₀ i₀ low high i = (i ≤ length list) × (low < modulus) × (high < modulus) ×
+    (sumFrom low high (each fourBytes (drop i list)) ≡ signedSumOf list)
 
 abbrev μ-loop : tie.MeasureT-loop
 μ-loop list low₀ high₀ i₀ low high i = length list - i
@@ -85,21 +86,36 @@ loop-less c = search needs
 
 loop-again : tie.Need-loop-again Inv-loop μ-loop
 loop-again c =
-    let entry = c .before .before .before .before .before .before .before .before .before .before .before .before .before .before .before .before .args .list .now in
-    let head = c .before .before .before .before .before .before .before .before .before .before .before .before .before .before .before .loop in
+    let entry = c .before .before .before .before .before .before .before .before .before .before .before .before .before
+    .before .before .before .args .list .now in
+    let head = c .before .before .before .before .before .before .before .before .before .before .before .before .before
+    .before .before .loop in
     let rest = each fourBytes (drop (head .i + 1) entry) in
-    let read = toZ-ofZ {w = w32} (sfits-of {w = w32} {z = getD entry (head .i) (pos 0)} (c .before .before .before .before .before .before .before .before .before .before .before .before .before .same-bits-arg .given)) in
-    let bits = c .before .before .before .before .before .before .before .before .before .before .before .before .same-bits .ensures ∙ ap (λ (z : ℤ). sameBits z) read in (
+    let read = toZ-ofZ {w = w32} (sfits-of {w = w32} {z = getD entry (head .i) (pos 0)}
+    (c .before .before .before .before .before .before .before .before .before .before .before .before .before
+    .same-bits-arg .given)) in
+    let bits = c .before .before .before .before .before .before .before .before .before .before .before .before .same-bits
+    .ensures ∙ ap (λ (z : ℤ). sameBits z) read in (
       omega arith,
       c .before .next-low4 .ensures .1,
       c .next-high4 .ensures .1,
       sum-next _ _ _ _ _ rest (c .before .next-low4 .ensures .0) (c .next-high4 .ensures .0)
-          ∙ sum-next _ _ _ _ _ _ (c .before .before .before .before .next-low3 .ensures .0) (c .before .before .before .next-high3 .ensures .0)
-          ∙ sum-next _ _ _ _ _ _ (c .before .before .before .before .before .before .before .next-low2 .ensures .0) (c .before .before .before .before .before .before .next-high2 .ensures .0)
-          ∙ sum-next _ _ _ _ _ _ (c .before .before .before .before .before .before .before .before .before .before .next-low .ensures .0) (c .before .before .before .before .before .before .before .before .before .next-high .ensures .0)
-          ∙ bytes-made (head .low) (head .high) (getD entry (head .i) (pos 0)) (c .before .before .before .before .before .before .before .before .before .before .before .before .same-bits .result) rest bits
-          (c .before .before .before .before .before .before .before .before .before .before .before .byte-of .ensures) (c .before .before .before .before .before .before .before .before .byte-of2 .ensures) (c .before .before .before .before .before .byte-of3 .ensures) (c .before .before .byte-of4 .ensures)
-          ∙ signed-sum-here entry (head .low) (head .high) (head .i) (c .before .before .before .before .before .before .before .before .before .before .before .before .before .before .loop-test .taken) ∙ head .inv .3,
+          ∙ sum-next _ _ _ _ _ _ (c .before .before .before .before .next-low3 .ensures .0)
+          (c .before .before .before .next-high3 .ensures .0)
+          ∙ sum-next _ _ _ _ _ _ (c .before .before .before .before .before .before .before .next-low2 .ensures .0)
+          (c .before .before .before .before .before .before .next-high2 .ensures .0)
+          ∙ sum-next _ _ _ _ _ _ (c .before .before .before .before .before .before .before .before .before .before
+          .next-low .ensures .0) (c .before .before .before .before .before .before .before .before .before .next-high
+          .ensures .0)
+          ∙ bytes-made (head .low) (head .high) (getD entry (head .i) (pos 0))
+          (c .before .before .before .before .before .before .before .before .before .before .before .before .same-bits
+          .result) rest bits
+          (c .before .before .before .before .before .before .before .before .before .before .before .byte-of .ensures)
+          (c .before .before .before .before .before .before .before .before .byte-of2 .ensures)
+          (c .before .before .before .before .before .byte-of3 .ensures) (c .before .before .byte-of4 .ensures)
+          ∙ signed-sum-here entry (head .low) (head .high) (head .i)
+          (c .before .before .before .before .before .before .before .before .before .before .before .before .before
+          .before .loop-test .taken) ∙ head .inv .3,
     )
 
 mul-result : tie.Need-mul-result Inv-loop μ-loop
@@ -111,7 +127,8 @@ add-result c = search needs
 returns : tie.Need-returns Inv-loop μ-loop
 returns c =
     let head = c .before .loop in
-    sym (signed-sum-past (c .before .before .args .list .now) (head .low) (head .high) (head .i) (c .loop-test .left)) ∙ head .inv .3
+    sym (signed-sum-past (c .before .before .args .list .now) (head .low) (head .high) (head .i) (c .loop-test .left))
+    ∙ head .inv .3
 
 pub adler32-signed-spec : {M : Type 1} → statement M
 adler32-signed-spec =

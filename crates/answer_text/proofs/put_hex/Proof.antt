@@ -11,7 +11,9 @@ use Rattle.answer_text.proofs.put_hex.Statement.{statement}
 use Rattle.answer_text.proofs.put_hex.Tie as tie
 
 abbrev Inv-loop : tie.InvT-loop
-Inv-loop out₀ at bytes place₀ i₀ out place i = (i ≤ length bytes) × (length out ≡ length out₀) × (put (each hexPair (drop i bytes)) (record { held = out; next = place }) ≡ put (each hexPair bytes) (record { held = out₀; next = at }))
+Inv-loop out₀ at bytes place₀ i₀ out place i = (i ≤ length bytes) × (length out ≡ length out₀) ×
+    (put (each hexPair (drop i bytes)) (record { held = out; next = place }) ≡ put (each hexPair bytes)
+    (record { held = out₀; next = at }))
 
 abbrev μ-loop : tie.MeasureT-loop
 μ-loop out₀ at bytes place₀ i₀ out place i = length bytes - i
@@ -36,7 +38,9 @@ loop-again c =
     let head = c .before .before .before .before .before .before .loop in (
       omega arith,
       search needs,
-      put-each-here hexPair (c .before .before .before .before .before .before .before .before .before .args .bytes .now) (head .i) 0 (c .before .before .before .before .before .loop-test .taken) _ _ (c .before .before .put-hex-pair .ensures .output) ∙ head .inv .2,
+      put-each-here hexPair (c .before .before .before .before .before .before .before .before .before .args .bytes .now)
+          (head .i) 0 (c .before .before .before .before .before .loop-test .taken) _ _
+          (c .before .before .put-hex-pair .ensures .output) ∙ head .inv .2,
     )
 
 same-length : tie.Need-same-length Inv-loop μ-loop
@@ -45,7 +49,10 @@ same-length c = search needs
 returns : tie.Need-returns Inv-loop μ-loop
 returns c =
     let head = c .before .loop in
-    record { output = sym (put-each-past hexPair (c .before .before .before .before .args .bytes .now) (head .i) (c .loop-test .left) _) ∙ head .inv .2 }
+    record {
+      output = sym (put-each-past hexPair (c .before .before .before .before .args .bytes .now) (head .i)
+          (c .loop-test .left) _) ∙ head .inv .2;
+    }
 
 pub put-hex-spec : {M : Type 1} → statement M
 put-hex-spec =

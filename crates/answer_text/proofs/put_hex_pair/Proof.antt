@@ -23,7 +23,10 @@ same-length : tie.Need-same-length
 same-length c = search needs
 
 returns : tie.Need-returns
-returns c = puts-as (λ i. c .before .before .before .before .before .before .before .before .glyph .ensures i ∷ c .before .before .before .glyph2 .ensures i ∷ []) (puts-then (c .before .before .before .before .before .before .before .put-byte .ensures) (c .before .before .put-byte2 .ensures))
+returns c = puts-as (λ i. c .before .before .before .before .before .before .before .before .glyph .ensures i ∷
+    c .before .before .before .glyph2 .ensures i ∷ [])
+    (puts-then (c .before .before .before .before .before .before .before .put-byte .ensures)
+    (c .before .before .put-byte2 .ensures))
 
 pub put-hex-pair-spec : {M : Type 1} → statement M
 put-hex-pair-spec =

@@ -23,7 +23,8 @@ same-length c = search needs
 returns : tie.Need-returns
 returns c =
     let entry = c .before .before .before .before .before .before .before .before .before in
-    puts-then (c .before .before .before .before .before .before .put-byte .ensures) (puts-held (entry .args .v) (fits entry) (c .before .before .put-signed .ensures))
+    puts-then (c .before .before .before .before .before .before .put-byte .ensures)
+    (puts-held (entry .args .v) (fits entry) (c .before .before .put-signed .ensures))
 
 pub put-next-signed-spec : {M : Type 1} → statement M
 put-next-signed-spec =

@@ -36,9 +36,13 @@ same-length c = search needs
 
 returns : tie.Need-returns
 returns c =
-    puts-as (ap (λ (n : ℕ). bytes "-" ++ decimal n) (c .before .before .before .magnitude .ensures) ∙ signed-below (held (c .before .before .before .before .before .before .before .before .before .before .before)) (c .before .before .before .before .before .before .before .before .before .if1 .taken)
-    ∙ ap (λ (z : ℤ). signedText z) (toZ-ofZ (fits (c .before .before .before .before .before .before .before .before .before .before .before))))
-    (puts-then (c .before .before .before .before .before .before .before .put-byte .ensures) (c .before .before .put-number .ensures))
+    puts-as (ap (λ (n : ℕ). bytes "-" ++ decimal n) (c .before .before .before .magnitude .ensures) ∙ signed-below
+    (held (c .before .before .before .before .before .before .before .before .before .before .before))
+    (c .before .before .before .before .before .before .before .before .before .if1 .taken)
+    ∙ ap (λ (z : ℤ). signedText z) (toZ-ofZ
+    (fits (c .before .before .before .before .before .before .before .before .before .before .before))))
+    (puts-then (c .before .before .before .before .before .before .before .put-byte .ensures)
+    (c .before .before .put-number .ensures))
 
 magnitude-requires-2 : tie.Need-magnitude-requires-2
 magnitude-requires-2 c κs = search needs
@@ -50,7 +54,8 @@ same-length-2 : tie.Need-same-length-2
 same-length-2 c = search needs
 
 returns-2 : tie.Need-returns-2
-returns-2 c = puts-as (ap (λ (n : ℕ). decimal n) (c .before .before .before .magnitude2 .ensures) ∙ signed-from-0 (held (c .before .before .before .before .before .before .before)) (c .before .before .before .before .before .if1 .left)
+returns-2 c = puts-as (ap (λ (n : ℕ). decimal n) (c .before .before .before .magnitude2 .ensures) ∙ signed-from-0
+    (held (c .before .before .before .before .before .before .before)) (c .before .before .before .before .before .if1 .left)
     ∙ ap (λ (z : ℤ). signedText z) (toZ-ofZ (fits (c .before .before .before .before .before .before .before))))
     (c .before .before .put-number2 .ensures)
 

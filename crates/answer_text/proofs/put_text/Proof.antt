@@ -11,7 +11,8 @@ use Rattle.answer_text.proofs.put_text.Statement.{statement}
 use Rattle.answer_text.proofs.put_text.Tie as tie
 
 abbrev Inv-loop : tie.InvT-loop
-Inv-loop out₀ at text place₀ i₀ out place i = (i ≤ length text) × (length out ≡ length out₀) × (put (drop i text) (record { held = out; next = place }) ≡ put text (record { held = out₀; next = at }))
+Inv-loop out₀ at text place₀ i₀ out place i = (i ≤ length text) × (length out ≡ length out₀) ×
+    (put (drop i text) (record { held = out; next = place }) ≡ put text (record { held = out₀; next = at }))
 
 abbrev μ-loop : tie.MeasureT-loop
 μ-loop out₀ at text place₀ i₀ out place i = length text - i
@@ -36,7 +37,9 @@ loop-again c =
     let head = c .before .before .before .before .before .before .loop in (
       omega arith,
       search needs,
-      put-here (c .before .before .before .before .before .before .before .before .before .args .text .now) (head .i) (c .before .before .before .before .before .loop-test .taken) _ _ (c .before .before .put-byte .ensures .output) ∙ head .inv .2,
+      put-here (c .before .before .before .before .before .before .before .before .before .args .text .now) (head .i)
+          (c .before .before .before .before .before .loop-test .taken) _ _ (c .before .before .put-byte .ensures .output)
+          ∙ head .inv .2,
     )
 
 same-length : tie.Need-same-length Inv-loop μ-loop
@@ -45,7 +48,10 @@ same-length c = search needs
 returns : tie.Need-returns Inv-loop μ-loop
 returns c =
     let head = c .before .loop in
-    record { output = sym (put-past (c .before .before .before .before .args .text .now) (head .i) (c .loop-test .left) _) ∙ head .inv .2 }
+    record {
+      output = sym (put-past (c .before .before .before .before .args .text .now) (head .i) (c .loop-test .left) _)
+          ∙ head .inv .2;
+    }
 
 pub put-text-spec : {M : Type 1} → statement M
 put-text-spec =

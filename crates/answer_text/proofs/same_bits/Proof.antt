@@ -31,15 +31,19 @@ sub-result-2 : tie.Need-sub-result-2
 sub-result-2 c = search needs
 
 returns : tie.Need-returns
-returns c = ap (λ (n : ℕ). 4294967295 - (n - 1)) (c .before .before .magnitude .ensures) ∙ bits-below (held (c .before .before .before)) (c .before .if1 .taken) ∙ ap (λ (z : ℤ). sameBits z) (toZ-ofZ (fits (c .before .before .before)))
+returns c = ap (λ (n : ℕ). 4294967295 - (n - 1)) (c .before .before .magnitude .ensures) ∙ bits-below
+    (held (c .before .before .before)) (c .before .if1 .taken) ∙ ap (λ (z : ℤ). sameBits z)
+    (toZ-ofZ (fits (c .before .before .before)))
 
 returns-2 : tie.Need-returns-2
 returns-2 c =
     let near : natAbs (held (c .before .before .before)) ≤ 0 = omega (arith, c .before .before .magnitude .ensures) in
-    c .before .before .magnitude .ensures ∙ bits-near-0 (held (c .before .before .before)) (c .before .if1 .taken) near ∙ ap (λ (z : ℤ). sameBits z) (toZ-ofZ (fits (c .before .before .before)))
+    c .before .before .magnitude .ensures ∙ bits-near-0 (held (c .before .before .before)) (c .before .if1 .taken) near ∙ ap
+    (λ (z : ℤ). sameBits z) (toZ-ofZ (fits (c .before .before .before)))
 
 returns-3 : tie.Need-returns-3
-returns-3 c = c .before .magnitude .ensures ∙ bits-from-0 (held (c .before .before)) (c .if1 .left) ∙ ap (λ (z : ℤ). sameBits z) (toZ-ofZ (fits (c .before .before)))
+returns-3 c = c .before .magnitude .ensures ∙ bits-from-0 (held (c .before .before)) (c .if1 .left) ∙ ap
+    (λ (z : ℤ). sameBits z) (toZ-ofZ (fits (c .before .before)))
 
 pub same-bits-spec : {M : Type 1} → statement M
 same-bits-spec =

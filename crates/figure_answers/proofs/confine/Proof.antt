@@ -30,7 +30,8 @@ same-length : tie.Need-same-length
 same-length c = search needs
 
 returns : tie.Need-returns
-returns c = puts-usage _ _ _ (sym (c .before .before .before .before .before .before .fits2 .ensures) ∙ not-true _ (c .before .before .before .before .before .if1 .taken)) (c .before .before .put-usage .ensures)
+returns c = puts-usage _ _ _ (sym (c .before .before .before .before .before .before .fits2 .ensures) ∙ not-true _
+    (c .before .before .before .before .before .if1 .taken)) (c .before .before .put-usage .ensures)
 
 figure-at-requires : tie.Need-figure-at-requires
 figure-at-requires c κs = search needs
@@ -46,8 +47,11 @@ same-length-2 c = search needs
 
 returns-2 : tie.Need-returns-2
 returns-2 c =
-    puts-query _ _ _ (sym (c .before .before .before .before .before .before .before .fits2 .ensures) ∙ not-false _ (c .before .before .before .before .before .before .if1 .left))
-    (puts-as (ap (λ (o : Outcome). outcomeText noRadiiText o) (c .before .before .before .before .confined-radii .ensures ∙ ap (λ (f : Figure). confinedRadiiCall f) (c .before .before .before .before .before .figure-at .ensures))) (c .before .before .put-radii-answer .ensures))
+    puts-query _ _ _ (sym (c .before .before .before .before .before .before .before .fits2 .ensures) ∙ not-false _
+    (c .before .before .before .before .before .before .if1 .left))
+    (puts-as (ap (λ (o : Outcome). outcomeText noRadiiText o)
+    (c .before .before .before .before .confined-radii .ensures ∙ ap (λ (f : Figure). confinedRadiiCall f)
+    (c .before .before .before .before .before .figure-at .ensures))) (c .before .before .put-radii-answer .ensures))
 
 pub confine-spec : {M : Type 1} → statement M
 confine-spec =

@@ -30,7 +30,8 @@ same-length : tie.Need-same-length
 same-length c = search needs
 
 returns : tie.Need-returns
-returns c = puts-usage _ _ _ (sym (c .before .before .before .before .before .before .fits2 .ensures) ∙ not-true _ (c .before .before .before .before .before .if1 .taken)) (c .before .before .put-usage .ensures)
+returns c = puts-usage _ _ _ (sym (c .before .before .before .before .before .before .fits2 .ensures) ∙ not-true _
+    (c .before .before .before .before .before .if1 .taken)) (c .before .before .put-usage .ensures)
 
 figure-words-requires : tie.Need-figure-words-requires
 figure-words-requires c κs = search needs
@@ -52,9 +53,16 @@ same-length-2 c = search needs
 
 returns-2 : tie.Need-returns-2
 returns-2 c =
-    let point = c .before .before .before .before .before .before .point-at .ensures ∙ ap (λ (k : ℕ). pointAt (c .before .before .before .before .before .before .before .before .before .before .before .before .before .args .tokens .now) k) (c .before .before .before .before .before .before .before .figure-words .ensures) in
-    puts-query _ _ _ (sym (c .before .before .before .before .before .before .before .before .before .fits2 .ensures) ∙ not-false _ (c .before .before .before .before .before .before .before .before .if1 .left))
-    (puts-as (ap (λ (o : Outcome). outcomeText [] o) (c .before .before .before .before .contains .ensures ∙ (λ i. containsCall (c .before .before .before .before .before .figure-at .ensures i) (point i)))) (c .before .before .put-contains-answer .ensures))
+    let point = c .before .before .before .before .before .before .point-at .ensures ∙ ap
+    (λ (k : ℕ). pointAt (c .before .before .before .before .before .before .before .before .before .before .before
+    .before .before .args .tokens .now) k)
+    (c .before .before .before .before .before .before .before .figure-words .ensures) in
+    puts-query _ _ _ (sym (c .before .before .before .before .before .before .before .before .before .fits2 .ensures)
+    ∙ not-false _ (c .before .before .before .before .before .before .before .before .if1 .left))
+    (puts-as (ap (λ (o : Outcome). outcomeText [] o)
+    (c .before .before .before .before .contains .ensures ∙
+    (λ i. containsCall (c .before .before .before .before .before .figure-at .ensures i) (point i))))
+    (c .before .before .put-contains-answer .ensures))
 
 pub contains-spec : {M : Type 1} → statement M
 contains-spec =

@@ -25,11 +25,14 @@ same-length c = search needs
 returns : tie.Need-returns
 unfolding each
 returns c =
-    let given = c .before .before .before .before .before .before .before .before .before .before .before .before .before .args in
+    let given = c .before .before .before .before .before .before .before .before .before .before .before .before .before
+    .args in
     let at = given .rectangle .«top_left» in
     let size = given .rectangle .size in
     puts-as (values-append (at .x) (at .y ∷ pos (size .width) ∷ pos (size .height) ∷ []) (radiiValues (given .corners)))
-    (puts-then (c .before .before .before .before .before .before .before .before .before .before .put-rectangle .ensures) (puts-then (c .before .before .before .before .before .before .put-byte .ensures) (c .before .before .put-radii .ensures)))
+    (puts-then (c .before .before .before .before .before .before .before .before .before .before .put-rectangle .ensures)
+    (puts-then (c .before .before .before .before .before .before .put-byte .ensures)
+    (c .before .before .put-radii .ensures)))
 
 pub put-box-spec : {M : Type 1} → statement M
 put-box-spec =

@@ -32,13 +32,15 @@ same-length-2 : tie.Need-same-length-2
 same-length-2 c = search needs
 
 returns-2 : tie.Need-returns-2
-returns-2 c = rw (c .before .before .before .before .before .before .before .figure2 .given .1) (c .before .before .put-box .ensures)
+returns-2 c = rw (c .before .before .before .before .before .before .before .figure2 .given .1)
+    (c .before .before .put-box .ensures)
 
 same-length-3 : tie.Need-same-length-3
 same-length-3 c = search needs
 
 returns-3 : tie.Need-returns-3
-returns-3 c = rw (c .before .before .before .before .before .before .before .figure3 .given .1) (c .before .before .put-box2 .ensures)
+returns-3 c = rw (c .before .before .before .before .before .before .before .figure3 .given .1)
+    (c .before .before .put-box2 .ensures)
 
 pub put-figure-spec : {M : Type 1} → statement M
 put-figure-spec =

@@ -17,7 +17,8 @@ same-length c = search needs
 
 returns : tie.Need-returns
 unfolding each
-returns c = puts-then (c .before .before .before .before .before .before .put-next .ensures) (puts-then (c .before .before .put-next2 .ensures) (puts-nothing _ _))
+returns c = puts-then (c .before .before .before .before .before .before .put-next .ensures)
+    (puts-then (c .before .before .put-next2 .ensures) (puts-nothing _ _))
 
 pub put-next-size-spec : {M : Type 1} → statement M
 put-next-size-spec = tie.close (tie.spec put-next-requires put-next-requires-2 same-length returns)

@@ -34,14 +34,22 @@ same-length c = search needs
 returns : tie.Need-returns
 unfolding each
 returns c =
-    let corners = c .before .before .before .before .before .before .before .before .before .before .before .before .before .before .before .before .before .before .before .before .before .before .before .before .before .args .corners in
+    let corners = c .before .before .before .before .before .before .before .before .before .before .before .before .before
+    .before .before .before .before .before .before .before .before .before .before .before .before .args .corners in
     let second = sizeValues (corners .«top_right») in
     let third = sizeValues (corners .«bottom_right») in
     let fourth = sizeValues (corners .«bottom_left») in
-    let rest = ap (λ (t : List ℕ). nextTexts second ++ t) (sym (next-texts-append third fourth)) ∙ sym (next-texts-append second (third ++ fourth)) in
-    puts-as (ap (λ (t : List ℕ). decimal (corners .«top_left» .width) ++ (nextText (pos (corners .«top_left» .height)) ++ t)) rest)
-    (puts-then (c .before .before .before .before .before .before .before .before .before .before .before .before .before .before .before .before .before .before .put-number .ensures) (puts-then (c .before .before .before .before .before .before .before .before .before .before .before .before .before .before .put-next .ensures)
-    (puts-then (c .before .before .before .before .before .before .before .before .before .before .put-next-size .ensures) (puts-then (c .before .before .before .before .before .before .put-next-size2 .ensures) (c .before .before .put-next-size3 .ensures)))))
+    let rest = ap (λ (t : List ℕ). nextTexts second ++ t) (sym (next-texts-append third fourth)) ∙ sym
+    (next-texts-append second (third ++ fourth)) in
+    puts-as (ap (λ (t : List ℕ). decimal (corners .«top_left» .width) ++
+    (nextText (pos (corners .«top_left» .height)) ++ t)) rest)
+    (puts-then (c .before .before .before .before .before .before .before .before .before .before .before .before .before
+    .before .before .before .before .before .put-number .ensures)
+    (puts-then (c .before .before .before .before .before .before .before .before .before .before .before .before
+    .before .before .put-next .ensures)
+    (puts-then (c .before .before .before .before .before .before .before .before .before .before .put-next-size .ensures)
+    (puts-then (c .before .before .before .before .before .before .put-next-size2 .ensures)
+    (c .before .before .put-next-size3 .ensures)))))
 
 pub put-radii-spec : {M : Type 1} → statement M
 put-radii-spec =

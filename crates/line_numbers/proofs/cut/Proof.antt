@@ -10,7 +10,8 @@ use Rattle.line_numbers.proofs.cut.Statement.{statement}
 use Rattle.line_numbers.proofs.cut.Tie as tie
 
 abbrev Inv-loop : tie.InvT-loop
-Inv-loop line from tokens₀ at₀ count₀ tokens at count = (at ≤ length line) × (count ≤ length tokens₀) × (length tokens ≡ length tokens₀) × StillTo line from tokens₀ tokens at count
+Inv-loop line from tokens₀ at₀ count₀ tokens at count = (at ≤ length line) × (count ≤ length tokens₀) ×
+    (length tokens ≡ length tokens₀) × StillTo line from tokens₀ tokens at count
 
 abbrev μ-loop : tie.MeasureT-loop
 μ-loop line from tokens₀ at₀ count₀ tokens at count = length tokens₀ - count
@@ -29,7 +30,8 @@ returns c =
     let head = c .before .before .before .loop in
     let entry = c .before .before .before .before .before .before .args in
     let room : head .count < length (entry .tokens .now) = omega arith in
-    let last = still-none (entry .line .now) (entry .from) (entry .tokens .now) _ _ _ (head .inv .3) room (sym (c .before .word-start .ensures .0) ∙ c .if1 .taken) in
+    let last = still-none (entry .line .now) (entry .from) (entry .tokens .now) _ _ _ (head .inv .3) room
+    (sym (c .before .word-start .ensures .0) ∙ c .if1 .taken) in
     (last .0, (last .1, search needs))
 
 word-end-requires : tie.Need-word-end-requires Inv-loop μ-loop
@@ -68,7 +70,8 @@ loop-again c =
       omega arith,
       simp length-set (head .inv .2),
       still-next-by (entry .line .now) (entry .from) (entry .tokens .now) _ _ _ (head .inv .3) _ _ _
-          (c .before .before .before .before .word-start .ensures .0) (c .before .before .word-end .ensures .0) (c .token-of .ensures)
+          (c .before .before .before .before .word-start .ensures .0) (c .before .before .word-end .ensures .0)
+          (c .token-of .ensures)
           room (c .before .before .before .if1 .left),
     )
 

@@ -13,7 +13,8 @@ use Rattle.line_numbers.proofs.decimal_of.Statement.{statement}
 use Rattle.line_numbers.proofs.decimal_of.Tie as tie
 
 abbrev Inv-loop : tie.InvT-loop
-Inv-loop word value₀ i₀ value i = (i ≤ length word) × (value ≤ 4294967295) × (digitsFrom value (drop i word) ≡ digitsFrom 0 word)
+Inv-loop word value₀ i₀ value i = (i ≤ length word) × (value ≤ 4294967295) ×
+    (digitsFrom value (drop i word) ≡ digitsFrom 0 word)
 
 abbrev μ-loop : tie.MeasureT-loop
 μ-loop word value₀ i₀ value i = length word - i

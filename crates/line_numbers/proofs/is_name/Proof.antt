@@ -12,7 +12,8 @@ use Rattle.line_numbers.proofs.is_name.Statement.{statement}
 use Rattle.line_numbers.proofs.is_name.Tie as tie
 
 abbrev Inv-loop : tie.InvT-loop
-Inv-loop word name i₀ i = (i ≤ length word) × (length word ≡ length name) × (isSame (drop i word) (drop i name) ≡ isSame word name)
+Inv-loop word name i₀ i = (i ≤ length word) × (length word ≡ length name) ×
+    (isSame (drop i word) (drop i name) ≡ isSame word name)
 
 abbrev μ-loop : tie.MeasureT-loop
 μ-loop word name i₀ i = length word - i
@@ -33,7 +34,8 @@ returns-2 : tie.Need-returns-2 Inv-loop μ-loop
 returns-2 c =
     let head = c .before .before .before .before .loop in
     let words = c .before .before .before .before .before .before .args in
-    sym (sym (head .inv .2) ∙ same-here (words .word .now) (words .name .now) (head .i) (c .before .before .before .loop-test .taken) (omega arith) ∙ rw (ne-eqb _ _ (c .if2 .taken)))
+    sym (sym (head .inv .2) ∙ same-here (words .word .now) (words .name .now) (head .i)
+    (c .before .before .before .loop-test .taken) (omega arith) ∙ rw (ne-eqb _ _ (c .if2 .taken)))
 
 add-i : tie.Need-add-i Inv-loop μ-loop
 add-i c = search needs
@@ -47,7 +49,8 @@ loop-again c =
     let words = c .before .before .before .before .before .before .args in (
       omega arith,
       head .inv .1,
-      sym (same-here (words .word .now) (words .name .now) (head .i) (c .before .before .before .loop-test .taken) (omega arith) ∙ rw (eq-eqb _ _ (c .if2 .left))) ∙ head .inv .2,
+      sym (same-here (words .word .now) (words .name .now) (head .i) (c .before .before .before .loop-test .taken)
+          (omega arith) ∙ rw (eq-eqb _ _ (c .if2 .left))) ∙ head .inv .2,
     )
 
 returns-3 : tie.Need-returns-3 Inv-loop μ-loop

@@ -21,7 +21,8 @@ single-token-requires c κs = search needs
 
 returns-2 : tie.Need-returns-2
 unfolding tokenOf
-returns-2 c = rw (ne-eqb _ _ (c .before .before .before .if1 .left), eq-eqb _ _ (c .before .before .if2 .taken)) (c .single-token .ensures)
+returns-2 c = rw (ne-eqb _ _ (c .before .before .before .if1 .left), eq-eqb _ _ (c .before .before .if2 .taken))
+    (c .single-token .ensures)
 
 shared-slice-read-if3 : tie.Need-shared-slice-read-if3
 shared-slice-read-if3 c = search needs
@@ -49,7 +50,9 @@ returns-3 c =
       ne-eqb _ _ (c .before .before .before .before .before .if2 .left),
       eq-eqb _ _ (c .before .before .before .if3 .taken),
     )
-    (c .negative-token .ensures ∙ ap negativeToken (c .before .decimal-of .ensures ∙ ap decimalOf (rest-whole (c .before .before .before .before .before .before .before .before .args .word .now))))
+    (c .negative-token .ensures ∙ ap negativeToken
+    (c .before .decimal-of .ensures ∙ ap decimalOf
+    (rest-whole (c .before .before .before .before .before .before .before .before .args .word .now))))
 
 decimal-of-requires-2 : tie.Need-decimal-of-requires-2
 decimal-of-requires-2 c κs = search needs
@@ -59,7 +62,13 @@ plain-token-requires c κs = search needs
 
 returns-4 : tie.Need-returns-4
 unfolding tokenOf
-returns-4 c = rw (ne-eqb _ _ (c .before .before .before .before .before .if1 .left), ne-eqb _ _ (c .before .before .before .before .if2 .left), ne-eqb _ _ (c .before .before .if3 .left)) (c .plain-token .ensures ∙ ap plainToken (c .before .decimal-of2 .ensures))
+returns-4 c = rw (
+  ne-eqb _ _ (c .before .before .before .before .before .if1 .left),
+  ne-eqb _ _
+      (c .before .before .before .before .if2 .left),
+  ne-eqb _ _ (c .before .before .if3 .left),
+)
+    (c .plain-token .ensures ∙ ap plainToken (c .before .decimal-of2 .ensures))
 
 pub token-of-spec : {M : Type 1} → statement M
 token-of-spec =

@@ -33,7 +33,9 @@ is-space-requires c κs = search needs
 returns : tie.Need-returns Inv-loop μ-loop
 returns c =
     let head = c .before .before .before .before .loop in (
-      sym (first-here notSpace (c .before .before .before .before .before .before .args .line .now) (head .at) (c .before .before .before .loop-test .taken) ∙ rw (ap (λ (t : Bool). not t) (sym (c .before .is-space .ensures)) ∙ c .if1 .taken)) ∙ head .inv .2,
+      sym (first-here notSpace (c .before .before .before .before .before .before .args .line .now) (head .at)
+          (c .before .before .before .loop-test .taken) ∙ rw
+          (ap (λ (t : Bool). not t) (sym (c .before .is-space .ensures)) ∙ c .if1 .taken)) ∙ head .inv .2,
       search needs,
     )
 
@@ -48,13 +50,18 @@ loop-again c =
     let head = c .before .before .before .before .loop in (
       omega arith,
       omega arith,
-      sym (first-here notSpace (c .before .before .before .before .before .before .args .line .now) (head .at) (c .before .before .before .loop-test .taken) ∙ rw (ap (λ (t : Bool). not t) (sym (c .before .is-space .ensures)) ∙ c .if1 .left)) ∙ head .inv .2,
+      sym (first-here notSpace (c .before .before .before .before .before .before .args .line .now) (head .at)
+          (c .before .before .before .loop-test .taken) ∙ rw
+          (ap (λ (t : Bool). not t) (sym (c .before .is-space .ensures)) ∙ c .if1 .left)) ∙ head .inv .2,
     )
 
 returns-2 : tie.Need-returns-2 Inv-loop μ-loop
 returns-2 c =
-    let head = c .before .loop in
-    (sym (first-past notSpace (c .before .before .before .args .line .now) (head .at) (c .loop-test .left)) ∙ head .inv .2, search needs)
+    let head = c .before .loop in (
+      sym (first-past notSpace (c .before .before .before .args .line .now) (head .at) (c .loop-test .left))
+          ∙ head .inv .2,
+      search needs,
+    )
 
 pub word-start-spec : {M : Type 1} → statement M
 word-start-spec =

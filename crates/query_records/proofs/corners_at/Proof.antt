@@ -34,10 +34,12 @@ returns : tie.Need-returns
 unfolding cornersAt
 returns c =
     λ i.
-    let size : ℕ → Size = λ k. sizeAt (c .before .before .before .before .before .before .before .before .args .tokens .now) k in
+    let size : ℕ → Size = λ k. sizeAt
+    (c .before .before .before .before .before .before .before .before .args .tokens .now) k in
     record {
       «top_left» = c .before .before .before .before .before .before .size-at .ensures i;
-      «top_right» = (c .before .before .before .before .size-at2 .ensures ∙ ap size (c .before .before .before .before .before .plus .ensures)) i;
+      «top_right» = (c .before .before .before .before .size-at2 .ensures ∙ ap size
+          (c .before .before .before .before .before .plus .ensures)) i;
       «bottom_right» = (c .before .before .size-at3 .ensures ∙ ap size (c .before .before .before .plus2 .ensures)) i;
       «bottom_left» = (c .size-at4 .ensures ∙ ap size (c .before .plus3 .ensures)) i;
     }

@@ -30,8 +30,11 @@ is-letter-requires c κs = search needs
 returns : tie.Need-returns
 unfolding figureAt
 returns c =
-    let rectangle = c .before .before .rectangle-at .ensures ∙ ap (λ (k : ℕ). rectangleAt (c .before .before .before .before .before .before .args .tokens .now) k) (c .before .before .before .plus .ensures) in
-    rw (letter-is (code "e") (c .before .is-letter .ensures) (c .before .before .before .before .token .ensures) (c .if1 .taken)) (ap Ellipse rectangle)
+    let rectangle = c .before .before .rectangle-at .ensures ∙ ap
+    (λ (k : ℕ). rectangleAt (c .before .before .before .before .before .before .args .tokens .now) k)
+    (c .before .before .before .plus .ensures) in
+    rw (letter-is (code "e") (c .before .is-letter .ensures) (c .before .before .before .before .token .ensures)
+    (c .if1 .taken)) (ap Ellipse rectangle)
 
 plus-requires-2 : tie.Need-plus-requires-2
 plus-requires-2 c κs = search needs
@@ -45,19 +48,39 @@ is-letter-requires-2 c κs = search needs
 returns-2 : tie.Need-returns-2
 unfolding figureAt
 returns-2 c =
-    let rectangle = c .before .before .before .before .before .before .rectangle-at .ensures ∙ ap (λ (k : ℕ). rectangleAt (c .before .before .before .before .before .before .before .before .before .before .args .tokens .now) k) (c .before .before .before .before .before .before .before .plus .ensures) in
-    let corners = c .before .before .corners-at .ensures ∙ ap (λ (k : ℕ). cornersAt (c .before .before .before .before .before .before .before .before .before .before .args .tokens .now) k) (c .before .before .before .plus2 .ensures) in
-    let other = letter-is (code "e") (c .before .before .before .before .before .is-letter .ensures) (c .before .before .before .before .before .before .before .before .token .ensures) (c .before .before .before .before .if1 .left) in
-    rw (other, letter-is (code "c") (c .before .is-letter2 .ensures) (c .before .before .before .before .before .before .before .before .token .ensures) (c .if2 .taken))
+    let rectangle = c .before .before .before .before .before .before .rectangle-at .ensures ∙ ap
+    (λ (k : ℕ). rectangleAt (c .before .before .before .before .before .before .before .before .before .before .args
+    .tokens .now) k) (c .before .before .before .before .before .before .before .plus .ensures) in
+    let corners = c .before .before .corners-at .ensures ∙ ap
+    (λ (k : ℕ). cornersAt (c .before .before .before .before .before .before .before .before .before .before .args
+    .tokens .now) k) (c .before .before .before .plus2 .ensures) in
+    let other = letter-is (code "e") (c .before .before .before .before .before .is-letter .ensures)
+    (c .before .before .before .before .before .before .before .before .token .ensures)
+    (c .before .before .before .before .if1 .left) in
+    rw (
+      other,
+      letter-is (code "c") (c .before .is-letter2 .ensures)
+          (c .before .before .before .before .before .before .before .before .token .ensures) (c .if2 .taken),
+    )
     (λ i. CrateBox (record { rectangle = rectangle i; corners = corners i }))
 
 returns-3 : tie.Need-returns-3
 unfolding figureAt
 returns-3 c =
-    let rectangle = c .before .before .before .before .before .before .rectangle-at .ensures ∙ ap (λ (k : ℕ). rectangleAt (c .before .before .before .before .before .before .before .before .before .before .args .tokens .now) k) (c .before .before .before .before .before .before .before .plus .ensures) in
-    let corners = c .before .before .corners-at .ensures ∙ ap (λ (k : ℕ). cornersAt (c .before .before .before .before .before .before .before .before .before .before .args .tokens .now) k) (c .before .before .before .plus2 .ensures) in
-    let other = letter-is (code "e") (c .before .before .before .before .before .is-letter .ensures) (c .before .before .before .before .before .before .before .before .token .ensures) (c .before .before .before .before .if1 .left) in
-    rw (other, letter-is (code "c") (c .before .is-letter2 .ensures) (c .before .before .before .before .before .before .before .before .token .ensures) (c .if2 .left))
+    let rectangle = c .before .before .before .before .before .before .rectangle-at .ensures ∙ ap
+    (λ (k : ℕ). rectangleAt (c .before .before .before .before .before .before .before .before .before .before .args
+    .tokens .now) k) (c .before .before .before .before .before .before .before .plus .ensures) in
+    let corners = c .before .before .corners-at .ensures ∙ ap
+    (λ (k : ℕ). cornersAt (c .before .before .before .before .before .before .before .before .before .before .args
+    .tokens .now) k) (c .before .before .before .plus2 .ensures) in
+    let other = letter-is (code "e") (c .before .before .before .before .before .is-letter .ensures)
+    (c .before .before .before .before .before .before .before .before .token .ensures)
+    (c .before .before .before .before .if1 .left) in
+    rw (
+      other,
+      letter-is (code "c") (c .before .is-letter2 .ensures)
+          (c .before .before .before .before .before .before .before .before .token .ensures) (c .if2 .left),
+    )
     (λ i. W3cBox (record { rectangle = rectangle i; corners = corners i }))
 
 pub figure-at-spec : {M : Type 1} → statement M

@@ -31,7 +31,8 @@ returns c =
     let head = c .before .before .before .before .loop in
     let given = c .before .before .before .before .before .before .before .args in
     let none = sym (c .before .part-words .ensures) ∙ c .if1 .taken in
-    sym (form-here (given .tokens .now) (given .form .now) (head .at) (head .k) (c .before .before .before .loop-test .taken) ∙ rw (eq-eqb _ _ none)) ∙ head .inv .1
+    sym (form-here (given .tokens .now) (given .form .now) (head .at) (head .k)
+    (c .before .before .before .loop-test .taken) ∙ rw (eq-eqb _ _ none)) ∙ head .inv .1
 
 plus-requires : tie.Need-plus-requires Inv-loop μ-loop
 plus-requires c κs = search needs
@@ -48,10 +49,12 @@ loop-again c =
     let given = c .before .before .before .before .before .before .before .before .args in
     let rest : ℕ → ℕ = λ n. formEnd (given .tokens .now) n (drop (head .k + 1) (given .form .now)) in
     let words = c .before .before .part-words .ensures in
-    let some : wordsHere (given .tokens .now) (given .form .now) (head .at) (head .k) ≡ 0 → ⊥ = λ e. c .before .if1 .left (words ∙ e) in (
+    let some : wordsHere (given .tokens .now) (given .form .now) (head .at) (head .k) ≡ 0 → ⊥ = λ e. c .before .if1 .left
+    (words ∙ e) in (
       omega arith,
       ap rest (c .plus .ensures ∙ ap (plus (head .at)) words)
-          ∙ sym (form-here (given .tokens .now) (given .form .now) (head .at) (head .k) (c .before .before .before .before .loop-test .taken) ∙ rw (ne-eqb _ _ some))
+          ∙ sym (form-here (given .tokens .now) (given .form .now) (head .at) (head .k)
+          (c .before .before .before .before .loop-test .taken) ∙ rw (ne-eqb _ _ some))
           ∙ head .inv .1,
     )
 

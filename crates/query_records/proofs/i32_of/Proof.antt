@@ -30,7 +30,8 @@ unfolding i32Of
 returns-2 c =
     let t = c .before .before .before .before .args .t in
     let small : u32Of t ≤ 2147483647 = omega (arith, c .before .before .before .u32-of .ensures) in
-    is-as (ap (λ (n : ℕ). pos n) (c .before .before .before .u32-of .ensures) ∙ rw (le-ltb _ _ small, lt-ltb _ _ (c .before .if2 .taken))) (is-held (c .from-u32 .ensures))
+    is-as (ap (λ (n : ℕ). pos n) (c .before .before .before .u32-of .ensures) ∙ rw
+    (le-ltb _ _ small, lt-ltb _ _ (c .before .if2 .taken))) (is-held (c .from-u32 .ensures))
 
 from-u32-requires-2 : tie.Need-from-u32-requires-2
 from-u32-requires-2 c κs = search needs
@@ -45,8 +46,10 @@ unfolding i32Of
 returns-3 c =
     let t = c .before .before .before .before .before .args .t in
     let small : u32Of t ≤ 2147483647 = omega (arith, c .before .before .before .before .u32-of .ensures) in
-    let far = read-held (c .before .from-u322 .ensures) ∙ ap (λ (n : ℕ). pos n) (c .before .before .before .before .u32-of .ensures) in
-    is-as (ap (λ (z : ℤ). pos 0 -ℤ z) far ∙ rw (le-ltb _ _ small, le-ltb _ _ (c .before .before .if2 .left))) (is-held (c .sub .ensures))
+    let far = read-held (c .before .from-u322 .ensures) ∙ ap (λ (n : ℕ). pos n)
+    (c .before .before .before .before .u32-of .ensures) in
+    is-as (ap (λ (z : ℤ). pos 0 -ℤ z) far ∙ rw (le-ltb _ _ small, le-ltb _ _ (c .before .before .if2 .left)))
+    (is-held (c .sub .ensures))
 
 pub i32-of-spec : {M : Type 1} → statement M
 i32-of-spec =

@@ -25,18 +25,36 @@ is-paint-requires c κs = search needs
 
 returns-3 : tie.Need-returns-3
 unfolding isPart isAlignment
-returns-3 c = rw (ne-eqb _ _ (c .before .before .before .if1 .left), ne-eqb _ _ (c .before .before .if2 .left), eq-eqb _ _ (c .before .if3 .taken)) (c .is-paint .ensures)
+returns-3 c = rw (
+  ne-eqb _ _ (c .before .before .before .if1 .left),
+  ne-eqb _ _ (c .before .before .if2 .left),
+  eq-eqb _ _
+      (c .before .if3 .taken),
+) (c .is-paint .ensures)
 
 returns-4 : tie.Need-returns-4
 unfolding isPart isAlignment
-returns-4 c = rw (ne-eqb _ _ (c .before .before .before .if1 .left), ne-eqb _ _ (c .before .before .if2 .left), ne-eqb _ _ (c .before .if3 .left), eq-eqb _ _ (c .if4 .taken))
+returns-4 c = rw (
+  ne-eqb _ _ (c .before .before .before .if1 .left),
+  ne-eqb _ _ (c .before .before .if2 .left),
+  ne-eqb _ _
+      (c .before .if3 .left),
+  eq-eqb _ _ (c .if4 .taken),
+)
 
 is-letter-requires : tie.Need-is-letter-requires
 is-letter-requires c κs = search needs
 
 returns-5 : tie.Need-returns-5
 unfolding isPart isAlignment
-returns-5 c = rw (ne-eqb _ _ (c .before .before .before .before .if1 .left), ne-eqb _ _ (c .before .before .before .if2 .left), ne-eqb _ _ (c .before .before .if3 .left), ne-eqb _ _ (c .before .if4 .left)) (c .is-letter .ensures)
+returns-5 c = rw (
+  ne-eqb _ _ (c .before .before .before .before .if1 .left),
+  ne-eqb _ _
+      (c .before .before .before .if2 .left),
+  ne-eqb _ _ (c .before .before .if3 .left),
+  ne-eqb _ _ (c .before .if4 .left),
+)
+    (c .is-letter .ensures)
 
 pub is-part-spec : {M : Type 1} → statement M
 is-part-spec =

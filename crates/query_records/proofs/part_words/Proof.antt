@@ -28,7 +28,8 @@ one-if-requires c κs = search needs
 returns-2 : tie.Need-returns-2
 unfolding partWords
 returns-2 c =
-    let t = c .before .is-part .ensures ∙ ap (λ (n : ℕ). isPart n (c .before .before .before .before .before .args .part)) (c .before .before .token .ensures) in
+    let t = c .before .is-part .ensures ∙ ap (λ (n : ℕ). isPart n (c .before .before .before .before .before .args .part))
+    (c .before .before .token .ensures) in
     rw (ne-eqb _ _ (c .before .before .before .if1 .left)) (c .one-if .ensures ∙ ap oneIf t)
 
 pub part-words-spec : {M : Type 1} → statement M

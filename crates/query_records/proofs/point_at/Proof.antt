@@ -24,7 +24,11 @@ returns c =
     let tokens = c .before .before .before .before .args .tokens .now in
     let x = c .before .before .i32-at .ensures in
     let y = c .i32-at2 .ensures in
-    λ i. record { x = (toZ-ofZ (x .fits) ∙ x .is) i; y = (toZ-ofZ (y .fits) ∙ y .is ∙ ap (λ (k : ℕ). i32At tokens k) (c .before .plus .ensures)) i }
+    λ i. record {
+      x = (toZ-ofZ (x .fits) ∙ x .is) i;
+      y =
+          (toZ-ofZ (y .fits) ∙ y .is ∙ ap (λ (k : ℕ). i32At tokens k) (c .before .plus .ensures)) i;
+    }
 
 pub point-at-spec : {M : Type 1} → statement M
 point-at-spec = tie.close (tie.spec i32-at-requires plus-requires i32-at-requires-2 returns)

@@ -23,7 +23,8 @@ returns c =
     λ i.
     record {
       «top_left» = c .before .before .point-at .ensures i;
-      size = (c .size-at .ensures ∙ ap (λ (k : ℕ). sizeAt (c .before .before .before .before .args .tokens .now) k) (c .before .plus .ensures)) i;
+      size = (c .size-at .ensures ∙ ap (λ (k : ℕ). sizeAt (c .before .before .before .before .args .tokens .now) k)
+          (c .before .plus .ensures)) i;
     }
 
 pub rectangle-at-spec : {M : Type 1} → statement M

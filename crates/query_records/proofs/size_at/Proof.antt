@@ -19,7 +19,12 @@ u32-at-requires-2 c κs = search needs
 
 returns : tie.Need-returns
 unfolding sizeAt
-returns c = λ i. record { width = c .before .before .u32-at .ensures i; height = (c .u32-at2 .ensures ∙ ap (λ (k : ℕ). u32At (c .before .before .before .before .args .tokens .now) k) (c .before .plus .ensures)) i }
+returns c = λ i. record {
+  width = c .before .before .u32-at .ensures i;
+  height =
+      (c .u32-at2 .ensures ∙ ap (λ (k : ℕ). u32At (c .before .before .before .before .args .tokens .now) k)
+      (c .before .plus .ensures)) i;
+}
 
 pub size-at-spec : {M : Type 1} → statement M
 size-at-spec = tie.close (tie.spec u32-at-requires plus-requires u32-at-requires-2 returns)

@@ -32,8 +32,10 @@ returns : tie.Need-returns
 unfolding strokeAt
 returns c =
     let tokens = c .before .before .before .before .before .before .before .args .tokens .now in
-    let alignment = c .before .alignment-of .ensures ∙ ap alignmentOf (c .before .before .token .ensures ∙ ap (λ (k : ℕ). tokenAt tokens k) (c .before .before .before .plus .ensures)) in
-    let style = c .before .before .before .before .new .ensures ∙ ap (λ (w : ℕ). styledByDefault Absent Absent w) (c .before .before .before .before .before .u32-at .ensures) in
+    let alignment = c .before .alignment-of .ensures ∙ ap alignmentOf
+    (c .before .before .token .ensures ∙ ap (λ (k : ℕ). tokenAt tokens k) (c .before .before .before .plus .ensures)) in
+    let style = c .before .before .before .before .new .ensures ∙ ap (λ (w : ℕ). styledByDefault Absent Absent w)
+    (c .before .before .before .before .before .u32-at .ensures) in
     c .with-alignment .ensures ∙ (λ i. aligned (style i) (alignment i))
 
 pub stroke-at-spec : {M : Type 1} → statement M

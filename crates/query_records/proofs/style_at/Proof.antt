@@ -48,11 +48,19 @@ with-alignment-requires c κs = search needs
 returns : tie.Need-returns
 unfolding styleAt
 returns c =
-    let tokens = c .before .before .before .before .before .before .before .before .before .before .before .before .before .args .tokens .now in
-    let stroke = c .before .before .before .before .before .before .before .before .before .before .paint-of .ensures ∙ ap paintOf (c .before .before .before .before .before .before .before .before .before .before .before .token .ensures) in
-    let fill = c .before .before .before .before .before .before .before .paint-of2 .ensures ∙ ap paintOf (c .before .before .before .before .before .before .before .before .token2 .ensures ∙ ap (λ (k : ℕ). tokenAt tokens k) (c .before .before .before .before .before .before .before .before .before .plus .ensures)) in
-    let width = c .before .before .before .before .before .u32-at .ensures ∙ ap (λ (k : ℕ). u32At tokens k) (c .before .before .before .before .before .before .plus2 .ensures) in
-    let alignment = c .before .alignment-of .ensures ∙ ap alignmentOf (c .before .before .token3 .ensures ∙ ap (λ (k : ℕ). tokenAt tokens k) (c .before .before .before .plus3 .ensures)) in
+    let tokens = c .before .before .before .before .before .before .before .before .before .before .before .before .before
+    .args .tokens .now in
+    let stroke = c .before .before .before .before .before .before .before .before .before .before .paint-of .ensures
+    ∙ ap paintOf (c .before .before .before .before .before .before .before .before .before .before .before .token
+    .ensures) in
+    let fill = c .before .before .before .before .before .before .before .paint-of2 .ensures ∙ ap paintOf
+    (c .before .before .before .before .before .before .before .before .token2 .ensures ∙ ap
+    (λ (k : ℕ). tokenAt tokens k) (c .before .before .before .before .before .before .before .before .before .plus
+    .ensures)) in
+    let width = c .before .before .before .before .before .u32-at .ensures ∙ ap (λ (k : ℕ). u32At tokens k)
+    (c .before .before .before .before .before .before .plus2 .ensures) in
+    let alignment = c .before .alignment-of .ensures ∙ ap alignmentOf
+    (c .before .before .token3 .ensures ∙ ap (λ (k : ℕ). tokenAt tokens k) (c .before .before .before .plus3 .ensures)) in
     let style = c .before .before .before .before .new .ensures ∙ (λ i. styledByDefault (stroke i) (fill i) (width i)) in
     c .with-alignment .ensures ∙ (λ i. aligned (style i) (alignment i))
 

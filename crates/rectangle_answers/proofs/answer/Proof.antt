@@ -19,7 +19,9 @@ same-length : tie.Need-same-length
 same-length c = search needs
 
 returns : tie.Need-returns
-returns c = answers-named _ _ _ _ (sym (c .before .before .before .before .before .is-name .ensures) ∙ c .before .before .before .before .if1 .taken) (c .before .before .center .ensures)
+returns c = answers-named _ _ _ _
+    (sym (c .before .before .before .before .before .is-name .ensures) ∙ c .before .before .before .before .if1 .taken)
+    (c .before .before .center .ensures)
 
 slice-aggregate-is-name-2 : tie.Need-slice-aggregate-is-name-2
 slice-aggregate-is-name-2 c = search needs
@@ -35,8 +37,10 @@ same-length-2 c = search needs
 
 returns-2 : tie.Need-returns-2
 returns-2 c =
-    answers-other _ _ _ _ (sym (c .before .before .before .before .before .before .before .before .is-name .ensures) ∙ c .before .before .before .before .before .before .before .if1 .left)
-    (answers-named _ _ _ _ (sym (c .before .before .before .before .before .is-name2 .ensures) ∙ c .before .before .before .before .if2 .taken) (c .before .before .with-center .ensures))
+    answers-other _ _ _ _ (sym (c .before .before .before .before .before .before .before .before .is-name .ensures)
+    ∙ c .before .before .before .before .before .before .before .if1 .left)
+    (answers-named _ _ _ _ (sym (c .before .before .before .before .before .is-name2 .ensures)
+    ∙ c .before .before .before .before .if2 .taken) (c .before .before .with-center .ensures))
 
 slice-aggregate-is-name-3 : tie.Need-slice-aggregate-is-name-3
 slice-aggregate-is-name-3 c = search needs
@@ -52,9 +56,12 @@ same-length-3 c = search needs
 
 returns-3 : tie.Need-returns-3
 returns-3 c =
-    answers-other _ _ _ _ (sym (c .before .before .before .before .before .before .before .before .before .before .before .is-name .ensures) ∙ c .before .before .before .before .before .before .before .before .before .before .if1 .left)
-    (answers-other _ _ _ _ (sym (c .before .before .before .before .before .before .before .before .is-name2 .ensures) ∙ c .before .before .before .before .before .before .before .if2 .left)
-    (answers-named _ _ _ _ (sym (c .before .before .before .before .before .is-name3 .ensures) ∙ c .before .before .before .before .if3 .taken) (c .before .before .rows .ensures)))
+    answers-other _ _ _ _ (sym (c .before .before .before .before .before .before .before .before .before .before .before
+    .is-name .ensures) ∙ c .before .before .before .before .before .before .before .before .before .before .if1 .left)
+    (answers-other _ _ _ _ (sym (c .before .before .before .before .before .before .before .before .is-name2 .ensures)
+    ∙ c .before .before .before .before .before .before .before .if2 .left)
+    (answers-named _ _ _ _ (sym (c .before .before .before .before .before .is-name3 .ensures)
+    ∙ c .before .before .before .before .if3 .taken) (c .before .before .rows .ensures)))
 
 slice-aggregate-is-name-4 : tie.Need-slice-aggregate-is-name-4
 slice-aggregate-is-name-4 c = search needs
@@ -70,10 +77,15 @@ same-length-4 c = search needs
 
 returns-4 : tie.Need-returns-4
 returns-4 c =
-    answers-other _ _ _ _ (sym (c .before .before .before .before .before .before .before .before .before .before .before .before .before .before .is-name .ensures) ∙ c .before .before .before .before .before .before .before .before .before .before .before .before .before .if1 .left)
-    (answers-other _ _ _ _ (sym (c .before .before .before .before .before .before .before .before .before .before .before .is-name2 .ensures) ∙ c .before .before .before .before .before .before .before .before .before .before .if2 .left)
-    (answers-other _ _ _ _ (sym (c .before .before .before .before .before .before .before .before .is-name3 .ensures) ∙ c .before .before .before .before .before .before .before .if3 .left)
-    (answers-named _ _ _ _ (sym (c .before .before .before .before .before .is-name4 .ensures) ∙ c .before .before .before .before .if4 .taken) (c .before .before .columns .ensures))))
+    answers-other _ _ _ _ (sym (c .before .before .before .before .before .before .before .before .before .before .before
+    .before .before .before .is-name .ensures)
+    ∙ c .before .before .before .before .before .before .before .before .before .before .before .before .before .if1 .left)
+    (answers-other _ _ _ _ (sym (c .before .before .before .before .before .before .before .before .before .before .before
+    .is-name2 .ensures) ∙ c .before .before .before .before .before .before .before .before .before .before .if2 .left)
+    (answers-other _ _ _ _ (sym (c .before .before .before .before .before .before .before .before .is-name3 .ensures)
+    ∙ c .before .before .before .before .before .before .before .if3 .left)
+    (answers-named _ _ _ _ (sym (c .before .before .before .before .before .is-name4 .ensures)
+    ∙ c .before .before .before .before .if4 .taken) (c .before .before .columns .ensures))))
 
 other-query-requires : tie.Need-other-query-requires
 other-query-requires c κs = search needs
@@ -83,10 +95,15 @@ same-length-5 c = search needs
 
 returns-5 : tie.Need-returns-5
 returns-5 c =
-    answers-other _ _ _ _ (sym (c .before .before .before .before .before .before .before .before .before .before .before .before .before .before .is-name .ensures) ∙ c .before .before .before .before .before .before .before .before .before .before .before .before .before .if1 .left)
-    (answers-other _ _ _ _ (sym (c .before .before .before .before .before .before .before .before .before .before .before .is-name2 .ensures) ∙ c .before .before .before .before .before .before .before .before .before .before .if2 .left)
-    (answers-other _ _ _ _ (sym (c .before .before .before .before .before .before .before .before .is-name3 .ensures) ∙ c .before .before .before .before .before .before .before .if3 .left)
-    (answers-other _ _ _ _ (sym (c .before .before .before .before .before .is-name4 .ensures) ∙ c .before .before .before .before .if4 .left)
+    answers-other _ _ _ _ (sym (c .before .before .before .before .before .before .before .before .before .before .before
+    .before .before .before .is-name .ensures)
+    ∙ c .before .before .before .before .before .before .before .before .before .before .before .before .before .if1 .left)
+    (answers-other _ _ _ _ (sym (c .before .before .before .before .before .before .before .before .before .before .before
+    .is-name2 .ensures) ∙ c .before .before .before .before .before .before .before .before .before .before .if2 .left)
+    (answers-other _ _ _ _ (sym (c .before .before .before .before .before .before .before .before .is-name3 .ensures)
+    ∙ c .before .before .before .before .before .before .before .if3 .left)
+    (answers-other _ _ _ _ (sym (c .before .before .before .before .before .is-name4 .ensures)
+    ∙ c .before .before .before .before .if4 .left)
     (c .before .before .other-query .ensures))))
 
 pub answer-spec : {M : Type 1} → statement M

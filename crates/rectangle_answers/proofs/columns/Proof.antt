@@ -29,7 +29,8 @@ same-length : tie.Need-same-length
 same-length c = search needs
 
 returns : tie.Need-returns
-returns c = puts-usage _ _ _ (sym (c .before .before .before .before .before .before .fits2 .ensures) ∙ not-true _ (c .before .before .before .before .before .if1 .taken)) (c .before .before .put-usage .ensures)
+returns c = puts-usage _ _ _ (sym (c .before .before .before .before .before .before .fits2 .ensures) ∙ not-true _
+    (c .before .before .before .before .before .if1 .taken)) (c .before .before .put-usage .ensures)
 
 rectangle-at-requires : tie.Need-rectangle-at-requires
 rectangle-at-requires c κs = search needs
@@ -45,8 +46,11 @@ same-length-2 c = search needs
 
 returns-2 : tie.Need-returns-2
 returns-2 c =
-    puts-query _ _ _ (sym (c .before .before .before .before .before .before .before .fits2 .ensures) ∙ not-false _ (c .before .before .before .before .before .before .if1 .left))
-    (puts-as (ap (λ (o : Outcome). outcomeText [] o) (c .before .before .before .columns .ensures ∙ ap (λ (r : Rectangle). columnsCall r) (c .before .before .before .before .rectangle-at .ensures))) (c .before .before .put-range-answer .ensures))
+    puts-query _ _ _ (sym (c .before .before .before .before .before .before .before .fits2 .ensures) ∙ not-false _
+    (c .before .before .before .before .before .before .if1 .left))
+    (puts-as (ap (λ (o : Outcome). outcomeText [] o)
+    (c .before .before .before .columns .ensures ∙ ap (λ (r : Rectangle). columnsCall r)
+    (c .before .before .before .before .rectangle-at .ensures))) (c .before .before .put-range-answer .ensures))
 
 pub columns-spec : {M : Type 1} → statement M
 columns-spec =

@@ -32,7 +32,9 @@ same-length-2 c = search needs
 
 returns-2 : tie.Need-returns-2
 unfolding each
-returns-2 c = rw (c .before .before .before .before .before .before .before .before .before .answer2 .given .1) (puts-then (c .before .before .before .before .before .before .put-number .ensures) (puts-then (c .before .before .put-next .ensures) (puts-nothing _ _)))
+returns-2 c = rw (c .before .before .before .before .before .before .before .before .before .answer2 .given .1)
+    (puts-then (c .before .before .before .before .before .before .put-number .ensures)
+    (puts-then (c .before .before .put-next .ensures) (puts-nothing _ _)))
 
 pub put-widths-answer-spec : {M : Type 1} → statement M
 put-widths-answer-spec =

@@ -30,7 +30,8 @@ same-length : tie.Need-same-length
 same-length c = search needs
 
 returns : tie.Need-returns
-returns c = puts-usage _ _ _ (sym (c .before .before .before .before .before .before .fits2 .ensures) ∙ not-true _ (c .before .before .before .before .before .if1 .taken)) (c .before .before .put-usage .ensures)
+returns c = puts-usage _ _ _ (sym (c .before .before .before .before .before .before .fits2 .ensures) ∙ not-true _
+    (c .before .before .before .before .before .if1 .taken)) (c .before .before .put-usage .ensures)
 
 i32-at-requires : tie.Need-i32-at-requires
 i32-at-requires c κs = search needs
@@ -61,13 +62,23 @@ same-length-2 c = search needs
 
 returns-2 : tie.Need-returns-2
 returns-2 c =
-    let start = read-held (c .before .before .before .before .before .before .before .before .before .before .before .before .before .before .before .before .i32-at .ensures) in
-    let end = read-held (c .before .before .before .before .before .before .before .before .before .before .before .before .before .before .before .i32-at2 .ensures) in
-    let holds = c .before .before .before .before .before .before .before .before .before .before .before .before .contains .ensures ∙ (λ i. contains (record { start = start i; end = end i }) (read-held (c .before .before .before .before .before .before .before .before .before .before .before .before .before .i32-at3 .ensures) i)) in
+    let start = read-held (c .before .before .before .before .before .before .before .before .before .before .before .before
+    .before .before .before .before .i32-at .ensures) in
+    let end = read-held (c .before .before .before .before .before .before .before .before .before .before .before .before
+    .before .before .before .i32-at2 .ensures) in
+    let holds = c .before .before .before .before .before .before .before .before .before .before .before .before .contains
+    .ensures ∙ (λ i. contains (record { start = start i; end = end i })
+    (read-held (c .before .before .before .before .before .before .before .before .before .before .before .before
+    .before .i32-at3 .ensures) i)) in
     let empty = c .before .before .before .is-empty .ensures ∙ (λ i. isEmpty (record { start = start i; end = end i })) in
-    puts-query _ _ _ (sym (c .before .before .before .before .before .before .before .before .before .before .before .before .before .before .before .before .before .before .fits2 .ensures) ∙ not-false _ (c .before .before .before .before .before .before .before .before .before .before .before .before .before .before .before .before .before .if1 .left))
-    (puts-then (puts-as (ap (λ (b : Bool). boolText b) holds) (c .before .before .before .before .before .before .before .before .before .before .before .put-bool .ensures))
-    (puts-then (c .before .before .before .before .before .before .before .put-byte .ensures) (puts-as (ap (λ (b : Bool). boolText b) empty) (c .before .before .put-bool2 .ensures))))
+    puts-query _ _ _ (sym (c .before .before .before .before .before .before .before .before .before .before .before .before
+    .before .before .before .before .before .before .fits2 .ensures) ∙ not-false _
+    (c .before .before .before .before .before .before .before .before .before .before .before .before .before .before
+    .before .before .before .if1 .left))
+    (puts-then (puts-as (ap (λ (b : Bool). boolText b) holds)
+    (c .before .before .before .before .before .before .before .before .before .before .before .put-bool .ensures))
+    (puts-then (c .before .before .before .before .before .before .before .put-byte .ensures)
+    (puts-as (ap (λ (b : Bool). boolText b) empty) (c .before .before .put-bool2 .ensures))))
 
 pub range-spec : {M : Type 1} → statement M
 range-spec =

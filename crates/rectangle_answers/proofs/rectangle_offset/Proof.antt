@@ -29,7 +29,8 @@ same-length : tie.Need-same-length
 same-length c = search needs
 
 returns : tie.Need-returns
-returns c = puts-usage _ _ _ (sym (c .before .before .before .before .before .before .fits2 .ensures) ∙ not-true _ (c .before .before .before .before .before .if1 .taken)) (c .before .before .put-usage .ensures)
+returns c = puts-usage _ _ _ (sym (c .before .before .before .before .before .before .fits2 .ensures) ∙ not-true _
+    (c .before .before .before .before .before .if1 .taken)) (c .before .before .put-usage .ensures)
 
 rectangle-at-requires : tie.Need-rectangle-at-requires
 rectangle-at-requires c κs = search needs
@@ -48,8 +49,13 @@ same-length-2 c = search needs
 
 returns-2 : tie.Need-returns-2
 returns-2 c =
-    puts-query _ _ _ (sym (c .before .before .before .before .before .before .before .before .fits2 .ensures) ∙ not-false _ (c .before .before .before .before .before .before .before .if1 .left))
-    (puts-as (ap (λ (o : Outcome). outcomeText [] o) (c .before .before .before .offset .ensures ∙ (λ i. offsetCall (c .before .before .before .before .before .rectangle-at .ensures i) (read-held (c .before .before .before .before .i32-at .ensures) i)))) (c .before .before .put-rectangle-answer .ensures))
+    puts-query _ _ _ (sym (c .before .before .before .before .before .before .before .before .fits2 .ensures) ∙ not-false _
+    (c .before .before .before .before .before .before .before .if1 .left))
+    (puts-as (ap (λ (o : Outcome). outcomeText [] o)
+    (c .before .before .before .offset .ensures ∙
+    (λ i. offsetCall (c .before .before .before .before .before .rectangle-at .ensures i)
+    (read-held (c .before .before .before .before .i32-at .ensures) i))))
+    (c .before .before .put-rectangle-answer .ensures))
 
 pub rectangle-offset-spec : {M : Type 1} → statement M
 rectangle-offset-spec =

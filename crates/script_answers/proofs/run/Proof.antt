@@ -1,27 +1,30 @@
--- `script_answers::run` ends, since its turns count down, and keeps the lengths of both buffers.
+-- `script_answers::run` meets its contract. Invariant: the text of the calls left, put now, makes the whole.
 -- Assumes nothing.
-use mathlib.Core.Path.{_≡_}
-use Prim.Native.Nat.{_+_, _*_, _-_, _≤_, _<_}
+use mathlib.Core.Path.{_≡_, refl, sym, ap, _∙_}
+use mathlib.Core.List.{List}
+use Prim.Native.Nat.{ℕ}
 use lib.ListN.{length}
-use native.Mathlib.Omega.{arith}
+use Rattle.answer_text.specs.Text.{Output, put}
+use Rattle.script_answers.specs.Queries.{runText}
+use Rattle.script_answers.proofs.Runs.{run-over, run-out, run-step}
 use borrow.Author.Needs.{needs}
 use Rattle.script_answers.proofs.run.Statement.{statement}
 use Rattle.script_answers.proofs.run.Tie as tie
 
 abbrev Inv-loop : tie.InvT-loop
-Inv-loop tokens from canvas₀ out₀ at current₀ next₀ place₀ turns₀ canvas out current next place turns = (length canvas ≡ length canvas₀) × (length out ≡ length out₀)
+Inv-loop tokens from canvas₀ out₀ at current₀ next₀ place₀ turns₀ canvas out current next place turns =
+    (length canvas ≡ length canvas₀) × (length out ≡ length out₀)
+    × (put (runText tokens turns current next canvas) (record { held = out; next = place }) ≡ put
+    (runText tokens (length tokens) current₀ from canvas₀) (record { held = out₀; next = at }))
 
 abbrev μ-loop : tie.MeasureT-loop
 μ-loop tokens from canvas₀ out₀ at current₀ next₀ place₀ turns₀ canvas out current next place turns = turns
 
 loop-holds : tie.Need-loop-holds Inv-loop μ-loop
-loop-holds c = search needs
+loop-holds c = (refl, refl, refl)
 
-adler32-requires : tie.Need-adler32-requires Inv-loop μ-loop
-adler32-requires c κs = search needs
-
-put-number-requires : tie.Need-put-number-requires Inv-loop μ-loop
-put-number-requires c κs = search needs
+put-sum-requires : tie.Need-put-sum-requires Inv-loop μ-loop
+put-sum-requires c κs = search needs
 
 same-length : tie.Need-same-length Inv-loop μ-loop
 same-length c = search needs
@@ -30,19 +33,22 @@ same-length-2 : tie.Need-same-length-2 Inv-loop μ-loop
 same-length-2 c = search needs
 
 returns : tie.Need-returns Inv-loop μ-loop
-returns c = search needs
+returns c =
+    let head = c .before .before .before .before .before .before .before .loop in
+    let over = run-over (c .before .before .before .before .before .before .before .before .before .before .before .args
+    .tokens .now) (head .current) (head .next) (head .canvas) (head .turns)
+    (c .before .before .before .before .before .before .loop-test .taken)
+    (c .before .before .before .before .before .if1 .taken) in
+    record {
+      output = c .before .before .put-sum .ensures .output ∙ sym
+          (ap (λ (t : List ℕ). put t (record { held = head .out; next = head .place })) over) ∙ head .inv .2;
+    }
 
 make-call-requires : tie.Need-make-call-requires Inv-loop μ-loop
 make-call-requires c κs = search needs
 
-number-of-requires : tie.Need-number-of-requires Inv-loop μ-loop
-number-of-requires c κs = search needs
-
-put-number-requires-2 : tie.Need-put-number-requires-2 Inv-loop μ-loop
-put-number-requires-2 c κs = search needs
-
-put-byte-requires : tie.Need-put-byte-requires Inv-loop μ-loop
-put-byte-requires c κs = search needs
+put-answer-requires : tie.Need-put-answer-requires Inv-loop μ-loop
+put-answer-requires c κs = search needs
 
 call-end-requires : tie.Need-call-end-requires Inv-loop μ-loop
 call-end-requires c κs = search needs
@@ -54,13 +60,21 @@ loop-less : tie.Need-loop-less Inv-loop μ-loop
 loop-less c = search needs
 
 loop-again : tie.Need-loop-again Inv-loop μ-loop
-loop-again c = search needs
+loop-again c =
+    let head = c .before .before .before .before .before .before .before .before .before .before .before .before .loop in
+    let made = c .before .before .before .before .before .before .before .before .make-call .ensures in (
+      c .before .before .before .before .before .before .before .before .make-call .kept .1 .1 .1 .0 ∙ head .inv .0,
+      c .before .before .before .put-answer .kept .1 .0 ∙ head .inv .1,
+      run-step (c .before .before .before .before .before .before .before .before .before .before .before .before .before
+          .before .before .before .args .tokens .now) (head .current) (head .next) (head .canvas) (head .turns)
+          (c .before .before .before .before .before .before .before .before .before .before .before .loop-test .taken)
+          (c .before .before .before .before .before .before .before .before .before .before .if1 .left) _ _ _ _ _ _
+          (made .0) (made .1 .0) (c .call-end .ensures) (made .1 .1) (c .before .before .before .put-answer .ensures .output)
+          ∙ head .inv .2,
+    )
 
-adler32-requires-2 : tie.Need-adler32-requires-2 Inv-loop μ-loop
-adler32-requires-2 c κs = search needs
-
-put-number-requires-3 : tie.Need-put-number-requires-3 Inv-loop μ-loop
-put-number-requires-3 c κs = search needs
+put-sum-requires-2 : tie.Need-put-sum-requires-2 Inv-loop μ-loop
+put-sum-requires-2 c κs = search needs
 
 same-length-3 : tie.Need-same-length-3 Inv-loop μ-loop
 same-length-3 c = search needs
@@ -69,7 +83,15 @@ same-length-4 : tie.Need-same-length-4 Inv-loop μ-loop
 same-length-4 c = search needs
 
 returns-2 : tie.Need-returns-2 Inv-loop μ-loop
-returns-2 c = search needs
+returns-2 c =
+    let head = c .before .before .before .before .before .before .loop in
+    let over = run-out (c .before .before .before .before .before .before .before .before .before .before .args .tokens
+    .now) (head .current) (head .next) (head .canvas) (head .turns)
+    (c .before .before .before .before .before .loop-test .left) in
+    record {
+      output = c .before .before .put-sum2 .ensures .output ∙ sym
+          (ap (λ (t : List ℕ). put t (record { held = head .out; next = head .place })) over) ∙ head .inv .2;
+    }
 
 pub run-spec : {M : Type 1} → statement M
 run-spec =
@@ -78,21 +100,17 @@ run-spec =
     Inv-loop
     μ-loop
     loop-holds
-    adler32-requires
-    put-number-requires
+    put-sum-requires
     same-length
     same-length-2
     returns
     make-call-requires
-    number-of-requires
-    put-number-requires-2
-    put-byte-requires
+    put-answer-requires
     call-end-requires
     sub-turns
     loop-less
     loop-again
-    adler32-requires-2
-    put-number-requires-3
+    put-sum-requires-2
     same-length-3
     same-length-4
     returns-2)

@@ -33,13 +33,22 @@ same-length c = search needs
 returns : tie.Need-returns
 unfolding each
 returns c =
-    let left = c .before .before .before .before .before .before .before .before .before .before .before .before .before .before .before .before .before .before .before .before .before .args .left in
-    let fill = c .before .before .before .before .before .before .before .before .before .before .before .before .before .before .before .before .before .before .before .before .before .args .fill in
-    let right = c .before .before .before .before .before .before .before .before .before .before .before .before .before .before .before .before .before .before .before .before .before .args .right in
+    let left = c .before .before .before .before .before .before .before .before .before .before .before .before .before
+    .before .before .before .before .before .before .before .before .args .left in
+    let fill = c .before .before .before .before .before .before .before .before .before .before .before .before .before
+    .before .before .before .before .before .before .before .before .args .fill in
+    let right = c .before .before .before .before .before .before .before .before .before .before .before .before .before
+    .before .before .before .before .before .before .before .before .args .right in
     let last-two = values-append (fill .start) (fill .end ∷ []) (rangeValues right) in
-    puts-as (ap (λ (t : List ℕ). valuesText (rangeValues left) ++ (bytes " " ++ t)) last-two ∙ values-append (left .start) (left .end ∷ []) (rangeValues fill ++ rangeValues right))
-    (puts-then (c .before .before .before .before .before .before .before .before .before .before .before .before .before .before .before .before .before .before .put-range .ensures) (puts-then (c .before .before .before .before .before .before .before .before .before .before .before .before .before .before .put-byte .ensures)
-    (puts-then (c .before .before .before .before .before .before .before .before .before .before .put-range2 .ensures) (puts-then (c .before .before .before .before .before .before .put-byte2 .ensures) (c .before .before .put-range3 .ensures)))))
+    puts-as (ap (λ (t : List ℕ). valuesText (rangeValues left) ++ (bytes " " ++ t)) last-two ∙ values-append (left .start)
+    (left .end ∷ []) (rangeValues fill ++ rangeValues right))
+    (puts-then (c .before .before .before .before .before .before .before .before .before .before .before .before .before
+    .before .before .before .before .before .put-range .ensures)
+    (puts-then (c .before .before .before .before .before .before .before .before .before .before .before .before
+    .before .before .put-byte .ensures)
+    (puts-then (c .before .before .before .before .before .before .before .before .before .before .put-range2 .ensures)
+    (puts-then (c .before .before .before .before .before .before .put-byte2 .ensures)
+    (c .before .before .put-range3 .ensures)))))
 
 pub put-runs-spec : {M : Type 1} → statement M
 put-runs-spec =

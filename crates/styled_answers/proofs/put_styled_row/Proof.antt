@@ -29,7 +29,8 @@ same-length-2 : tie.Need-same-length-2
 same-length-2 c = search needs
 
 returns-2 : tie.Need-returns-2
-returns-2 c = rw (c .before .before .before .before .before .before .before .before .row .given .1) (c .before .before .put-runs .ensures)
+returns-2 c = rw (c .before .before .before .before .before .before .before .before .row .given .1)
+    (c .before .before .put-runs .ensures)
 
 pub put-styled-row-spec : {M : Type 1} → statement M
 put-styled-row-spec =

@@ -32,7 +32,8 @@ same-length : tie.Need-same-length
 same-length c = search needs
 
 returns : tie.Need-returns
-returns c = puts-usage _ _ _ (sym (c .before .before .before .before .before .before .fits2 .ensures) ∙ not-true _ (c .before .before .before .before .before .if1 .taken)) (c .before .before .put-usage .ensures)
+returns c = puts-usage _ _ _ (sym (c .before .before .before .before .before .before .fits2 .ensures) ∙ not-true _
+    (c .before .before .before .before .before .if1 .taken)) (c .before .before .put-usage .ensures)
 
 figure-words-requires : tie.Need-figure-words-requires
 figure-words-requires c κs = search needs
@@ -60,13 +61,19 @@ same-length-2 c = search needs
 
 returns-2 : tie.Need-returns-2
 returns-2 c =
-    let tokens = c .before .before .before .before .before .before .before .before .before .before .before .before .before .before .before .args .tokens .now in
+    let tokens = c .before .before .before .before .before .before .before .before .before .before .before .before .before
+    .before .before .args .tokens .now in
     let words = c .before .before .before .before .before .before .before .before .before .figure-words .ensures in
-    let style = c .before .before .before .before .before .before .before .before .stroke-at .ensures ∙ ap (λ (k : ℕ). strokeAt tokens k) words in
+    let style = c .before .before .before .before .before .before .before .before .stroke-at .ensures ∙ ap
+    (λ (k : ℕ). strokeAt tokens k) words in
     let place = c .before .before .before .before .before .before .plus .ensures ∙ ap (λ (k : ℕ). plus k 2) words in
     let row = read-held (c .before .before .before .before .before .i32-at .ensures) ∙ ap (λ (k : ℕ). i32At tokens k) place in
-    puts-query _ _ _ (sym (c .before .before .before .before .before .before .before .before .before .before .before .fits2 .ensures) ∙ not-false _ (c .before .before .before .before .before .before .before .before .before .before .if1 .left))
-    (puts-as (ap (λ (o : Outcome). outcomeText noRowText o) (c .before .before .before .before .styled-row .ensures ∙ (λ i. styledRowCall (c .before .before .before .before .before .before .before .figure-at .ensures i) (style i) (row i)))) (c .before .before .put-styled-row-answer .ensures))
+    puts-query _ _ _ (sym (c .before .before .before .before .before .before .before .before .before .before .before .fits2
+    .ensures) ∙ not-false _ (c .before .before .before .before .before .before .before .before .before .before .if1 .left))
+    (puts-as (ap (λ (o : Outcome). outcomeText noRowText o)
+    (c .before .before .before .before .styled-row .ensures ∙
+    (λ i. styledRowCall (c .before .before .before .before .before .before .before .figure-at .ensures i) (style i)
+    (row i)))) (c .before .before .put-styled-row-answer .ensures))
 
 pub srow-spec : {M : Type 1} → statement M
 srow-spec =

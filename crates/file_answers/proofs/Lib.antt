@@ -1,0 +1,3 @@
+-- A file that is written keeps to its buffer.
+-- Assumes nothing.
+pub mod FileLength

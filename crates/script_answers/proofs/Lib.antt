@@ -1,0 +1,3 @@
+-- Walks over the calls of a query.
+-- Assumes nothing.
+pub mod Runs
