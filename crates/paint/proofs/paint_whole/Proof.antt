@@ -25,7 +25,8 @@ rows-of : (c : tie.After-new) (shape : StyledShape) → c .new .result ≡ shape
 rows-of c shape is y =
     ap (λ (s : StyledShape). rowOf s y) (sym is)
     ∙ c .new .ensures .1 y
-    ∙ (λ i. styledRowOfShapes (c .before .before .before .before .stroke-shape .ensures .0 i) (c .before .before .before .fill-shape .ensures .0 i) y)
+    ∙ (λ i.
+    styledRowOfShapes (c .before .before .before .before .stroke-shape .ensures .0 i) (c .before .before .before .fill-shape .ensures .0 i) y)
 
 -- the rows found by the shape are those of the figure's stroke area
 rows-are : (c : tie.After-new) → c .before .before .shape-rows .result ≡ strokeRows (start c .args .figure) (start c .args .style)
@@ -114,7 +115,8 @@ returns-3 c =
     let made = c .before .before in
     let a = start made .args in
     lacking-whole (rowOf styled.Neither) (a .figure) (a .style) (a .size .width) (a .size .height)
-    (rows-of made styled.Neither (c .enum-told .given .1)) (made .before .before .shape-rows .result) (rows-are made) (a .canvas .now) (λ _. refl)
+    (rows-of made styled.Neither (c .enum-told .given .1)) (made .before .before .shape-rows .result) (rows-are made)
+    (a .canvas .now) (λ _. refl)
 
 pub paint-whole-spec : {M : Type 1} → statement M
 paint-whole-spec =

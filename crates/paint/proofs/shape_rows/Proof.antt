@@ -1,7 +1,7 @@
 -- `paint::shape_rows` meets its contract: the shape's kind says which rows they are.
 -- Assumes nothing.
 use borrow.Author.Needs.{needs}
-use mathlib.Core.Path.{_≡_, sym, ap, subst, _∙_}
+use mathlib.Core.Path.{_≡_, refl, sym, ap, subst, _∙_}
 use mir.Facts.{toZ-ofZ}
 use Rattle.figure.specs.Bounds.{BoundedShape}
 use Rattle.figure.proofs.Within.{area-bounded}
@@ -38,7 +38,7 @@ returns-2 : tie.Need-returns-2
 returns-2 c =
     let known = c .before .before .before .before .before .shape2 .given in
     let area = subst BoundedShape (known .1) (c .before .before .before .before .before .before .before .pre) .rectangle in
-    let made : _ ≡ boxRows (known .0 .0 .rectangle) = ap (λ z. record { first = z; count = known .0 .0 .rectangle .size .height }) (toZ-ofZ (area .at .y .fits)) in
+    let made : _ ≡ boxRows (known .0 .0 .rectangle) = rows-by-fields (toZ-ofZ (area .at .y .fits)) refl in
     let within = subst RowsWithin (sym made) (box-rows-within (known .0 .0 .rectangle) area) in
     (made ∙ ap rowsOfShape (sym (known .1)), (within .first, within .count))
 
