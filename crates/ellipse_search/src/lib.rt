@@ -132,3 +132,33 @@ pub fn find_inside(
     }
     first_inside(test, width, y, from, count)
 }
+
+// The same in a scan that goes on outward: where the hint is one of the columns and inside, the walk goes
+// to the left from it, and that short way is meant to stand in the loop that scans. Else it is `find_inside`.
+pub fn scan_inside(
+    test: EllipseContains,
+    width: u32,
+    y: u64,
+    from: u32,
+    count: u32,
+    hint: u32,
+) -> Place
+    requires { ⌜ SmallWeights test ⌝ }
+    requires { ⌜ (0 < width) × (width ≤ wideSide) × (y ≤ wideDistance) ⌝ }
+    requires { ⌜ (from ≤ (width - 1) / 2) × (count ≤ wideSide) ⌝ }
+    ensures { λ r. ⌜ r ≡ findFrom (columnInside test width y) count from ⌝ }
+{
+    if from <= hint {
+        if hint <= (width - 1) / 2 {
+            if hint < from + count {
+                if inside_left(test, width, y, hint) {
+                    return walk_left(test, width, y, from, hint);
+                }
+            }
+        }
+    }
+    let Place::At(k) = find_inside(test, width, y, from, count, hint) else {
+        return Place::Nowhere;
+    };
+    Place::At(k)
+}

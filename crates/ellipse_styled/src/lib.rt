@@ -3,7 +3,7 @@
 // sides about the centre of the stroke area.
 use ellipse::EllipseContains;
 use ellipse_points::has_rows;
-use ellipse_search::find_inside;
+use ellipse_search::scan_inside;
 use geometry::Size;
 use range::Range;
 use rectangle::Rectangle;
@@ -112,7 +112,7 @@ fn runs_at(
     requires { ⌜ SmallWeights fill ⌝ }
     ensures { λ r. ⌜ r .runs ≡ runsFrom left width s (findFrom (columnInside fill width distance) (width - 2 * s) s) ⌝ }
 {
-    let Place::At(c) = find_inside(fill, width, distance, s, width - 2 * s, hint) else {
+    let Place::At(c) = scan_inside(fill, width, distance, s, width - 2 * s, hint) else {
         return HintedRuns {
             runs: hollow_runs(left, width, s),
             hint: hint,
@@ -164,7 +164,7 @@ impl StyledEllipse {
         let distance = ellipse::gap(size.height, dy);
         let stroke = self.stroke;
         let stroke_hint = hints.stroke;
-        let Place::At(s) = find_inside(stroke, size.width, distance, 0, size.width, stroke_hint)
+        let Place::At(s) = scan_inside(stroke, size.width, distance, 0, size.width, stroke_hint)
         else {
             return EllipseRow {
                 row: StyledRow::NoRow,

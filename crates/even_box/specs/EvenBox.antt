@@ -1,14 +1,14 @@
 -- A styled box with even corners: the areas that it stands for, and what the code asks of it.
 -- Assumes nothing.
 use mathlib.Core.Path.{_≡_}
-use Prim.Native.Nat.{_+_, _*_, _≤_}
+use Prim.Native.Nat.{ℕ, _+_, _*_, _<_, _≤_}
 use lib.IntN.{pos, _+ℤ_}
 use Rattle.geometry.specs.declared.Size.{Size}
 use Rattle.geometry.specs.Bounds.{widePoint, PointNear, SizeUpTo}
 use Rattle.corner.specs.Bounds.{wideStrokeSide}
 use Rattle.corner_radii.specs.declared.CornerRadii.{CornerRadii}
 use Rattle.rounded_rectangle.specs.declared.RoundedRectangle.{RoundedRectangle}
-use Rattle.rounded_rectangle.specs.Relative.{Ready}
+use Rattle.rounded_rectangle.specs.Relative.{Ready, inset}
 use Rattle.figure.specs.Bounds.{AreaRectangle}
 use Rattle.styled_box.specs.declared.StyledBox.{StyledBox}
 use Rattle.styled_box.specs.Ready.{strokeBox, fillBox}
@@ -48,3 +48,9 @@ pub record ReadyEven (b : EvenBox) : Type 0 where
 abbrev pub EvenOf : StyledBox → Evenness → Type 0
 EvenOf b (Even e) = (strokeBox b ≡ evenStroke e) × (fillBox b ≡ evenFill e) × ReadyEven e
 EvenOf b Uneven = Unit {0}
+
+-- the inset of a side of n columns on row dy by its upper corner; 0 on the rows below that
+pub record UpperInset (radius : Size) (dy n r : ℕ) : Type 0 where
+  pub in-corner : dy < radius .height → r ≡ inset radius dy n
+  pub past-corner : radius .height ≤ dy → r ≡ 0
+  pub few : r ≤ n

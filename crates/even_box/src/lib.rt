@@ -3,10 +3,9 @@
 // for both sides and no test of the corners, and its lower rows mirror the upper ones. The Rust has
 // none of it: embedded-graphics 0.8.2 `rounded_rectangle/styled.rs` searches every row from both ends.
 use box_columns::covered;
-use box_columns::left_out;
 use box_rows::are_alike;
 use ellipse_quadrant::EllipseQuadrant;
-use ellipse_quadrant::side_inset;
+use ellipse_search::scan_inside;
 use ellipse_styled::EllipseHints;
 use ellipse_styled::EllipseRow;
 use even_fill::filled_between;
@@ -21,14 +20,17 @@ use shape_row::around_fill;
 use styled_box::StyledBox;
 ghost use mathlib.Core.Path.{_≡_};
 ghost use mathlib.Core.Bool.{true};
-ghost use Prim.Native.Nat.{_+_, _<_};
+ghost use Prim.Native.Nat.{_+_, _<_, _≤_};
 ghost use lib.IntN.{pos, _+ℤ_};
-ghost use Rattle.rounded_rectangle.specs.Relative.{radii};
+ghost use Rattle.geometry.specs.Bounds.{wideSide};
+ghost use Rattle.scanline.specs.Places.{findFrom};
+ghost use Rattle.rounded_rectangle.specs.Relative.{Ready, insideCorner, radii};
+ghost use Rattle.box_columns.specs.Columns.{covered as Columns·covered, leftOut};
 ghost use Rattle.box_fill.specs.BoxFill.{fillRun};
 ghost use Rattle.box_fill.specs.Relative.{NearRun};
 ghost use Rattle.shape_row.specs.StyledRow.{boxStyledRow};
 ghost use Rattle.styled_box.specs.Ready.{ReadyStyledBox};
-ghost use Rattle.even_box.specs.EvenBox.{fourCorners, evenStroke, evenFill, ReadyEven, EvenOf};
+ghost use Rattle.even_box.specs.EvenBox.{fourCorners, evenStroke, evenFill, ReadyEven, EvenOf, UpperInset};
 
 // A box with even corners: each area with one of its corners, how many rows the fill area begins below
 // the stroke area, and how many rows at the top, and as many at the bottom, a corner or the border has.
@@ -68,6 +70,54 @@ fn corners_alike(b: RoundedRectangleContains) -> bool
         }
     }
     false
+}
+
+// The first of n columns from a corner on that is inside on its row e, in a scan of rows from the corner
+// on.
+fn first_in_corner(corner: EllipseQuadrant, e: u32, n: u32, hint: u32) -> Place
+    requires { ⌜ Ready corner ⌝ }
+    requires { ⌜ (e < corner .radius .height) × (0 < corner .radius .width) × (n ≤ wideSide) ⌝ }
+    ensures { λ r. ⌜ r ≡ findFrom (λ d. insideCorner (corner .radius) d e) n 0 ⌝ }
+{
+    let radius = corner.radius;
+    let test = corner.test;
+    let y = ellipse::gap(2 * radius.height, e);
+    scan_inside(test, 2 * radius.width, y, 0, n, hint)
+}
+
+// The inset of a side of n columns on row dy by its upper corner, 0 below that.
+fn upper_inset(corner: EllipseQuadrant, dy: u32, n: u32, hint: u32) -> u32
+    requires { ⌜ Ready corner ⌝ }
+    requires { ⌜ n ≤ wideSide ⌝ }
+    ensures { λ r. ⌜ UpperInset (corner .radius) dy n r ⌝ }
+{
+    let radius = corner.radius;
+    if radius.height <= dy {
+        return 0;
+    }
+    if radius.width == 0 {
+        return 0;
+    }
+    let Place::At(k) = first_in_corner(corner, dy, n, hint) else {
+        return 0;
+    };
+    k
+}
+
+// How many columns a corner leaves out on its row e.
+fn corner_left_out(corner: EllipseQuadrant, e: u32, hint: u32) -> u32
+    requires { ⌜ Ready corner ⌝ }
+    ensures { λ r. ⌜ r ≡ leftOut (corner .radius) e (Columns·covered (corner .radius) e) ⌝ }
+{
+    let radius = corner.radius;
+    let n = covered(radius, e);
+    if n == 0 {
+        return 0;
+    }
+    let Place::At(k) = first_in_corner(corner, e, n, hint) else {
+        return n;
+    };
+    k
 }
 
 // The box with even corners, if it is one: the corners in each area are alike, those on one row of the
@@ -139,7 +189,7 @@ impl EvenBox {
         }
         let corner = self.inner_corner;
         let e = dy - border;
-        let k = left_out(corner, e, covered(corner.radius, e), hint);
+        let k = corner_left_out(corner, e, hint);
         let inner = self.inner;
         let top_left = inner.top_left;
         let size = inner.size;
@@ -160,7 +210,7 @@ impl EvenBox {
         let size = area.size;
         let corner = self.corner;
         let stroke_hint = hints.stroke;
-        let inset = side_inset(corner, corner, size.height, size.width, dy, stroke_hint);
+        let inset = upper_inset(corner, dy, size.width, stroke_hint);
         let run = run_between(
             top_left.x,
             size.width,

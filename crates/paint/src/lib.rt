@@ -4,6 +4,7 @@
 use canvas_size::CanvasSize;
 use drawing::StrokeRows;
 use figure::Figure;
+use figure::Shape;
 use refusal::Checked;
 use refusal::Refusal;
 use style::Style;
@@ -14,8 +15,9 @@ ghost use lib.ListN.{length};
 ghost use Rattle.signed.specs.Signed.{Near};
 ghost use Rattle.geometry.specs.Bounds.{wideSide};
 ghost use Rattle.corner.specs.Bounds.{wideStrokeSide};
-ghost use Rattle.figure.specs.Bounds.{wideOffset, wideAreaPosition, OwnFigure};
+ghost use Rattle.figure.specs.Bounds.{wideOffset, wideAreaPosition, OwnFigure, BoundedShape};
 ghost use Rattle.book.specs.Whole.{paintWhole};
+ghost use Rattle.drawing.specs.Rows.{rowsOfShape};
 ghost use Rattle.drawing.specs.Drawing.{styledFigure, drawing};
 ghost use Rattle.paint.specs.Rows.{visibleRows};
 ghost use Rattle.paint.specs.Paint.{paintOutcome, paintCall, canvasAfter};
@@ -23,6 +25,32 @@ ghost use Rattle.paint.specs.Paint.{paintOutcome, paintCall, canvasAfter
 pub enum PaintAnswer {
     Refused(Refusal),
     Painted,
+}
+
+// The rows of a stroke area, by its shape: those that `drawing::stroke_rows` finds from the figure.
+fn shape_rows(shape: Shape) -> StrokeRows
+    requires { ⌜ BoundedShape shape ⌝ }
+    ensures { λ r. ⌜ r ≡ rowsOfShape shape ⌝ }
+    ensures { λ r. ⌜ Near wideAreaPosition (r .first) × (r .count ≤ wideStrokeSide) ⌝ }
+{
+    match shape {
+        Shape::Ellipse(area) => {
+            let top_left = area.top_left;
+            StrokeRows {
+                first: top_left.y,
+                count: ellipse_points::row_count(area),
+            }
+        }
+        Shape::RoundedBox(b) => {
+            let area = b.rectangle;
+            let top_left = area.top_left;
+            let size = area.size;
+            StrokeRows {
+                first: top_left.y,
+                count: size.height,
+            }
+        }
+    }
 }
 
 // The rows of a figure that a canvas of this height has.
@@ -49,9 +77,10 @@ fn paint_whole(canvas: &mut [u8], size: CanvasSize, figure: Figure, style: Style
     requires { ⌜ style .«stroke_width» ≤ wideOffset ⌝ }
     ensures { λ _. ⌜ now (canvas .exit) ≡ paintWhole drawing (size .width) (size .height) (styledFigure figure style) (now (canvas .entry)) ⌝ }
 {
-    let rows = drawing::stroke_rows(figure, style);
-    let seen = visible(rows, size.height);
-    match styled::ready(figure, style) {
+    let stroke = areas::stroke_shape(figure, style);
+    let fill = areas::fill_shape(figure, style);
+    let seen = visible(shape_rows(stroke), size.height);
+    match StyledShape::new(stroke, fill) {
         StyledShape::Ellipse(ellipse) => {
             paint_rows::paint_ellipse(canvas, size, ellipse, style, seen.first, seen.count)
         }

@@ -11,30 +11,18 @@ use refusal::Refusal;
 use scanline::StyledRow;
 use shape_row::styled_row_of_shapes;
 use style::Style;
-use styled_shape::StyledShape;
 ghost use mathlib.Core.Path.{_≡_};
 ghost use Prim.Native.Nat.{_≤_};
-ghost use lib.IntN.{ℤ};
 ghost use Rattle.signed.specs.Signed.{Near};
 ghost use Rattle.geometry.specs.Bounds.{widePoint};
 ghost use Rattle.rectangle.specs.Calls.{rectangleOutcome};
 ghost use Rattle.figure.specs.Bounds.{wideOffset, OwnFigure};
-ghost use Rattle.styled_shape.specs.Ready.{rowOf, Ready};
 ghost use Rattle.styled.specs.Styled.{styledRow};
 ghost use Rattle.styled.specs.Calls.{styledRowOutcome, styledRowCall, styledBoundingBoxCall};
 
 pub enum StyledRowAnswer {
     Refused(Refusal),
     Answered(StyledRow),
-}
-
-// The figure with its style made ready for all its rows.
-pub fn ready(figure: Figure, style: Style) -> StyledShape
-    requires { ⌜ OwnFigure figure ⌝ }
-    requires { ⌜ style .«stroke_width» ≤ wideOffset ⌝ }
-    ensures { λ r. ⌜ Ready r × ((y : ℤ) → rowOf r y ≡ styledRow figure style y) ⌝ }
-{
-    StyledShape::new(stroke_shape(figure, style), fill_shape(figure, style))
 }
 
 // The styled row at y, asked for alone.

@@ -11,14 +11,14 @@ use native.Mathlib.Omega.{arith}
 use Rattle.ellipse_styled.proofs.runs_at.Statement.{statement}
 use Rattle.ellipse_styled.proofs.runs_at.Tie as tie
 
-mul-find-inside : tie.Need-mul-find-inside
-mul-find-inside c = search needs
+mul-scan-inside : tie.Need-mul-scan-inside
+mul-scan-inside c = search needs
 
-sub-find-inside : tie.Need-sub-find-inside
-sub-find-inside c = search needs
+sub-scan-inside : tie.Need-sub-scan-inside
+sub-scan-inside c = search needs
 
-find-inside-requires : tie.Need-find-inside-requires
-find-inside-requires c κs = search needs
+scan-inside-requires : tie.Need-scan-inside-requires
+scan-inside-requires c κs = search needs
 
 enum-known-c : tie.Need-enum-known-c
 enum-known-c c = search needs
@@ -34,12 +34,12 @@ returns c =
     let entry = c .before .before .before .before in
     c .hollow-runs .ensures
     ∙ ap (λ (z : ℤ). runsFrom z (entry .args .width) (entry .args .s) Nowhere) (toZ-ofZ (entry .fits .left))
-    ∙ ap (runsFrom (entry .args .left) (entry .args .width) (entry .args .s)) (sym (c .before .enum-told .given .1) ∙ c .before .before .before .find-inside .ensures)
+    ∙ ap (runsFrom (entry .args .left) (entry .args .width) (entry .args .s)) (sym (c .before .enum-told .given .1) ∙ c .before .before .before .scan-inside .ensures)
 
 filled-runs-requires : tie.Need-filled-runs-requires
 filled-runs-requires c κs =
     let entry = c .before .before .before .before in
-    let below = found-at _ _ _ _ (sym (c .before .before .before .find-inside .ensures) ∙ c .before .c .given .1) .below in
+    let below = found-at _ _ _ _ (sym (c .before .before .before .scan-inside .ensures) ∙ c .before .c .given .1) .below in
     (rw (toZ-ofZ (entry .fits .left)) (entry .pre .0), (omega arith, omega arith, omega arith))
 
 returns-2 : tie.Need-returns-2
@@ -47,15 +47,15 @@ returns-2 c =
     let entry = c .before .before .before .before .before in
     c .filled-runs .ensures
     ∙ ap (λ (z : ℤ). runsFrom z (entry .args .width) (entry .args .s) (At (c .before .before .c .given .0 .0))) (toZ-ofZ (entry .fits .left))
-    ∙ ap (runsFrom (entry .args .left) (entry .args .width) (entry .args .s)) (sym (c .before .before .c .given .1) ∙ c .before .before .before .before .find-inside .ensures)
+    ∙ ap (runsFrom (entry .args .left) (entry .args .width) (entry .args .s)) (sym (c .before .before .c .given .1) ∙ c .before .before .before .before .scan-inside .ensures)
 
 pub runs-at-spec : {M : Type 1} → statement M
 runs-at-spec =
     tie.close
     (tie.spec
-    mul-find-inside
-    sub-find-inside
-    find-inside-requires
+    mul-scan-inside
+    sub-scan-inside
+    scan-inside-requires
     enum-known-c
     enum-told
     hollow-runs-requires

@@ -30,8 +30,8 @@ row-place c =
 rows-there : (c : tie.Else1) → firstRowInside (c .before .before .before .before .before .before .before .before .before .before .args .self .area .size .width) (c .before .before .before .before .before .before .before .before .before .before .args .self .area .size .height) ≡ true
 rows-there c = sym (c .before .before .before .before .before .before .before .before .before .before .pre .0 .rows) ∙ not-false _ (c .if1 .left)
 
-stroke-start : (c : tie.After-find-inside) → firstInside (c .before .before .before .before .before .before .before .before .before .before .before .before .before .args .self .area .size .width) (c .before .before .before .before .before .before .before .before .before .before .before .before .before .args .self .area .size .height) (c .before .before .before .before .before .before .dy .given .0 .0) ≡ c .find-inside .result
-stroke-start c = first-inside-found _ _ _ _ _ _ (c .before .before .before .before .before .before .before .before .before .before .before .before .before .pre .0 .stroke) (c .before .before .gap .ensures .0) (c .find-inside .ensures)
+stroke-start : (c : tie.After-scan-inside) → firstInside (c .before .before .before .before .before .before .before .before .before .before .before .before .before .args .self .area .size .width) (c .before .before .before .before .before .before .before .before .before .before .before .before .before .args .self .area .size .height) (c .before .before .before .before .before .before .dy .given .0 .0) ≡ c .scan-inside .result
+stroke-start c = first-inside-found _ _ _ _ _ _ (c .before .before .before .before .before .before .before .before .before .before .before .before .before .pre .0 .stroke) (c .before .before .gap .ensures .0) (c .scan-inside .ensures)
 
 place-of-requires : tie.Need-place-of-requires
 place-of-requires c κs = search needs
@@ -55,8 +55,8 @@ returns-2 c =
 gap-requires : tie.Need-gap-requires
 gap-requires c κs = (row-place (c .before .before) .1, c .before .before .before .before .before .before .before .before .before .before .pre .0 .area .size .height)
 
-find-inside-requires : tie.Need-find-inside-requires
-find-inside-requires c κs =
+scan-inside-requires : tie.Need-scan-inside-requires
+scan-inside-requires c κs =
     let entry = c .before .before .before .before .before .before .before .before .before .before .before .before in
     let wide = first-row-wide _ _ (rows-there (c .before .before)) in
     let tall = entry .pre .0 .area .size .height in
@@ -101,7 +101,7 @@ row-spec =
     returns
     returns-2
     gap-requires
-    find-inside-requires
+    scan-inside-requires
     enum-known-s
     enum-told-2
     returns-3

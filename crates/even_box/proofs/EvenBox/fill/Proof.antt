@@ -3,11 +3,9 @@
 -- Assumes nothing.
 use borrow.Author.Needs.{needs}
 use mathlib.Core.Path.{_≡_, ap, _∙_}
-use Prim.Native.Nat.{_-_}
 use lib.IntN.{ℤ}
 use mir.Facts.{toZ-ofZ}
 use Rattle.range.proofs.Fields.{range-by-fields}
-use Rattle.box_columns.specs.Columns.{covered, leftOut}
 use Rattle.even_fill.specs.EvenFill.{fillBetween}
 use Rattle.even_box.proofs.Rows.{fill-lacking, between, fill-found}
 use Rattle.even_box.proofs.EvenBox.fill.Statement.{statement}
@@ -21,22 +19,12 @@ returns c =
     range-by-fields end end ∙ fill-lacking (entry .args .self) (entry .pre .0) (entry .args .dy) (entry .pre .1 .0)
     (entry .args .run) (c .before .if1 .taken)
 
-covered-requires : tie.Need-covered-requires
-covered-requires c κs = search needs
+corner-left-out-requires : tie.Need-corner-left-out-requires
+corner-left-out-requires c κs = c .before .before .pre .0 .inner-corner
 
-left-out-requires : tie.Need-left-out-requires
-left-out-requires c κs = search needs
-
--- how many columns the corner leaves out
-abbrev entry : tie.After-left-out → tie.Start
-entry c = c .before .before .before .before
-
-left-out-is : (c : tie.After-left-out) → c .left-out .result
-    ≡ leftOut (entry c .args .self .«inner_corner» .radius) (entry c .args .dy - entry c .args .self .border)
-    (covered (entry c .args .self .«inner_corner» .radius) (entry c .args .dy - entry c .args .self .border))
-left-out-is c =
-    let a = entry c .args in
-    c .left-out .ensures ∙ ap (leftOut (a .self .«inner_corner» .radius) (a .dy - a .self .border)) (c .before .covered .ensures)
+-- what is known of the fill area's columns
+abbrev entry : tie.After-corner-left-out → tie.Start
+entry c = c .before .before .before
 
 filled-between-requires : tie.Need-filled-between-requires
 filled-between-requires c κs =
@@ -45,8 +33,8 @@ filled-between-requires c κs =
     let a = start .args in
     let ready = start .pre .0 in
     let left = ready .inner-at .x in
-    let columns = between (a .self) ready (a .dy) (start .pre .1 .0) (a .run) (after .before .before .before .if1 .left)
-    (after .left-out .result) (left-out-is after) in
+    let columns = between (a .self) ready (a .dy) (start .pre .1 .0) (a .run) (after .before .before .if1 .left)
+    (after .corner-left-out .result) (after .corner-left-out .ensures) in
     (rw (toZ-ofZ (left .fits)) left, ((ready .inner-size .width, columns .half), start .pre .1 .1))
 
 returns-2 : tie.Need-returns-2
@@ -54,13 +42,13 @@ returns-2 c =
     let after = c .before .before .before .before .before in
     let start = entry after in
     let a = start .args in
-    let k = after .left-out .result in
+    let k = after .corner-left-out .result in
     c .filled-between .ensures
     ∙ ap (λ (z : ℤ). fillBetween z (a .self .inner .size .width) (a .run) k) (toZ-ofZ (start .pre .0 .inner-at .x .fits))
-    ∙ fill-found (a .self) (start .pre .0) (a .dy) (start .pre .1 .0) (a .run) (after .before .before .before .if1 .left) k
-    (left-out-is after)
+    ∙ fill-found (a .self) (start .pre .0) (a .dy) (start .pre .1 .0) (a .run) (after .before .before .if1 .left) k
+    (after .corner-left-out .ensures)
 
 pub fill-spec : {M : Type 1} → statement M
 fill-spec =
     tie.close
-    (tie.spec returns covered-requires left-out-requires filled-between-requires returns-2)
+    (tie.spec returns corner-left-out-requires filled-between-requires returns-2)

@@ -12,7 +12,9 @@ use Rattle.scanline.specs.declared.Row.{Row}
 use Rattle.scanline.specs.declared.Row.the-variants.{Run}
 use Rattle.scanline.specs.declared.StyledRow.the-variants.{Runs}
 use Rattle.scanline.specs.Points.{EndsWithin}
-use Rattle.rounded_rectangle.specs.Relative.{rowInsets, runBetween}
+use Rattle.rounded_rectangle.specs.Relative.{sideInset, rowInsets, runBetween}
+use Rattle.ellipse_quadrant.proofs.Insets.{side-by-upper, side-straight}
+use Rattle.box_columns.proofs.Searches.{by-order}
 use Rattle.rounded_rectangle.specs.RoundedRectangle.{row as RoundedRectangle·row}
 use Rattle.rounded_rectangle.proofs.Rows.{row-placed, between-within, side-inset-le}
 use Rattle.box_rows.proofs.Even.{side-wide}
@@ -37,10 +39,19 @@ run-is : (c : tie.After-run-between) → c .run-between .result
     (rowInsets (fourCorners (entry c .args .self .corner .radius)) (entry c .args .self .area .size .width)
     (entry c .args .self .area .size .height) (entry c .args .dy))
 run-is c =
-    let is = c .before .before .side-inset .ensures .0 in
+    let r = entry c .args .self .corner .radius in
+    let area = entry c .args .self .area in
+    let dy = entry c .args .dy in
+    let upper = entry c .pre .1 in
+    let rows = entry c .pre .0 .stroke-rows in
+    let inset = c .before .before .upper-inset .ensures in
+    let is : c .before .before .upper-inset .result ≡ sideInset r r (area .size .height) (area .size .width) dy =
+    by-order dy (r .height) (λ l. inset .in-corner l ∙ side-by-upper r r (area .size .height) (area .size .width) dy l)
+    (λ past.
+    inset .past-corner past
+    ∙ side-straight r r (area .size .height) (area .size .width) dy past (omega (arith, upper, rows))) in
     c .run-between .ensures
-    ∙ (λ i. runBetween (toZ-ofZ (entry c .pre .0 .area .at .x .fits) i) (entry c .args .self .area .size .width)
-    (record { left = is i; right = is i }))
+    ∙ (λ i. runBetween (toZ-ofZ (entry c .pre .0 .area .at .x .fits) i) (area .size .width) (record { left = is i; right = is i }))
 
 run-ends : (c : tie.After-run-between)
     → EndsWithin (entry c .args .self .area .«top_left» .x) (entry c .args .self .area .size .width) (c .run-between .result)
@@ -54,17 +65,15 @@ row-is : (c : tie.After-run-between) → Run (c .run-between .result)
     (entry c .args .dy))
 row-is c = ap Run (run-is c) ∙ row-placed (evenStroke (entry c .args .self)) _ (entry c .args .dy) (refl, in-area c)
 
-side-inset-requires : tie.Need-side-inset-requires
-side-inset-requires c κs =
-    let start = c .before .before .before .before in
-    let ready = start .pre .0 in
-    let upper = start .pre .1 in
-    (ready .corner, (ready .corner, (omega (arith, upper), side-wide (ready .area .size .width))))
+upper-inset-requires : tie.Need-upper-inset-requires
+upper-inset-requires c κs =
+    let ready = c .before .before .before .before .pre .0 in
+    (ready .corner, side-wide (ready .area .size .width))
 
 run-between-requires : tie.Need-run-between-requires
 run-between-requires c κs =
     let area = area-bounded _ (c .before .before .before .before .before .before .pre .0 .area) in
-    let few = c .before .side-inset .ensures .1 in
+    let few = c .before .upper-inset .ensures .few in
     (rw (toZ-ofZ (area .at .x .fits)) (area .at .x), (area .size .width, (few, few)))
 
 fill-requires : tie.Need-fill-requires
@@ -98,4 +107,4 @@ returns c =
 pub row-spec : {M : Type 1} → statement M
 row-spec =
     tie.close
-    (tie.spec side-inset-requires run-between-requires fill-requires around-fill-requires returns)
+    (tie.spec upper-inset-requires run-between-requires fill-requires around-fill-requires returns)
