@@ -202,12 +202,27 @@ module _ (f : ℕ → ℤ) where
   layer-of-limits : PlaceLimits f → isLayer numbers ≡ true
   unfolding isFigure isStyle noneNegative listFrom
   layer-of-limits l =
-      rw (l .kind .0, l .kind .1, l .width .0, l .height .0,
-          radius-sign l 5 (omega arith) (omega arith), radius-sign l 6 (omega arith) (omega arith),
-          radius-sign l 7 (omega arith) (omega arith), radius-sign l 8 (omega arith) (omega arith),
-          radius-sign l 9 (omega arith) (omega arith), radius-sign l 10 (omega arith) (omega arith),
-          radius-sign l 11 (omega arith) (omega arith), radius-sign l 12 (omega arith) (omega arith),
-          l .stroke .0, l .stroke .1, l .fill .0, l .fill .1, l .stroke-width .0, l .alignment .0, l .alignment .1)
+      rw (
+        l .kind .0,
+        l .kind .1,
+        l .width .0,
+        l .height .0,
+        radius-sign l 5 (omega arith) (omega arith),
+        radius-sign l 6 (omega arith) (omega arith),
+        radius-sign l 7 (omega arith) (omega arith),
+        radius-sign l 8 (omega arith) (omega arith),
+        radius-sign l 9 (omega arith) (omega arith),
+        radius-sign l 10 (omega arith) (omega arith),
+        radius-sign l 11 (omega arith) (omega arith),
+        radius-sign l 12 (omega arith) (omega arith),
+        l .stroke .0,
+        l .stroke .1,
+        l .fill .0,
+        l .fill .1,
+        l .stroke-width .0,
+        l .alignment .0,
+        l .alignment .1,
+      )
 
   -- ---- and their figure and style pass their checks
   size-passes : PlaceLimits f → sizeCheck (sizeOf (f 3) (f 4)) ≡ Passed
@@ -237,14 +252,16 @@ module _ (f : ℕ → ℤ) where
   radii-pass : PlaceLimits f → any ≡ false → radiiCheck (cornersOf (take 13 numbers)) ≡ Passed
   unfolding radiiCheck radiusCheck listFrom
   radii-pass l box =
-      rw (le-ltb 1024 (floor0 (f 5)) (radius-small l box 5 (omega arith) (omega arith)),
-          le-ltb 1024 (floor0 (f 6)) (radius-small l box 6 (omega arith) (omega arith)),
-          le-ltb 1024 (floor0 (f 7)) (radius-small l box 7 (omega arith) (omega arith)),
-          le-ltb 1024 (floor0 (f 8)) (radius-small l box 8 (omega arith) (omega arith)),
-          le-ltb 1024 (floor0 (f 9)) (radius-small l box 9 (omega arith) (omega arith)),
-          le-ltb 1024 (floor0 (f 10)) (radius-small l box 10 (omega arith) (omega arith)),
-          le-ltb 1024 (floor0 (f 11)) (radius-small l box 11 (omega arith) (omega arith)),
-          le-ltb 1024 (floor0 (f 12)) (radius-small l box 12 (omega arith) (omega arith)))
+      rw (
+        le-ltb 1024 (floor0 (f 5)) (radius-small l box 5 (omega arith) (omega arith)),
+        le-ltb 1024 (floor0 (f 6)) (radius-small l box 6 (omega arith) (omega arith)),
+        le-ltb 1024 (floor0 (f 7)) (radius-small l box 7 (omega arith) (omega arith)),
+        le-ltb 1024 (floor0 (f 8)) (radius-small l box 8 (omega arith) (omega arith)),
+        le-ltb 1024 (floor0 (f 9)) (radius-small l box 9 (omega arith) (omega arith)),
+        le-ltb 1024 (floor0 (f 10)) (radius-small l box 10 (omega arith) (omega arith)),
+        le-ltb 1024 (floor0 (f 11)) (radius-small l box 11 (omega arith) (omega arith)),
+        le-ltb 1024 (floor0 (f 12)) (radius-small l box 12 (omega arith) (omega arith)),
+      )
 
   style-passes : PlaceLimits f → styleCheck (layerOf numbers .style) ≡ Passed
   unfolding styleCheck styleOf listFrom
