@@ -1,21 +1,21 @@
--- The numbers of a place within limits: by the tests of the numbers, and by `isLayer` and the check of the figure and the style that
--- they are. The two are equal.
+-- The numbers of a place within limits: by the tests of the numbers, and by `isLayer` and the check of the figure and the style
+-- that they are. The two are equal.
 -- Assumes nothing.
 use mathlib.Core.Path.{_≡_, refl, sym, ap, subst, _∙_}
-use mathlib.Core.Bool.{Bool, true, false, cond, _&&_, _||_, false≢true}
+use mathlib.Core.Bool.{Bool, true, false, _&&_, _||_, false≢true}
 use mathlib.Core.List.{List, [], _∷_}
 use Prim.Native.Nat.{ℕ, zero, suc, _+_, _-_, _≤_, _<_, _^_}
 use native.Mathlib.Omega.{arith}
 use borrow.Author.Tests.{le-ltb}
 use lib.IntN.{ℤ, pos, negsuc, natAbs}
-use lib.ListN.{length, take, drop}
+use lib.ListN.{length, take}
 use lib.Signed.{leZ, ltZ, mag}
 use mir.Syntax.{w32}
 use mir.Val.{hbits}
 use Rattle.signed.specs.Signed.{floor0, Near}
 use Rattle.signed.proofs.Laws.{int, magnitude-law}
 use Rattle.refusal.specs.declared.Checked.{Checked}
-use Rattle.refusal.specs.declared.Checked.the-variants.{Passed, Refused}
+use Rattle.refusal.specs.declared.Checked.the-variants.{Passed}
 use Rattle.refusal.specs.Refusal.{orElse}
 use Rattle.refusal.proofs.Checks.{passed-first, passed-next}
 use Rattle.geometry.specs.Checks.{sizeCheck, positionCheck}
@@ -31,7 +31,7 @@ use Rattle.book.specs.Sheet.{isAccepted}
 use Rattle.book.proofs.Tests.{and-true-parts, and-true-of, is-accepted-true, tests-equal}
 use Rattle.drawing.specs.Drawing.{answerOf, styledCheck}
 use Rattle.layers.proofs.LayerRules.{answer-passed}
-use Rattle.record_numbers.specs.RecordNumbers.{numberAt, listFrom, allFrom, within, noneNegative, isFigure, isStyle, sizeOf, rectangleOf, cornersOf, figureOf, styleOf}
+use Rattle.record_numbers.specs.RecordNumbers.{numberAt, listFrom, allFrom, within, noneNegative, isFigure, isStyle, sizeOf, cornersOf, figureOf, styleOf}
 use Rattle.sheet_record.specs.SheetRecord.{isLayer, layerOf}
 use Rattle.place_rules.specs.PlaceRules.{radiusKept, highestRadius, radiiKept, rectangleKept, figureKept, styleKept}
 
@@ -284,7 +284,8 @@ module _ (f : ℕ → ℤ) where
   abbrev signs : ℕ → ℕ → Bool
   signs j n = noneNegative (listFrom f j n)
 
-  is-layer-by : isLayer numbers ≡ ((within (pos 0) (pos 2) (f 0) && signs 3 10) && (s13 && (s14 && (leZ (pos 0) (f 15) && s16))))
+  is-layer-by : isLayer numbers
+      ≡ ((within (pos 0) (pos 2) (f 0) && signs 3 10) && (s13 && (s14 && (leZ (pos 0) (f 15) && s16))))
   unfolding isFigure isStyle listFrom
   is-layer-by = refl
 
@@ -295,7 +296,8 @@ module _ (f : ℕ → ℤ) where
       let parts = and-true-parts (leZ (pos 0) (f j)) (signs (suc j) n) e in
       by-place (k - j) refl (parts .0) (λ later. sign-of n (suc j) k later (omega arith) (parts .1))
     where
-      by-place : (d : ℕ) → k - j ≡ d → leZ (pos 0) (f j) ≡ true → (suc j ≤ k → leZ (pos 0) (f k) ≡ true) → leZ (pos 0) (f k) ≡ true
+      by-place : (d : ℕ) → k - j ≡ d → leZ (pos 0) (f j) ≡ true → (suc j ≤ k → leZ (pos 0) (f k) ≡ true)
+          → leZ (pos 0) (f k) ≡ true
       by-place zero at here later = let same : k ≡ j = omega arith in ap (λ (i : ℕ). leZ (pos 0) (f i)) same ∙ here
       by-place (suc d) at here later = later (omega arith)
 
@@ -321,7 +323,12 @@ module _ (f : ℕ → ℤ) where
       boxed : orElse (orElse size radii) position ≡ Passed → FigureChecked
       boxed e =
           let sizes = passed-first (orElse size radii) position e in
-          record { size = passed-first size radii sizes; position = passed-next (orElse size radii) position e; radii = λ _. passed-next size radii sizes }
+          record {
+            size = passed-first size radii sizes;
+            position = passed-next
+                (orElse size radii) position e;
+            radii = λ _. passed-next size radii sizes;
+          }
 
       by-kind : (t : Bool) → any ≡ t → (s : Bool) → ltZ (f 0) (pos 2) ≡ s → FigureChecked
       by-kind true e s d =
@@ -352,10 +359,12 @@ module _ (f : ℕ → ℤ) where
       let same : 5 + (k - 5) ≡ k = omega arith in
       subst (λ (j : ℕ). floor0 (f j) ≤ 1024) same (corner-radius (k - 5) (omega arith) r)
 
-  limits-of-layer : isLayer numbers ≡ true → styledCheck (layerOf numbers .figure) (layerOf numbers .style) ≡ Passed → PlaceLimits f
+  limits-of-layer : isLayer numbers ≡ true → styledCheck (layerOf numbers .figure) (layerOf numbers .style) ≡ Passed
+      → PlaceLimits f
   unfolding styledCheck
   limits-of-layer layer passed =
-      let both = and-true-parts (within (pos 0) (pos 2) (f 0) && signs 3 10) (s13 && (s14 && (leZ (pos 0) (f 15) && s16))) (sym is-layer-by ∙ layer) in
+      let both = and-true-parts (within (pos 0) (pos 2) (f 0) && signs 3 10) (s13 && (s14 && (leZ (pos 0) (f 15) && s16)))
+      (sym is-layer-by ∙ layer) in
       let figure = and-true-parts (within (pos 0) (pos 2) (f 0)) (signs 3 10) (both .0) in
       let a = and-true-parts s13 (s14 && (leZ (pos 0) (f 15) && s16)) (both .1) in
       let b = and-true-parts s14 (leZ (pos 0) (f 15) && s16) (a .1) in
@@ -363,7 +372,8 @@ module _ (f : ℕ → ℤ) where
       let fig = figureCheck (layerOf numbers .figure) in
       let sty = styleCheck (layerOf numbers .style) in
       let checked = figure-checked (passed-first fig sty passed) in
-      let sign : (k : ℕ) → 3 ≤ k → k ≤ 12 → leZ (pos 0) (f k) ≡ true = λ k from to. sign-of 10 3 k from (omega arith) (figure .1) in
+      let sign : (k : ℕ) → 3 ≤ k → k ≤ 12 → leZ (pos 0) (f k) ≡ true = λ k from to. sign-of 10 3 k from (omega arith)
+      (figure .1) in
       record {
         kind = between (pos 0) (pos 2) (f 0) (figure .0);
         x = near-between (f 1) (position-passed _ (checked .position) .x);
@@ -402,10 +412,13 @@ module _ (f : ℕ → ℤ) where
 
 -- ---- the same of any 18 numbers
 module _ (l : List ℤ) (long : length l ≡ 18) where
-  pub kept-is-layer : (figureKept l && styleKept l) ≡ (isLayer l && isAccepted (answerOf (styledCheck (layerOf l .figure) (layerOf l .style))))
+  pub kept-is-layer : (figureKept l && styleKept l)
+      ≡ (isLayer l && isAccepted (answerOf (styledCheck (layerOf l .figure) (layerOf l .style))))
   kept-is-layer =
-      subst (λ (n : List ℤ). (figureKept n && styleKept n) ≡ (isLayer n && isAccepted (answerOf (styledCheck (layerOf n .figure) (layerOf n .style)))))
+      subst (λ (n : List ℤ). (figureKept n && styleKept n) ≡
+      (isLayer n && isAccepted (answerOf (styledCheck (layerOf n .figure) (layerOf n .style)))))
       (sym (eighteen-numbers l long)) (kept-by-limits (numberAt l))
 
   pub kept-limits : (figureKept l && styleKept l) ≡ true → PlaceLimits (numberAt l)
-  kept-limits e = limits-of-kept (numberAt l) (sym (ap (λ (n : List ℤ). figureKept n && styleKept n) (eighteen-numbers l long)) ∙ e)
+  kept-limits e =
+      limits-of-kept (numberAt l) (sym (ap (λ (n : List ℤ). figureKept n && styleKept n) (eighteen-numbers l long)) ∙ e)

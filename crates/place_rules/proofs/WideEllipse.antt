@@ -1,5 +1,5 @@
--- An ellipse that is at least as wide as high has rows: in its first row the middle is inside, since it lies at most half a pixel beside
--- the centre.
+-- An ellipse that is at least as wide as high has rows: in its first row the middle is inside, since it lies at most half a
+-- pixel beside the centre.
 -- Assumes nothing.
 use mathlib.Core.Path.{_≡_, refl, sym, ap, _∙_}
 use mathlib.Core.Bool.{Bool, true, false, cond}
@@ -81,7 +81,8 @@ wide-rows w (suc m) tall wide = sym (first-row-by-middle w (suc m) (omega arith)
     by-sides false e =
         let other = eqb-false w (suc m) e in
         let x : ℕ = gap w ((w - 1) / 2) in
-        rw e (lt-ltb (suc m * suc m * (x * x) + w * w * (m * m)) (w * w * (suc m * suc m)) (oval w m (gap w ((w - 1) / 2)) (below-unless w (suc m) wide other) (middle-small w)))
+        rw e (lt-ltb (suc m * suc m * (x * x) + w * w * (m * m)) (w * w * (suc m * suc m))
+        (oval w m (gap w ((w - 1) / 2)) (below-unless w (suc m) wide other) (middle-small w)))
 
     inside : belowThreshold (containsOf w (suc m)) (gap w ((w - 1) / 2)) (gap (suc m) 0) ≡ true
     inside = ap (belowThreshold (containsOf w (suc m)) (gap w ((w - 1) / 2))) edge ∙ by-sides (eqb w (suc m)) refl

@@ -1,6 +1,7 @@
--- `place_rules::area_rows` meets its contract: by the kind, and for an ellipse that is higher than wide by the test of its first row.
+-- `place_rules::area_rows` meets its contract: by the kind, and for an ellipse that is higher than wide by the test of its
+-- first row.
 -- Assumes nothing.
-use mathlib.Core.Path.{_≡_, sym, ap, _∙_}
+use mathlib.Core.Path.{sym, _∙_}
 use Prim.Native.Nat.{_+_, _*_}
 use native.Mathlib.Omega.{arith}
 use borrow.Author.Tests.{not-true, not-false, ltb-true, leb-true}
@@ -23,7 +24,8 @@ is-wide-requires c κs = search needs
 returns : tie.Need-returns
 returns c =
     let a = c .before .before .before .args in
-    let parts = and-true-parts (ltb 0 (a .height)) (leb (a .height) (a .width)) (sym (c .before .is-wide .ensures) ∙ c .if2 .taken) in
+    let parts = and-true-parts (ltb 0 (a .height)) (leb (a .height) (a .width))
+    (sym (c .before .is-wide .ensures) ∙ c .if2 .taken) in
     let tall = ltb-true 0 (a .height) (parts .0) in
     let wide = leb-true (a .height) (a .width) (parts .1) in
     let rows = wide-rows (a .width + 2 * a .outside) (a .height + 2 * a .outside) (omega arith) (omega arith) in
@@ -42,10 +44,24 @@ has-rows-requires : tie.Need-has-rows-requires
 has-rows-requires c κs = search needs
 
 returns-2 : tie.Need-returns-2
-returns-2 c = (rw (c .before .before .before .before .before .if1 .taken, sym (c .before .has-rows .ensures) ∙ not-true _ (c .if3 .taken)), omega arith)
+returns-2 c = (
+  rw (
+    c .before .before .before .before .before .if1 .taken,
+    sym (c .before .has-rows .ensures)
+        ∙ not-true _ (c .if3 .taken),
+  ),
+  omega arith,
+)
 
 returns-3 : tie.Need-returns-3
-returns-3 c = (rw (c .before .before .before .before .before .if1 .taken, sym (c .before .has-rows .ensures) ∙ not-false _ (c .if3 .left)), omega arith)
+returns-3 c = (
+  rw (
+    c .before .before .before .before .before .if1 .taken,
+    sym (c .before .has-rows .ensures)
+        ∙ not-false _ (c .if3 .left),
+  ),
+  omega arith,
+)
 
 returns-4 : tie.Need-returns-4
 returns-4 c = (rw (c .if1 .left), omega arith)

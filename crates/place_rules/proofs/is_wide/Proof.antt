@@ -1,6 +1,5 @@
 -- `place_rules::is_wide` meets its contract: by whether there is a height.
 -- Assumes nothing.
-use mathlib.Core.Path.{_≡_}
 use native.Mathlib.Omega.{arith}
 use borrow.Author.Tests.{lt-ltb, le-ltb}
 use Rattle.place_rules.proofs.is_wide.Statement.{statement}
