@@ -33,6 +33,7 @@ use Rattle.drawing.specs.Drawing.{answerOf, styledCheck}
 use Rattle.layers.proofs.LayerRules.{answer-passed}
 use Rattle.record_numbers.specs.RecordNumbers.{numberAt, listFrom, allFrom, within, noneNegative, isFigure, isStyle, sizeOf, cornersOf, figureOf, styleOf}
 use Rattle.sheet_record.specs.SheetRecord.{isLayer, layerOf}
+use Rattle.sheet_record.proofs.ReadBack.{each-of-all, all-of-each}
 use Rattle.place_rules.specs.PlaceRules.{radiusKept, highestRadius, radiiKept, rectangleKept, figureKept, styleKept}
 
 -- ---- tests joined
@@ -85,25 +86,6 @@ pub record PlaceLimits (f : ℕ → ℤ) : Type 0 where
   pub fill : Between (negsuc 0) (pos 255) (f 14)
   pub stroke-width : Between (pos 0) (pos 256) (f 15)
   pub alignment : Between (pos 0) (pos 2) (f 16)
-
--- a test that holds for each of some things holds for all, and back
-module _ (test : ℕ → Bool) where
-  pub each-of-all : (n j k : ℕ) → j ≤ k → suc k ≤ j + n → allFrom test j n ≡ true → test k ≡ true
-  unfolding allFrom
-  each-of-all zero j k from to all = absurd (omega arith)
-  each-of-all (suc n) j k from to all =
-      let parts = and-true-parts (test j) (allFrom test (suc j) n) all in
-      by-place (k - j) refl (parts .0) (λ later. each-of-all n (suc j) k later (omega arith) (parts .1))
-    where
-      by-place : (d : ℕ) → k - j ≡ d → test j ≡ true → (suc j ≤ k → test k ≡ true) → test k ≡ true
-      by-place zero at here later = let same : k ≡ j = omega arith in ap test same ∙ here
-      by-place (suc d) at here later = later (omega arith)
-
-  pub all-of-each : (n j : ℕ) → ((k : ℕ) → j ≤ k → suc k ≤ j + n → test k ≡ true) → allFrom test j n ≡ true
-  unfolding allFrom
-  all-of-each zero j each = refl
-  all-of-each (suc n) j each =
-      and-true-of (each j (omega arith) (omega arith)) (all-of-each n (suc j) (λ k from to. each k (omega arith) (omega arith)))
 
 module _ (f : ℕ → ℤ) where
   abbrev numbers : List ℤ

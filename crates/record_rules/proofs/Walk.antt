@@ -15,7 +15,7 @@ use Rattle.record_numbers.specs.RecordNumbers.{listFrom, allFrom}
 use Rattle.record_numbers.proofs.Walks.{list-from-here, all-from-here}
 use Rattle.sheet_record.specs.SheetRecord.{placeNumbers}
 use Rattle.place_rules.specs.PlaceRules.{placeKept}
-use Rattle.place_rules.proofs.Limits.{each-of-all}
+use Rattle.sheet_record.proofs.ReadBack.{each-of-all}
 use Rattle.record_rules.specs.declared.PaintedRows.{PaintedRows}
 use Rattle.record_rules.specs.declared.Asked.{Asked}
 use Rattle.record_rules.specs.declared.PlacesTested.the-variants as places-tested

@@ -9,7 +9,7 @@ use Rattle.layer_rows.specs.LayerRows.{rowsOvertake, noRowsOvertake}
 use Rattle.record_numbers.proofs.Walks.{list-from-here, list-from-past}
 use Rattle.sheet_record.specs.SheetRecord.{placeNumbers}
 use Rattle.place_rules.specs.PlaceRules.{placeKept}
-use Rattle.place_rules.proofs.Limits.{each-of-all}
+use Rattle.sheet_record.proofs.ReadBack.{each-of-all}
 use Rattle.record_rules.specs.RecordRules.{rowsAt, rowsFrom}
 use Rattle.record_rules.proofs.Painted.{overtake-by-painted}
 use Rattle.record_rules.proofs.none_overtakes.Statement.{statement}
