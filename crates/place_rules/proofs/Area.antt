@@ -8,7 +8,7 @@ use native.Mathlib.Omega.{arith}
 use lib.IntN.{ℤ, pos, _+ℤ_, _-ℤ_}
 use borrow.Author.Tests.{ne-eqb}
 use lib.Dec.{eqb}
-use lib.ListN.{length, take, drop}
+use lib.ListN.{length, take}
 use lib.Signed.{ltZ, mag}
 use mir.Syntax.{w32}
 use mir.Val.{hbits, SFits}
@@ -19,7 +19,6 @@ use Rattle.side.specs.Side.{centerTerm, offsetSide}
 use Rattle.side.proofs.Parts.{offset-side-by-parts}
 use Rattle.rectangle.specs.declared.Rectangle.{Rectangle}
 use Rattle.rectangle.specs.Rectangle.{center, withCenter, offset as Rectangle·offset}
-use Rattle.ellipse_points.specs.EllipsePoints.{rowCount}
 use Rattle.ellipse_points.specs.Relative.{firstRowInside}
 use Rattle.ellipse_points.proofs.Rows.{row-count-relative}
 use Rattle.figure.specs.declared.Figure.{Figure}
@@ -27,7 +26,7 @@ use Rattle.figure.specs.declared.Figure.the-variants.{Ellipse, CrateBox, W3cBox
 use Rattle.figure.specs.Bounds.{widePosition, wideOffset, wideOwnSide, wideAreaPosition}
 use Rattle.style.specs.declared.StrokeAlignment.{StrokeAlignment}
 use Rattle.style.specs.declared.Style.{Style}
-use Rattle.style.specs.Style.{outsideWidth, insideWidth, outsideStrokeWidth}
+use Rattle.style.specs.Style.{outsideWidth, outsideStrokeWidth}
 use Rattle.style.proofs.StrokeWidths.{widths-make-stroke}
 use Rattle.drawing.specs.declared.StrokeRows.{StrokeRows}
 use Rattle.drawing.specs.Rows.{boxRows, ellipseRows, strokeRows}
@@ -74,7 +73,8 @@ module _ (n : List ℤ) (limits : PlaceLimits (numberAt n)) where
       let width = limits .stroke-width in
       omega (arith, int, outside-le (alignmentOf (numberAt n 16)) (floor0 (numberAt n 15)))
 
-pub less-near : (z : ℤ) (n : ℕ) {r : ℤ} → Near widePosition z → n ≤ wideOffset → r ≡ z -ℤ pos n → SFits w32 r → Near wideAreaPosition r
+pub less-near : (z : ℤ) (n : ℕ) {r : ℤ} → Near widePosition z → n ≤ wideOffset → r ≡ z -ℤ pos n → SFits w32 r
+    → Near wideAreaPosition r
 less-near z n near few is fits =
     let above = near .above in
     let below = near .below in
@@ -84,7 +84,8 @@ side-offset : (side k : ℕ) → offsetSide side (pos k) ≡ side + 2 * k
 side-offset side k = omega (arith, offset-side-by-parts side (pos k))
 
 -- a stroke area's top, by the centres
-top-of-area : (y : ℤ) (h k : ℕ) → (y +ℤ pos (centerTerm h)) -ℤ pos (centerTerm (offsetSide h (pos k))) ≡ y -ℤ pos (rowsAbove h k)
+top-of-area : (y : ℤ) (h k : ℕ)
+    → (y +ℤ pos (centerTerm h)) -ℤ pos (centerTerm (offsetSide h (pos k))) ≡ y -ℤ pos (rowsAbove h k)
 top-of-area y zero k =
     let grown = side-offset 0 k in
     let term : centerTerm (offsetSide 0 (pos k)) ≡ k - 1 = omega arith in
@@ -94,7 +95,14 @@ top-of-area y (suc h) k =
     let grown = side-offset (suc h) k in
     let term : centerTerm (offsetSide (suc h) (pos k)) ≡ centerTerm (suc h) + k = omega arith in
     let whole : k ≡ rowsAbove (suc h) k = rw (ne-eqb (suc h) 0 (λ none. omega arith)) in
-    let plain : (y +ℤ pos (centerTerm (suc h))) -ℤ pos (centerTerm (suc h) + k) ≡ y -ℤ pos k = omega (arith, int, add-law y (pos (centerTerm (suc h))), sub-law (y +ℤ pos (centerTerm (suc h))) (pos (centerTerm (suc h) + k)), sub-law y (pos k)) in
+    let plain : (y +ℤ pos (centerTerm (suc h))) -ℤ pos (centerTerm (suc h) + k) ≡ y -ℤ pos k = omega (
+      arith,
+      int,
+      add-law y (pos (centerTerm (suc h))),
+      sub-law (y +ℤ pos (centerTerm (suc h)))
+          (pos (centerTerm (suc h) + k)),
+      sub-law y (pos k),
+    ) in
     ap (λ (n : ℕ). (y +ℤ pos (centerTerm (suc h))) -ℤ pos n) term ∙ plain ∙ ap (λ (n : ℕ). y -ℤ pos n) whole
 
 -- ---- the rows of an area
@@ -128,7 +136,11 @@ module _ (r : Rectangle) (k : ℕ) where
 
   ellipse-rows-are : ellipseRows area ≡ rows true
   ellipse-rows-are i =
-      record { first = area-top i; count = (row-count-relative area ∙ ap₂ (λ (a b : ℕ). cond (firstRowInside a b) b 0) area-width area-height) i }
+      record {
+        first = area-top i;
+        count =
+            (row-count-relative area ∙ ap₂ (λ (a b : ℕ). cond (firstRowInside a b) b 0) area-width area-height) i;
+      }
 
 -- ---- the rows of a place's layer
 module _ (f : ℕ → ℤ) where
@@ -165,15 +177,18 @@ module _ (f : ℕ → ℤ) where
       by-kind false e true d =
           let figure : layerOf numbers .figure ≡ CrateBox (boxOf (take 13 numbers)) = rw (e, d) in
           ap (λ (g : Figure). strokeRows g style) figure
-          ∙ rows-of-crate-box style (boxOf (take 13 numbers)) ∙ box-rows-are own (outsideStrokeWidth style) ∙ ap₂ by (sym e) outside-is
+          ∙ rows-of-crate-box style (boxOf (take 13 numbers)) ∙ box-rows-are own (outsideStrokeWidth style)
+          ∙ ap₂ by (sym e) outside-is
       by-kind false e false d =
           let figure : layerOf numbers .figure ≡ W3cBox (boxOf (take 13 numbers)) = rw (e, d) in
           ap (λ (g : Figure). strokeRows g style) figure
-          ∙ rows-of-w3c-box style (boxOf (take 13 numbers)) ∙ box-rows-are own (outsideStrokeWidth style) ∙ ap₂ by (sym e) outside-is
+          ∙ rows-of-w3c-box style (boxOf (take 13 numbers)) ∙ box-rows-are own (outsideStrokeWidth style)
+          ∙ ap₂ by (sym e) outside-is
 
 -- the same of any 18 numbers
 pub rows-of-place : (l : List ℤ) → length l ≡ 18
     → strokeRows (layerOf l .figure) (layerOf l .style) ≡ record { first = firstRowOf l; count = countOf l }
 rows-of-place l long =
-    subst (λ (n : List ℤ). strokeRows (layerOf n .figure) (layerOf n .style) ≡ record { first = firstRowOf n; count = countOf n })
+    subst (λ (n : List ℤ). strokeRows (layerOf n .figure)
+    (layerOf n .style) ≡ record { first = firstRowOf n; count = countOf n })
     (sym (eighteen-numbers l long)) (rows-by-numbers (numberAt l))

@@ -1,21 +1,21 @@
--- The numbers of a place within limits: by the tests of the numbers, and by `isLayer` and the check of the figure and the style that
--- they are. The two are equal.
+-- The numbers of a place within limits: by the tests of the numbers, and by `isLayer` and the check of the figure and the style
+-- that they are. The two are equal.
 -- Assumes nothing.
 use mathlib.Core.Path.{_≡_, refl, sym, ap, subst, _∙_}
-use mathlib.Core.Bool.{Bool, true, false, cond, _&&_, _||_, false≢true}
+use mathlib.Core.Bool.{Bool, true, false, _&&_, _||_, false≢true}
 use mathlib.Core.List.{List, [], _∷_}
 use Prim.Native.Nat.{ℕ, zero, suc, _+_, _-_, _≤_, _<_, _^_}
 use native.Mathlib.Omega.{arith}
 use borrow.Author.Tests.{le-ltb}
 use lib.IntN.{ℤ, pos, negsuc, natAbs}
-use lib.ListN.{length, take, drop}
+use lib.ListN.{length, take}
 use lib.Signed.{leZ, ltZ, mag}
 use mir.Syntax.{w32}
 use mir.Val.{hbits}
 use Rattle.signed.specs.Signed.{floor0, Near}
 use Rattle.signed.proofs.Laws.{int, magnitude-law}
 use Rattle.refusal.specs.declared.Checked.{Checked}
-use Rattle.refusal.specs.declared.Checked.the-variants.{Passed, Refused}
+use Rattle.refusal.specs.declared.Checked.the-variants.{Passed}
 use Rattle.refusal.specs.Refusal.{orElse}
 use Rattle.refusal.proofs.Checks.{passed-first, passed-next}
 use Rattle.geometry.specs.Checks.{sizeCheck, positionCheck}
@@ -31,8 +31,9 @@ use Rattle.book.specs.Sheet.{isAccepted}
 use Rattle.book.proofs.Tests.{and-true-parts, and-true-of, is-accepted-true, tests-equal}
 use Rattle.drawing.specs.Drawing.{answerOf, styledCheck}
 use Rattle.layers.proofs.LayerRules.{answer-passed}
-use Rattle.record_numbers.specs.RecordNumbers.{numberAt, listFrom, allFrom, within, noneNegative, isFigure, isStyle, sizeOf, rectangleOf, cornersOf, figureOf, styleOf}
+use Rattle.record_numbers.specs.RecordNumbers.{numberAt, listFrom, allFrom, within, noneNegative, isFigure, isStyle, sizeOf, cornersOf, figureOf, styleOf}
 use Rattle.sheet_record.specs.SheetRecord.{isLayer, layerOf}
+use Rattle.sheet_record.proofs.ReadBack.{each-of-all, all-of-each}
 use Rattle.place_rules.specs.PlaceRules.{radiusKept, highestRadius, radiiKept, rectangleKept, figureKept, styleKept}
 
 -- ---- tests joined
@@ -85,25 +86,6 @@ pub record PlaceLimits (f : ℕ → ℤ) : Type 0 where
   pub fill : Between (negsuc 0) (pos 255) (f 14)
   pub stroke-width : Between (pos 0) (pos 256) (f 15)
   pub alignment : Between (pos 0) (pos 2) (f 16)
-
--- a test that holds for each of some things holds for all, and back
-module _ (test : ℕ → Bool) where
-  pub each-of-all : (n j k : ℕ) → j ≤ k → suc k ≤ j + n → allFrom test j n ≡ true → test k ≡ true
-  unfolding allFrom
-  each-of-all zero j k from to all = absurd (omega arith)
-  each-of-all (suc n) j k from to all =
-      let parts = and-true-parts (test j) (allFrom test (suc j) n) all in
-      by-place (k - j) refl (parts .0) (λ later. each-of-all n (suc j) k later (omega arith) (parts .1))
-    where
-      by-place : (d : ℕ) → k - j ≡ d → test j ≡ true → (suc j ≤ k → test k ≡ true) → test k ≡ true
-      by-place zero at here later = let same : k ≡ j = omega arith in ap test same ∙ here
-      by-place (suc d) at here later = later (omega arith)
-
-  pub all-of-each : (n j : ℕ) → ((k : ℕ) → j ≤ k → suc k ≤ j + n → test k ≡ true) → allFrom test j n ≡ true
-  unfolding allFrom
-  all-of-each zero j each = refl
-  all-of-each (suc n) j each =
-      and-true-of (each j (omega arith) (omega arith)) (all-of-each n (suc j) (λ k from to. each k (omega arith) (omega arith)))
 
 module _ (f : ℕ → ℤ) where
   abbrev numbers : List ℤ
@@ -202,12 +184,27 @@ module _ (f : ℕ → ℤ) where
   layer-of-limits : PlaceLimits f → isLayer numbers ≡ true
   unfolding isFigure isStyle noneNegative listFrom
   layer-of-limits l =
-      rw (l .kind .0, l .kind .1, l .width .0, l .height .0,
-          radius-sign l 5 (omega arith) (omega arith), radius-sign l 6 (omega arith) (omega arith),
-          radius-sign l 7 (omega arith) (omega arith), radius-sign l 8 (omega arith) (omega arith),
-          radius-sign l 9 (omega arith) (omega arith), radius-sign l 10 (omega arith) (omega arith),
-          radius-sign l 11 (omega arith) (omega arith), radius-sign l 12 (omega arith) (omega arith),
-          l .stroke .0, l .stroke .1, l .fill .0, l .fill .1, l .stroke-width .0, l .alignment .0, l .alignment .1)
+      rw (
+        l .kind .0,
+        l .kind .1,
+        l .width .0,
+        l .height .0,
+        radius-sign l 5 (omega arith) (omega arith),
+        radius-sign l 6 (omega arith) (omega arith),
+        radius-sign l 7 (omega arith) (omega arith),
+        radius-sign l 8 (omega arith) (omega arith),
+        radius-sign l 9 (omega arith) (omega arith),
+        radius-sign l 10 (omega arith) (omega arith),
+        radius-sign l 11 (omega arith) (omega arith),
+        radius-sign l 12 (omega arith) (omega arith),
+        l .stroke .0,
+        l .stroke .1,
+        l .fill .0,
+        l .fill .1,
+        l .stroke-width .0,
+        l .alignment .0,
+        l .alignment .1,
+      )
 
   -- ---- and their figure and style pass their checks
   size-passes : PlaceLimits f → sizeCheck (sizeOf (f 3) (f 4)) ≡ Passed
@@ -237,14 +234,16 @@ module _ (f : ℕ → ℤ) where
   radii-pass : PlaceLimits f → any ≡ false → radiiCheck (cornersOf (take 13 numbers)) ≡ Passed
   unfolding radiiCheck radiusCheck listFrom
   radii-pass l box =
-      rw (le-ltb 1024 (floor0 (f 5)) (radius-small l box 5 (omega arith) (omega arith)),
-          le-ltb 1024 (floor0 (f 6)) (radius-small l box 6 (omega arith) (omega arith)),
-          le-ltb 1024 (floor0 (f 7)) (radius-small l box 7 (omega arith) (omega arith)),
-          le-ltb 1024 (floor0 (f 8)) (radius-small l box 8 (omega arith) (omega arith)),
-          le-ltb 1024 (floor0 (f 9)) (radius-small l box 9 (omega arith) (omega arith)),
-          le-ltb 1024 (floor0 (f 10)) (radius-small l box 10 (omega arith) (omega arith)),
-          le-ltb 1024 (floor0 (f 11)) (radius-small l box 11 (omega arith) (omega arith)),
-          le-ltb 1024 (floor0 (f 12)) (radius-small l box 12 (omega arith) (omega arith)))
+      rw (
+        le-ltb 1024 (floor0 (f 5)) (radius-small l box 5 (omega arith) (omega arith)),
+        le-ltb 1024 (floor0 (f 6)) (radius-small l box 6 (omega arith) (omega arith)),
+        le-ltb 1024 (floor0 (f 7)) (radius-small l box 7 (omega arith) (omega arith)),
+        le-ltb 1024 (floor0 (f 8)) (radius-small l box 8 (omega arith) (omega arith)),
+        le-ltb 1024 (floor0 (f 9)) (radius-small l box 9 (omega arith) (omega arith)),
+        le-ltb 1024 (floor0 (f 10)) (radius-small l box 10 (omega arith) (omega arith)),
+        le-ltb 1024 (floor0 (f 11)) (radius-small l box 11 (omega arith) (omega arith)),
+        le-ltb 1024 (floor0 (f 12)) (radius-small l box 12 (omega arith) (omega arith)),
+      )
 
   style-passes : PlaceLimits f → styleCheck (layerOf numbers .style) ≡ Passed
   unfolding styleCheck styleOf listFrom
@@ -267,7 +266,8 @@ module _ (f : ℕ → ℤ) where
   abbrev signs : ℕ → ℕ → Bool
   signs j n = noneNegative (listFrom f j n)
 
-  is-layer-by : isLayer numbers ≡ ((within (pos 0) (pos 2) (f 0) && signs 3 10) && (s13 && (s14 && (leZ (pos 0) (f 15) && s16))))
+  is-layer-by : isLayer numbers
+      ≡ ((within (pos 0) (pos 2) (f 0) && signs 3 10) && (s13 && (s14 && (leZ (pos 0) (f 15) && s16))))
   unfolding isFigure isStyle listFrom
   is-layer-by = refl
 
@@ -278,7 +278,8 @@ module _ (f : ℕ → ℤ) where
       let parts = and-true-parts (leZ (pos 0) (f j)) (signs (suc j) n) e in
       by-place (k - j) refl (parts .0) (λ later. sign-of n (suc j) k later (omega arith) (parts .1))
     where
-      by-place : (d : ℕ) → k - j ≡ d → leZ (pos 0) (f j) ≡ true → (suc j ≤ k → leZ (pos 0) (f k) ≡ true) → leZ (pos 0) (f k) ≡ true
+      by-place : (d : ℕ) → k - j ≡ d → leZ (pos 0) (f j) ≡ true → (suc j ≤ k → leZ (pos 0) (f k) ≡ true)
+          → leZ (pos 0) (f k) ≡ true
       by-place zero at here later = let same : k ≡ j = omega arith in ap (λ (i : ℕ). leZ (pos 0) (f i)) same ∙ here
       by-place (suc d) at here later = later (omega arith)
 
@@ -304,7 +305,12 @@ module _ (f : ℕ → ℤ) where
       boxed : orElse (orElse size radii) position ≡ Passed → FigureChecked
       boxed e =
           let sizes = passed-first (orElse size radii) position e in
-          record { size = passed-first size radii sizes; position = passed-next (orElse size radii) position e; radii = λ _. passed-next size radii sizes }
+          record {
+            size = passed-first size radii sizes;
+            position = passed-next
+                (orElse size radii) position e;
+            radii = λ _. passed-next size radii sizes;
+          }
 
       by-kind : (t : Bool) → any ≡ t → (s : Bool) → ltZ (f 0) (pos 2) ≡ s → FigureChecked
       by-kind true e s d =
@@ -335,10 +341,12 @@ module _ (f : ℕ → ℤ) where
       let same : 5 + (k - 5) ≡ k = omega arith in
       subst (λ (j : ℕ). floor0 (f j) ≤ 1024) same (corner-radius (k - 5) (omega arith) r)
 
-  limits-of-layer : isLayer numbers ≡ true → styledCheck (layerOf numbers .figure) (layerOf numbers .style) ≡ Passed → PlaceLimits f
+  limits-of-layer : isLayer numbers ≡ true → styledCheck (layerOf numbers .figure) (layerOf numbers .style) ≡ Passed
+      → PlaceLimits f
   unfolding styledCheck
   limits-of-layer layer passed =
-      let both = and-true-parts (within (pos 0) (pos 2) (f 0) && signs 3 10) (s13 && (s14 && (leZ (pos 0) (f 15) && s16))) (sym is-layer-by ∙ layer) in
+      let both = and-true-parts (within (pos 0) (pos 2) (f 0) && signs 3 10) (s13 && (s14 && (leZ (pos 0) (f 15) && s16)))
+      (sym is-layer-by ∙ layer) in
       let figure = and-true-parts (within (pos 0) (pos 2) (f 0)) (signs 3 10) (both .0) in
       let a = and-true-parts s13 (s14 && (leZ (pos 0) (f 15) && s16)) (both .1) in
       let b = and-true-parts s14 (leZ (pos 0) (f 15) && s16) (a .1) in
@@ -346,7 +354,8 @@ module _ (f : ℕ → ℤ) where
       let fig = figureCheck (layerOf numbers .figure) in
       let sty = styleCheck (layerOf numbers .style) in
       let checked = figure-checked (passed-first fig sty passed) in
-      let sign : (k : ℕ) → 3 ≤ k → k ≤ 12 → leZ (pos 0) (f k) ≡ true = λ k from to. sign-of 10 3 k from (omega arith) (figure .1) in
+      let sign : (k : ℕ) → 3 ≤ k → k ≤ 12 → leZ (pos 0) (f k) ≡ true = λ k from to. sign-of 10 3 k from (omega arith)
+      (figure .1) in
       record {
         kind = between (pos 0) (pos 2) (f 0) (figure .0);
         x = near-between (f 1) (position-passed _ (checked .position) .x);
@@ -385,10 +394,13 @@ module _ (f : ℕ → ℤ) where
 
 -- ---- the same of any 18 numbers
 module _ (l : List ℤ) (long : length l ≡ 18) where
-  pub kept-is-layer : (figureKept l && styleKept l) ≡ (isLayer l && isAccepted (answerOf (styledCheck (layerOf l .figure) (layerOf l .style))))
+  pub kept-is-layer : (figureKept l && styleKept l)
+      ≡ (isLayer l && isAccepted (answerOf (styledCheck (layerOf l .figure) (layerOf l .style))))
   kept-is-layer =
-      subst (λ (n : List ℤ). (figureKept n && styleKept n) ≡ (isLayer n && isAccepted (answerOf (styledCheck (layerOf n .figure) (layerOf n .style)))))
+      subst (λ (n : List ℤ). (figureKept n && styleKept n) ≡
+      (isLayer n && isAccepted (answerOf (styledCheck (layerOf n .figure) (layerOf n .style)))))
       (sym (eighteen-numbers l long)) (kept-by-limits (numberAt l))
 
   pub kept-limits : (figureKept l && styleKept l) ≡ true → PlaceLimits (numberAt l)
-  kept-limits e = limits-of-kept (numberAt l) (sym (ap (λ (n : List ℤ). figureKept n && styleKept n) (eighteen-numbers l long)) ∙ e)
+  kept-limits e =
+      limits-of-kept (numberAt l) (sym (ap (λ (n : List ℤ). figureKept n && styleKept n) (eighteen-numbers l long)) ∙ e)

@@ -45,7 +45,8 @@ module _ (n : List ℤ) (long : length n ≡ 18) where
       let end : leZ (rows .next) (rows .end) ≡ false = omega (arith, int) in
       place-kept-by ∙ rw (end, and-false (leZ (rows .first) (rows .next))) (and-false limits)
 
-  pub place-among : limits ≡ true → ltZ (rows .next) (rows .first) ≡ false → ltZ (rows .end) (rows .next) ≡ false → placeKept n ≡ true
+  pub place-among : limits ≡ true → ltZ (rows .next) (rows .first) ≡ false → ltZ (rows .end) (rows .next) ≡ false
+      → placeKept n ≡ true
   place-among within from to =
       let first : leZ (rows .first) (rows .next) ≡ true = omega (arith, int) in
       let end : leZ (rows .next) (rows .end) ≡ true = omega (arith, int) in
@@ -53,4 +54,5 @@ module _ (n : List ℤ) (long : length n ≡ 18) where
 
   -- and a layer that keeps its rules is within limits
   pub place-within : placeKept n ≡ true → limits ≡ true
-  place-within kept = and-true-parts limits (leZ (rows .first) (rows .next) && leZ (rows .next) (rows .end)) (sym place-kept-by ∙ kept) .0
+  place-within kept =
+      and-true-parts limits (leZ (rows .first) (rows .next) && leZ (rows .next) (rows .end)) (sym place-kept-by ∙ kept) .0

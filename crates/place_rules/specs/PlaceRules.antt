@@ -1,5 +1,5 @@
--- One place of a sheet's numbers by the tests and sums that the code makes on the numbers themselves. The laws of proofs/Limits.antt
--- and proofs/Area.antt equate them with the definitions of `sheet_record`, `drawing` and `layers`.
+-- One place of a sheet's numbers by the tests and sums that the code makes on the numbers themselves. The laws of
+-- proofs/Limits.antt and proofs/Area.antt equate them with the definitions of `sheet_record`, `drawing` and `layers`.
 -- Assumes nothing.
 use mathlib.Core.Bool.{Bool, cond, _&&_, _||_}
 use mathlib.Core.List.{List}

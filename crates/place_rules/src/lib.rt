@@ -8,11 +8,11 @@ use layers::RowsFound;
 use record_numbers::is_within;
 ghost use mathlib.Core.Path.{_≡_};
 ghost use mathlib.Core.Bool.{true, cond, _&&_};
-ghost use Prim.Native.Nat.{ℕ, _+_, _*_, _≤_};
+ghost use Prim.Native.Nat.{_+_, _*_, _≤_};
+ghost use lib.Dec.{leb, ltb};
 ghost use lib.IntN.{pos, _-ℤ_};
 ghost use lib.ListN.{length};
 ghost use Rattle.signed.specs.Signed.{Near, Is, floor0 as Signed·floor0};
-ghost use Rattle.ellipse_points.specs.Relative.{firstRowInside};
 ghost use Rattle.corner.specs.Bounds.{wideStrokeSide};
 ghost use Rattle.figure.specs.Bounds.{wideOffset, wideOwnSide, widePosition, wideAreaPosition};
 ghost use Rattle.style.specs.Style.{outsideWidth};
@@ -116,7 +116,18 @@ fn area_top(top: i32, height: u32, outside: u32) -> i32
     signed::sub(top, signed::from_u32(rows_above(height, outside)))
 }
 
-// How many rows the stroke area of an ellipse or of a box has.
+// Whether a figure has a height and is at least as wide as high.
+fn is_wide(width: u32, height: u32) -> bool
+    ensures { λ r. ⌜ r ≡ (ltb 0 height && leb height width) ⌝ }
+{
+    if height == 0 {
+        return false;
+    }
+    height <= width
+}
+
+// How many rows the stroke area of an ellipse or of a box has. An ellipse that is at least as wide as
+// high has rows, and needs no test.
 fn area_rows(ellipse: bool, width: u32, height: u32, outside: u32) -> u32
     requires { ⌜ (width ≤ wideOwnSide) × (height ≤ wideOwnSide) × (outside ≤ wideOffset) ⌝ }
     ensures { λ r. ⌜ r ≡ strokeCount ellipse (width + 2 * outside) (height + 2 * outside) ⌝ }
@@ -124,6 +135,9 @@ fn area_rows(ellipse: bool, width: u32, height: u32, outside: u32) -> u32
 {
     let high = height + 2 * outside;
     if ellipse {
+        if is_wide(width, height) {
+            return high;
+        }
         let size = Size {
             width: width + 2 * outside,
             height: high,

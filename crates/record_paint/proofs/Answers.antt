@@ -1,16 +1,15 @@
 -- The answers to a paint call on a sheet's numbers that keep the rules, by what is asked of the layers.
 -- Assumes nothing.
-use mathlib.Core.Path.{_≡_, refl, sym, ap, ap₂, subst, _∙_}
-use mathlib.Core.Bool.{Bool, true, false, cond, not, _&&_, _||_}
-use mathlib.Core.List.{List, [], _∷_, map}
+use mathlib.Core.Path.{_≡_, refl, sym, ap, ap₂, _∙_}
+use mathlib.Core.Bool.{Bool, true, false, cond, _&&_, _||_}
+use mathlib.Core.List.{List, map}
 use Prim.Native.Nat.{ℕ, zero, suc, _+_, _<_, _≤_}
 use native.Mathlib.Omega.{arith}
 use borrow.Author.Tests.{leb-true, leb-false, lt-leb, lt-ltb, le-ltb, eq-eqb, ne-eqb}
-use lib.Dec.{leb, ltb, eqb}
-use lib.IntN.{ℤ, pos}
+use lib.Dec.{leb}
+use lib.IntN.{ℤ}
 use lib.ListN.{length, take, getD}
 use lib.Signed.{leZ, ltZ}
-use Rattle.signed.specs.Signed.{floor0}
 use Rattle.signed.proofs.Laws.{int}
 use Rattle.refusal.specs.declared.Refusal.the-variants.{RowOwed}
 use Rattle.refusal.specs.declared.Checked.{Checked}
@@ -25,7 +24,7 @@ use Rattle.layers.specs.declared.Layer.{Layer}
 use Rattle.layers.specs.Layers.{blankLayer, layerRows}
 use Rattle.sheet_checks.proofs.Answers.{paint-length, paint-no-layer, paint-finished, paint-owed, paint-free}
 use Rattle.sheet.specs.Sheet.{sheetAnswer}
-use Rattle.record_numbers.specs.RecordNumbers.{numberAt, listFrom}
+use Rattle.record_numbers.specs.RecordNumbers.{listFrom}
 use Rattle.sheet_record.specs.SheetRecord.{placeNumbers, layerOf, sheetOf}
 use Rattle.sheet_record.proofs.Parts.{sixteen}
 use Rattle.sheet_record.proofs.ReadBack.{layer-in-place}
@@ -62,14 +61,16 @@ module _ (n : List ℤ) (layer : ℕ) (y : ℤ) where
       or-false : (t : Bool) → (t || false) ≡ t
       or-false true = refl
       or-false false = refl
-  left-at (suc d) (suc m) j at within = rw (ne-eqb j layer (λ same. omega arith)) (left-at d m (suc j) (omega arith) (omega arith))
+  left-at (suc d) (suc m) j at within =
+      rw (ne-eqb j layer (λ same. omega arith)) (left-at d m (suc j) (omega arith) (omega arith))
 
   owed-before : (d m j : ℕ) → layer ≡ j + d → d ≤ m → asked j m .owed ≡ someRowsOwe (rowsFrom n j d) y
   unfolding askedFrom someRowsOwe listFrom
   owed-before zero m j at within = none-owed m j (omega arith)
   owed-before (suc d) zero j at within = absurd (omega arith)
   owed-before (suc d) (suc m) j at within =
-      rw (lt-ltb j layer (omega arith)) (ap (λ (t : Bool). rowsOwe (rowsAt n j) y || t) (owed-before d m (suc j) (omega arith) (omega arith)))
+      rw (lt-ltb j layer (omega arith))
+      (ap (λ (t : Bool). rowsOwe (rowsAt n j) y || t) (owed-before d m (suc j) (omega arith) (omega arith)))
 
 -- ---- what the test of the places found
 module _ (n : List ℤ) (count layer : ℕ) (y : ℤ) where
@@ -80,15 +81,18 @@ module _ (n : List ℤ) (count layer : ℕ) (y : ℤ) where
   unfolding placesTested
   tested-broken e = by-test keeps e
     where
-      by-test : (t : Bool) → places-tested.Broken ≡ cond t (places-tested.Kept (askedFrom n layer y 0 count)) places-tested.Broken → t ≡ false
+      by-test : (t : Bool)
+          → places-tested.Broken ≡ cond t (places-tested.Kept (askedFrom n layer y 0 count)) places-tested.Broken → t ≡ false
       by-test true e = let z : _≡_ {A = ℕ} 0 1 = cc in absurd (omega arith)
       by-test false e = refl
 
-  pub tested-kept : (a : Asked) → places-tested.Kept a ≡ placesTested n count layer y → (keeps ≡ true) × (a ≡ askedFrom n layer y 0 count)
+  pub tested-kept : (a : Asked) → places-tested.Kept a ≡ placesTested n count layer y
+      → (keeps ≡ true) × (a ≡ askedFrom n layer y 0 count)
   unfolding placesTested
   tested-kept a e = by-test keeps e
     where
-      by-test : (t : Bool) → places-tested.Kept a ≡ cond t (places-tested.Kept (askedFrom n layer y 0 count)) places-tested.Broken
+      by-test : (t : Bool)
+          → places-tested.Kept a ≡ cond t (places-tested.Kept (askedFrom n layer y 0 count)) places-tested.Broken
           → (t ≡ true) × (a ≡ askedFrom n layer y 0 count)
       by-test true e = (refl, cc)
       by-test false e = let z : _≡_ {A = ℕ} 0 1 = cc in absurd (omega arith)
@@ -124,7 +128,8 @@ module _ (n : List ℤ) (long : length n ≡ 291) (count layer : ℕ) (canvas : 
       row : layer < count → nextOf n layer ≡ rowsAt n layer .next
       row within = rw (lt-ltb layer 16 (omega arith))
 
-      by-owed : canvasLengthCheck W H (length canvas) ≡ Passed → (within : layer < count) → found .left ≡ true → (t : Bool) → found .owed ≡ t
+      by-owed : canvasLengthCheck W H (length canvas) ≡ Passed → (within : layer < count) → found .left ≡ true → (t : Bool)
+          → found .owed ≡ t
           → answerOf (askedCheck W H (length canvas) count layer found) ≡ answered
       by-owed size within is-left t e =
           let whole : layer ≡ 0 + layer = omega arith in
@@ -136,11 +141,14 @@ module _ (n : List ℤ) (long : length n ≡ 291) (count layer : ℕ) (canvas : 
           ∙ sym (owed-before n layer (nextOf n layer) layer count 0 whole (omega arith)) ∙ e in
           rw (size, lt-leb count layer within, is-left, e) (by-test t owed going here)
         where
-          by-test : (t : Bool) → someRowsOwe (map layerRows (take layer (sheetOf n .layers))) (layerRows (getD (sheetOf n .layers) layer blankLayer) .next) ≡ t
+          by-test : (t : Bool)
+              → someRowsOwe (map layerRows (take layer (sheetOf n .layers))) (layerRows (getD (sheetOf n .layers) layer blankLayer) .next) ≡ t
               → leZ (layerRows (getD (sheetOf n .layers) layer blankLayer) .end) (layerRows (getD (sheetOf n .layers) layer blankLayer) .next) ≡ false
               → layer < sheetOf n .count → answerOf (refuseIf t RowOwed) ≡ answered
-          by-test true owed going here = sym (paint-owed W H (sheetOf n .count) (sheetOf n .layers) (sixteen n) layer canvas rules size here going owed)
-          by-test false owed going here = sym (paint-free W H (sheetOf n .count) (sheetOf n .layers) (sixteen n) layer canvas rules size here going owed)
+          by-test true owed going here =
+              sym (paint-owed W H (sheetOf n .count) (sheetOf n .layers) (sixteen n) layer canvas rules size here going owed)
+          by-test false owed going here =
+              sym (paint-free W H (sheetOf n .count) (sheetOf n .layers) (sixteen n) layer canvas rules size here going owed)
 
       by-left : canvasLengthCheck W H (length canvas) ≡ Passed → (within : layer < count) → (t : Bool) → found .left ≡ t
           → answerOf (askedCheck W H (length canvas) count layer found) ≡ answered
@@ -157,7 +165,9 @@ module _ (n : List ℤ) (long : length n ≡ 291) (count layer : ℕ) (canvas : 
       by-count : canvasLengthCheck W H (length canvas) ≡ Passed → (t : Bool) → leb count layer ≡ t
           → answerOf (askedCheck W H (length canvas) count layer found) ≡ answered
       by-count size true e =
-          rw (size, e) (sym (paint-no-layer W H (sheetOf n .count) (sheetOf n .layers) (sixteen n) layer canvas rules size (omega (arith, leb-true count layer e))))
+          rw (size, e)
+          (sym (paint-no-layer W H (sheetOf n .count) (sheetOf n .layers) (sixteen n) layer canvas rules size
+          (omega (arith, leb-true count layer e))))
       by-count size false e = by-left size (leb-false count layer e) (found .left) refl
 
       by-length : (check : Checked) → canvasLengthCheck W H (length canvas) ≡ check

@@ -1,10 +1,10 @@
--- The rules of a sheet's numbers by its places: where the size and the count are within limits, the rules are kept if each place holds a
--- layer that keeps its own and the layers are in order.
+-- The rules of a sheet's numbers by its places: where the size and the count are within limits, the rules are kept if each
+-- place holds a layer that keeps its own and the layers are in order.
 -- Assumes nothing.
-use mathlib.Core.Path.{_≡_, refl, sym, ap, ap₂, subst, _∙_}
+use mathlib.Core.Path.{_≡_, refl, sym, ap, ap₂, _∙_}
 use mathlib.Core.Bool.{Bool, true, false, cond, _&&_, true≢false}
 use mathlib.Core.List.{List, [], _∷_, map}
-use Prim.Native.Nat.{ℕ, zero, suc, _+_, _<_, _≤_, min}
+use Prim.Native.Nat.{ℕ, zero, suc, _<_, _≤_, min}
 use native.Mathlib.Omega.{arith}
 use lib.IntN.{ℤ, pos}
 use lib.ListN.{length, take}
@@ -14,10 +14,9 @@ use Rattle.signed.proofs.Laws.{int}
 use Rattle.refusal.specs.declared.Checked.the-variants.{Passed}
 use Rattle.canvas_size.specs.CanvasSize.{canvasSizeCheck}
 use Rattle.canvas_size.proofs.Sides.{canvas-size-passed}
-use Rattle.layer_rows.specs.declared.LayerRows.{LayerRows}
 use Rattle.layer_rows.specs.LayerRows.{rowsInOrder}
 use Rattle.book.specs.Sheet.{layerKeepsRules, keepsRules}
-use Rattle.book.proofs.Tests.{and-true-parts, and-true-of}
+use Rattle.book.proofs.Tests.{and-true-parts}
 use Rattle.drawing.specs.Drawing.{drawing}
 use Rattle.layers.specs.declared.Layer.{Layer}
 use Rattle.layers.specs.Layers.{layersOf, layerRows}
@@ -25,10 +24,9 @@ use Rattle.layers.specs.Layers.{layerOf as Layers·layerOf}
 use Rattle.layers.proofs.LayerRules.{eachKeeps, kept-by-parts}
 use Rattle.sheet_checks.proofs.Places.{broken-count, kept-by-layers}
 use Rattle.record_numbers.specs.RecordNumbers.{numberAt, listFrom, allFrom, within, noneNegative}
-use Rattle.sheet_record.specs.SheetRecord.{placeNumbers, isLayer, holdsRecords, layerOf, countOf, sheetOf}
+use Rattle.sheet_record.specs.SheetRecord.{placeNumbers, isLayer, holdsRecords, layerOf, sheetOf}
 use Rattle.sheet_record.proofs.Parts.{sixteen, count-of-records}
-use Rattle.place_rules.specs.PlaceRules.{placeKept}
-use Rattle.record_rules.specs.RecordRules.{rowsAt, rowsFrom, placesKept}
+use Rattle.record_rules.specs.RecordRules.{rowsFrom, placesKept}
 
 -- ---- lists made place by place
 pub take-list-from : {A : Type 0} (f : ℕ → A) (k j m : ℕ) → k ≤ m → take k (listFrom f j m) ≡ listFrom f j k
@@ -42,10 +40,12 @@ unfolding listFrom
 map-list-from g f j zero = refl
 map-list-from g f j (suc n) = ap (λ (l : List _). g (f j) ∷ l) (map-list-from g f (suc j) n)
 
-each-keeps-from : (f : ℕ → Layer) (j n : ℕ) → eachKeeps (listFrom f j n) ≡ allFrom (λ k. layerKeepsRules drawing (Layers·layerOf (f k))) j n
+each-keeps-from : (f : ℕ → Layer) (j n : ℕ)
+    → eachKeeps (listFrom f j n) ≡ allFrom (λ k. layerKeepsRules drawing (Layers·layerOf (f k))) j n
 unfolding eachKeeps listFrom allFrom
 each-keeps-from f j zero = refl
-each-keeps-from f j (suc n) = ap (λ (t : Bool). layerKeepsRules drawing (Layers·layerOf (f j)) && t) (each-keeps-from f (suc j) n)
+each-keeps-from f j (suc n) =
+    ap (λ (t : Bool). layerKeepsRules drawing (Layers·layerOf (f j)) && t) (each-keeps-from f (suc j) n)
 
 -- two tests of each place are one test of all and the other of all
 regroup : (a b c d : Bool) → ((a && b) && (c && d)) ≡ ((a && c) && (b && d))
@@ -59,11 +59,13 @@ all-both : (s t : ℕ → Bool) (j n : ℕ) → allFrom (λ k. s k && t k) j n �
 unfolding allFrom
 all-both s t j zero = refl
 all-both s t j (suc n) =
-    ap (λ (u : Bool). (s j && t j) && u) (all-both s t (suc j) n) ∙ regroup (s j) (t j) (allFrom s (suc j) n) (allFrom t (suc j) n)
+    ap (λ (u : Bool). (s j && t j) && u) (all-both s t (suc j) n)
+    ∙ regroup (s j) (t j) (allFrom s (suc j) n) (allFrom t (suc j) n)
 
 -- the first three numbers
 three-numbers : (n : List ℤ) → 3 ≤ length n
-    → noneNegative (take 3 n) ≡ (leZ (pos 0) (numberAt n 0) && (leZ (pos 0) (numberAt n 1) && (leZ (pos 0) (numberAt n 2) && true)))
+    → noneNegative (take 3 n)
+    ≡ (leZ (pos 0) (numberAt n 0) && (leZ (pos 0) (numberAt n 1) && (leZ (pos 0) (numberAt n 2) && true)))
 unfolding noneNegative
 three-numbers [] few = absurd (omega arith)
 three-numbers (a ∷ []) few = absurd (omega arith)
@@ -103,14 +105,16 @@ module _ (n : List ℤ) (long : length n ≡ 291) where
       let k0 : Bool = leZ (pos 0) (numberAt n 0) in
       let k1 : Bool = leZ (pos 0) (numberAt n 1) in
       let k2 : Bool = leZ (pos 0) (numberAt n 2) in
-      let sides = and-true-parts (noneNegative (take 3 n)) (allFrom (λ k. isLayer (placeNumbers n k)) 0 (min (floor0 (numberAt n 2)) 16)) holds .0 in
+      let sides = and-true-parts (noneNegative (take 3 n))
+      (allFrom (λ k. isLayer (placeNumbers n k)) 0 (min (floor0 (numberAt n 2)) 16)) holds .0 in
       let first = and-true-parts k0 (k1 && (k2 && true)) (sym (three-numbers n (omega arith)) ∙ sides) in
       let second = and-true-parts k1 (k2 && true) (first .1) in
       and-true-parts k2 true (second .1) .0
 
   -- a count that is negative or above 16
   pub broken-by-count : within (pos 0) (pos 16) (numberAt n 2) ≡ false → rulesKept ≡ false
-  broken-by-count beyond = broken-count W H (sheetOf n .count) (sheetOf n .layers) (sixteen n) (by-records (holdsRecords n) refl)
+  broken-by-count beyond =
+      broken-count W H (sheetOf n .count) (sheetOf n .layers) (sixteen n) (by-records (holdsRecords n) refl)
     where
       above : leZ (pos 0) (numberAt n 2) ≡ true → leZ (numberAt n 2) (pos 16) ≡ false
       above sign = sym (ap (λ (t : Bool). t && leZ (numberAt n 2) (pos 16)) sign) ∙ beyond
@@ -157,7 +161,8 @@ module _ (n : List ℤ) (long : length n ≡ 291) where
         keeps k = layerKeepsRules drawing (Layers·layerOf (place k))
 
         both : allFrom keeps 0 count ≡ placesKept n 0 count
-        both = sym (all-both (λ k. isLayer (placeNumbers n k)) keeps 0 count ∙ ap (λ (t : Bool). t && allFrom keeps 0 count) all)
+        both =
+            sym (all-both (λ k. isLayer (placeNumbers n k)) keeps 0 count ∙ ap (λ (t : Bool). t && allFrom keeps 0 count) all)
 
     pub rules-by-places : rulesKept ≡ (placesKept n 0 count && rowsInOrder (rowsFrom n 0 count))
     rules-by-places = by-layers layers refl
@@ -170,7 +175,8 @@ module _ (n : List ℤ) (long : length n ≡ 291) where
         by-layers false lacking =
             let none : placesKept n 0 count ≡ false =
             all-both (λ k. isLayer (placeNumbers n k)) keeps 0 count ∙ ap (λ (t : Bool). t && allFrom keeps 0 count) lacking in
-            broken-count W H (sheetOf n .count) (sheetOf n .layers) (sixteen n) (omega (arith, count-of-none (records-by-layers ∙ lacking)))
+            broken-count W H (sheetOf n .count) (sheetOf n .layers) (sixteen n)
+            (omega (arith, count-of-none (records-by-layers ∙ lacking)))
             ∙ sym (ap (λ (t : Bool). t && rowsInOrder (rowsFrom n 0 count)) none)
 
     -- a sheet that keeps the rules has the layers that it says

@@ -1,4 +1,5 @@
--- The checks of a paint call on a sheet's numbers as the code makes them. The laws of proofs/ equate them with the answers of `sheet`.
+-- The checks of a paint call on a sheet's numbers as the code makes them. The laws of proofs/ equate them with the answers of
+-- `sheet`.
 -- Assumes nothing.
 use mathlib.Core.Bool.{not, cond}
 use mathlib.Core.List.{List}
@@ -21,4 +22,5 @@ nextOf numbers layer = cond (ltb layer maxLayers) (rowsAt numbers layer .next) (
 unfoldable pub askedCheck : ℕ → ℕ → ℕ → ℕ → ℕ → Asked → Checked
 askedCheck W H bytes count layer asked =
     orElse (canvasLengthCheck W H bytes)
-    (orElse (refuseIf (leb count layer) NoLayer) (orElse (refuseIf (not (asked .left)) NoRowLeft) (refuseIf (asked .owed) RowOwed)))
+    (orElse (refuseIf (leb count layer) NoLayer)
+    (orElse (refuseIf (not (asked .left)) NoRowLeft) (refuseIf (asked .owed) RowOwed)))

@@ -67,8 +67,7 @@ pub fn check_paint(numbers: &[i32], layer: u32, bytes: usize) -> Checked
             }
             let count = signed::floor0(numbers[2]);
             let y = next_of(numbers, layer);
-            let PlacesTested::Kept(asked) =
-                test_places(numbers, count as usize, layer as usize, y)
+            let PlacesTested::Kept(asked) = test_places(numbers, count as usize, layer as usize, y)
             else {
                 return Checked::Refused(Refusal::SheetRule);
             };

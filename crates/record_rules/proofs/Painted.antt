@@ -1,8 +1,8 @@
--- The rows that later layers have painted: one layer more widens them, and an earlier layer whose rows left lie apart from them is
--- overtaken by none.
+-- The rows that later layers have painted: one layer more widens them, and an earlier layer whose rows left lie apart from them
+-- is overtaken by none.
 -- Assumes nothing.
 use mathlib.Core.Path.{_≡_, refl, sym, _∙_}
-use mathlib.Core.Bool.{Bool, true, false, not, _&&_}
+use mathlib.Core.Bool.{Bool, true, false, _&&_}
 use mathlib.Core.List.{List, [], _∷_}
 use Prim.Native.Nat.{ℕ, _+_, _*_}
 use native.Mathlib.Omega.{arith}
@@ -25,18 +25,21 @@ pub next-in-place : (n : List ℤ) (j : ℕ) → numberAt (placeNumbers n j) 17 
 next-in-place n j = getD-take 18 (drop (3 + 18 * j) n) 17 (pos 0) (omega arith) ∙ getD-drop (3 + 18 * j) n 17 (pos 0)
 
 -- whether a layer is overtaken goes by the first and the next row of the later one
-pub overtake-by-painted : (earlier a b : LayerRows) → a .first ≡ b .first → a .next ≡ b .next → rowsOvertake earlier a ≡ rowsOvertake earlier b
+pub overtake-by-painted : (earlier a b : LayerRows) → a .first ≡ b .first → a .next ≡ b .next
+    → rowsOvertake earlier a ≡ rowsOvertake earlier b
 unfolding rowsOvertake
 overtake-by-painted earlier a b p q i =
     (ltZ (p i) (q i) && ltZ (p i) (earlier .end)) && (ltZ (earlier .next) (q i) && ltZ (earlier .next) (earlier .end))
 
 -- ---- one layer more
-keep-wider : (p q : PaintedRows) (rest : List LayerRows) → leZ (q .first) (p .first) ≡ true → leZ (p .end) (q .end) ≡ true → KeepTo p rest → KeepTo q rest
+keep-wider : (p q : PaintedRows) (rest : List LayerRows) → leZ (q .first) (p .first) ≡ true → leZ (p .end) (q .end) ≡ true
+    → KeepTo p rest → KeepTo q rest
 unfolding KeepTo
 keep-wider p q [] above below keep = refl
 keep-wider p q (r ∷ rest) above below keep = (λ begun. wider (keep .0 begun), keep-wider p q rest above below (keep .1))
   where
-    wider : (leZ (p .first) (r .first) ≡ true) × (leZ (r .next) (p .end) ≡ true) → (leZ (q .first) (r .first) ≡ true) × (leZ (r .next) (q .end) ≡ true)
+    wider : (leZ (p .first) (r .first) ≡ true) × (leZ (r .next) (p .end) ≡ true)
+        → (leZ (q .first) (r .first) ≡ true) × (leZ (r .next) (q .end) ≡ true)
     wider within = (omega (arith, int), omega (arith, int))
 
 module _ (p : PaintedRows) (r : LayerRows) (rest : List LayerRows) where
@@ -55,7 +58,9 @@ module _ (p : PaintedRows) (r : LayerRows) (rest : List LayerRows) where
       some = (omega (arith, int, smaller-law (p .first) (r .first)), omega (arith, int, larger-law (p .end) (r .next)))
 
       wide : KeepTo grown rest
-      wide = keep-wider p grown rest (omega (arith, int, smaller-law (p .first) (r .first))) (omega (arith, int, larger-law (p .end) (r .next))) keep
+      wide =
+          keep-wider p grown rest (omega (arith, int, smaller-law (p .first) (r .first)))
+          (omega (arith, int, larger-law (p .end) (r .next))) keep
 
       by-begun : (t : Bool) → leZ (r .next) (r .first) ≡ t → KeepTo (alsoPainted p r) (r ∷ rest)
       by-begun true e = rw e (none e, keep)
@@ -64,11 +69,13 @@ module _ (p : PaintedRows) (r : LayerRows) (rest : List LayerRows) where
 -- ---- rows left that lie apart
 module _ (earlier : LayerRows) (p : PaintedRows) where
   module _ (behind : leZ (p .end) (earlier .next) ≡ true) where
-    not-past : (r : LayerRows) → (ltZ (r .first) (r .next) ≡ true → (leZ (p .first) (r .first) ≡ true) × (leZ (r .next) (p .end) ≡ true))
+    not-past : (r : LayerRows)
+        → (ltZ (r .first) (r .next) ≡ true → (leZ (p .first) (r .first) ≡ true) × (leZ (r .next) (p .end) ≡ true))
         → rowsOvertake earlier r ≡ false
     not-past r keep = by-begun (leZ (r .next) (r .first)) refl (leZ (earlier .end) (r .first)) refl
       where
-        by-begun : (t : Bool) → leZ (r .next) (r .first) ≡ t → (s : Bool) → leZ (earlier .end) (r .first) ≡ s → rowsOvertake earlier r ≡ false
+        by-begun : (t : Bool) → leZ (r .next) (r .first) ≡ t → (s : Bool) → leZ (earlier .end) (r .first) ≡ s
+            → rowsOvertake earlier r ≡ false
         by-begun true e s d = sym (overtakes-none-painted earlier r e)
         by-begun false e true d = sym (overtakes-none-reached earlier r e d)
         by-begun false e false d =
@@ -82,7 +89,8 @@ module _ (earlier : LayerRows) (p : PaintedRows) where
     none-past-next (r ∷ rest) keep = rw (not-past r (keep .0)) (none-past-next rest (keep .1))
 
   module _ (below : leZ (earlier .end) (p .first) ≡ true) where
-    not-within : (r : LayerRows) → (ltZ (r .first) (r .next) ≡ true → (leZ (p .first) (r .first) ≡ true) × (leZ (r .next) (p .end) ≡ true))
+    not-within : (r : LayerRows)
+        → (ltZ (r .first) (r .next) ≡ true → (leZ (p .first) (r .first) ≡ true) × (leZ (r .next) (p .end) ≡ true))
         → rowsOvertake earlier r ≡ false
     not-within r keep = by-begun (leZ (r .next) (r .first)) refl
       where

@@ -1,9 +1,9 @@
 -- The walk over the places from the last to the first: what is known of the places behind, one place more, and the end.
 -- Assumes nothing.
-use mathlib.Core.Path.{_≡_, refl, sym, ap, ap₂, subst, _∙_}
-use mathlib.Core.Bool.{Bool, true, false, cond, _&&_, false≢true}
-use mathlib.Core.List.{List, [], _∷_}
-use Prim.Native.Nat.{ℕ, zero, suc, _+_, _-_, _<_, _≤_}
+use mathlib.Core.Path.{_≡_, refl, sym, ap, subst, _∙_}
+use mathlib.Core.Bool.{Bool, true, false, cond, false≢true}
+use mathlib.Core.List.{List, _∷_}
+use Prim.Native.Nat.{ℕ, zero, suc, _+_, _-_, _<_}
 use native.Mathlib.Omega.{arith}
 use lib.IntN.{ℤ}
 use Rattle.layer_rows.specs.declared.LayerRows.{LayerRows}
@@ -12,10 +12,10 @@ use Rattle.layer_rows.proofs.RowTests.{and-false}
 use Rattle.book.proofs.Tests.{and-true-parts, and-true-of, false-unless}
 use Rattle.layers.specs.declared.RowsFound.the-variants as rows-found
 use Rattle.record_numbers.specs.RecordNumbers.{listFrom, allFrom}
-use Rattle.record_numbers.proofs.Walks.{list-from-here, list-from-past, all-from-here, all-from-past}
+use Rattle.record_numbers.proofs.Walks.{list-from-here, all-from-here}
 use Rattle.sheet_record.specs.SheetRecord.{placeNumbers}
 use Rattle.place_rules.specs.PlaceRules.{placeKept}
-use Rattle.place_rules.proofs.Limits.{each-of-all}
+use Rattle.sheet_record.proofs.ReadBack.{each-of-all}
 use Rattle.record_rules.specs.declared.PaintedRows.{PaintedRows}
 use Rattle.record_rules.specs.declared.Asked.{Asked}
 use Rattle.record_rules.specs.declared.PlacesTested.the-variants as places-tested
@@ -39,25 +39,29 @@ module _ (t : Bool) (r : LayerRows) where
       by-test false e = let z : _≡_ {A = ℕ} 0 1 = cc in absurd (omega arith)
 
 -- rows in order are in order from any place on
-order-from : (f : ℕ → LayerRows) (k j n : ℕ) → rowsInOrder (listFrom f j (k + n)) ≡ true → rowsInOrder (listFrom f (j + k) n) ≡ true
+order-from : (f : ℕ → LayerRows) (k j n : ℕ) → rowsInOrder (listFrom f j (k + n)) ≡ true
+    → rowsInOrder (listFrom f (j + k) n) ≡ true
 unfolding rowsInOrder listFrom
 order-from f zero j n order =
     let many : 0 + n ≡ n = omega arith in
     let from : j ≡ j + 0 = omega arith in
-    subst (λ (i : ℕ). rowsInOrder (listFrom f i n) ≡ true) from (subst (λ (m : ℕ). rowsInOrder (listFrom f j m) ≡ true) many order)
+    subst (λ (i : ℕ). rowsInOrder (listFrom f i n) ≡ true) from
+    (subst (λ (m : ℕ). rowsInOrder (listFrom f j m) ≡ true) many order)
 order-from f (suc k) j n order =
     let many : suc k + n ≡ suc (k + n) = omega arith in
     let from : suc j + k ≡ j + suc k = omega arith in
     let whole = subst (λ (m : ℕ). rowsInOrder (listFrom f j m) ≡ true) many order in
     subst (λ (i : ℕ). rowsInOrder (listFrom f i n) ≡ true) from
-    (order-from f k (suc j) n (and-true-parts (noRowsOvertake (f j) (listFrom f (suc j) (k + n))) (rowsInOrder (listFrom f (suc j) (k + n))) whole .1))
+    (order-from f k (suc j) n
+    (and-true-parts (noRowsOvertake (f j) (listFrom f (suc j) (k + n))) (rowsInOrder (listFrom f (suc j) (k + n))) whole .1))
 
 module _ (n : List ℤ) (count layer : ℕ) (y : ℤ) where
   -- how many places there are from one on
   abbrev left : ℕ → ℕ
   left i = count - i
 
-  -- The places from i on keep their own rules and are in order; the rows that they have painted and what is asked of them are known.
+  -- The places from i on keep their own rules and are in order; the rows that they have painted and what is asked of them are
+  -- known.
   pub record WalkedTo (painted : PaintedRows) (asked : Asked) (i : ℕ) : Type 0 where
     pub kept : placesKept n i (left i) ≡ true
     pub order : rowsInOrder (rowsFrom n i (left i)) ≡ true
@@ -77,7 +81,8 @@ module _ (n : List ℤ) (count layer : ℕ) (y : ℤ) where
       }
 
   -- all places are walked over
-  pub walked-all : (painted : PaintedRows) (asked : Asked) → WalkedTo painted asked 0 → places-tested.Kept asked ≡ placesTested n count layer y
+  pub walked-all : (painted : PaintedRows) (asked : Asked) → WalkedTo painted asked 0
+      → places-tested.Kept asked ≡ placesTested n count layer y
   unfolding placesTested
   walked-all painted asked w =
       let all : left 0 ≡ count = omega arith in
@@ -87,33 +92,40 @@ module _ (n : List ℤ) (count layer : ℕ) (y : ℤ) where
 
   module _ (i next : ℕ) (step : i + 1 ≡ next) (here : i < count) where
     -- a place that breaks a rule of its own
-    pub broken-here : (r : LayerRows) → rows-found.Broken ≡ cond (placeKept (placeNumbers n i)) (rows-found.Kept r) rows-found.Broken
+    pub broken-here : (r : LayerRows)
+        → rows-found.Broken ≡ cond (placeKept (placeNumbers n i)) (rows-found.Kept r) rows-found.Broken
         → places-tested.Broken ≡ placesTested n count layer y
     unfolding placesTested
     broken-here r found =
         let broken = found-broken (placeKept (placeNumbers n i)) r found in
         let none : placesKept n 0 count ≡ false =
         false-unless (placesKept n 0 count)
-        (λ all. false≢true (sym broken ∙ each-of-all (λ k. placeKept (placeNumbers n k)) count 0 i (omega arith) (omega arith) all)) in
+        (λ all. false≢true
+        (sym broken ∙ each-of-all (λ k. placeKept (placeNumbers n k)) count 0 i (omega arith) (omega arith) all)) in
         rw none
 
     rows-here : rowsFrom n i (left i) ≡ rowsAt n i ∷ rowsFrom n next (left next)
     rows-here = list-from-here (rowsAt n) count i here ∙ ap (λ (k : ℕ). rowsAt n i ∷ rowsFrom n k (left k)) step
 
     -- one that is overtaken
-    pub overtaken-here : noRowsOvertake (rowsAt n i) (rowsFrom n next (left next)) ≡ false → places-tested.Broken ≡ placesTested n count layer y
+    pub overtaken-here : noRowsOvertake (rowsAt n i) (rowsFrom n next (left next)) ≡ false
+        → places-tested.Broken ≡ placesTested n count layer y
     unfolding placesTested rowsInOrder
     overtaken-here overtaken =
-        let none : rowsInOrder (rowsFrom n 0 count) ≡ false = false-unless (rowsInOrder (rowsFrom n 0 count)) (λ order. false≢true (sym overtaken ∙ first order)) in
+        let none : rowsInOrder (rowsFrom n 0 count) ≡ false = false-unless (rowsInOrder (rowsFrom n 0 count))
+        (λ order. false≢true (sym overtaken ∙ first order)) in
         rw (none, and-false (placesKept n 0 count))
       where
         first : rowsInOrder (rowsFrom n 0 count) ≡ true → noRowsOvertake (rowsAt n i) (rowsFrom n next (left next)) ≡ true
         first order =
             let parts : i + left i ≡ count = omega arith in
             let from : 0 + i ≡ i = omega arith in
-            let at-i = order-from (rowsAt n) i 0 (left i) (subst (λ (m : ℕ). rowsInOrder (rowsFrom n 0 m) ≡ true) (sym parts) order) in
-            let here = sym (ap rowsInOrder rows-here) ∙ subst (λ (j : ℕ). rowsInOrder (rowsFrom n j (left i)) ≡ true) from at-i in
-            and-true-parts (noRowsOvertake (rowsAt n i) (rowsFrom n next (left next))) (rowsInOrder (rowsFrom n next (left next))) here .0
+            let at-i = order-from (rowsAt n) i 0 (left i)
+            (subst (λ (m : ℕ). rowsInOrder (rowsFrom n 0 m) ≡ true) (sym parts) order) in
+            let here = sym (ap rowsInOrder rows-here)
+            ∙ subst (λ (j : ℕ). rowsInOrder (rowsFrom n j (left i)) ≡ true) from at-i in
+            and-true-parts (noRowsOvertake (rowsAt n i) (rowsFrom n next (left next)))
+            (rowsInOrder (rowsFrom n next (left next))) here .0
 
     -- one that keeps its rules and is not overtaken is taken in
     pub one-more : (painted : PaintedRows) (asked : Asked) → WalkedTo painted asked next → placeKept (placeNumbers n i) ≡ true
@@ -124,10 +136,15 @@ module _ (n : List ℤ) (count layer : ℕ) (y : ℤ) where
         let after : left i ≡ suc (left next) = omega arith in
         let following : suc i ≡ next = omega arith in
         record {
-          kept = all-from-here (λ k. placeKept (placeNumbers n k)) count i here ∙ and-true-of kept (subst (λ (k : ℕ). placesKept n k (left k) ≡ true) (sym step) (w .kept));
+          kept =
+              all-from-here (λ k. placeKept (placeNumbers n k)) count i here
+              ∙ and-true-of kept (subst (λ (k : ℕ). placesKept n k (left k) ≡ true) (sym step) (w .kept));
           order = ap rowsInOrder rows-here ∙ and-true-of none (w .order);
-          painted-are = subst (KeepTo (alsoPainted painted (rowsAt n i))) (sym rows-here) (keep-more painted (rowsAt n i) (rowsFrom n next (left next)) (w .painted-are));
+          painted-are =
+              subst (KeepTo (alsoPainted painted (rowsAt n i))) (sym rows-here)
+              (keep-more painted (rowsAt n i) (rowsFrom n next (left next)) (w .painted-are));
           asked-is =
-              ap (λ (a : Asked). askedOf a (rowsAt n i) i layer y) (w .asked-is ∙ ap (λ (k : ℕ). askedFrom n layer y k (left next)) (sym following))
+              ap (λ (a : Asked). askedOf a (rowsAt n i) i layer y)
+              (w .asked-is ∙ ap (λ (k : ℕ). askedFrom n layer y k (left next)) (sym following))
               ∙ sym (ap (askedFrom n layer y i) after);
         }

@@ -1,5 +1,5 @@
--- The rules of the layers of a sheet's numbers, place by place, and what a paint call asks of them: by the places and their rows. The
--- laws of proofs/ equate them with the rules and the answers of `sheet_checks`.
+-- The rules of the layers of a sheet's numbers, place by place, and what a paint call asks of them: by the places and their
+-- rows. The laws of proofs/ equate them with the rules and the answers of `sheet_checks`.
 -- Assumes nothing.
 use mathlib.Core.Path.{_≡_}
 use mathlib.Core.Bool.{Bool, true, false, cond, _&&_, _||_}
@@ -67,4 +67,5 @@ askedFrom numbers layer y j (suc n) = askedOf (askedFrom numbers layer y (suc j)
 -- ---- All of it, of the layers in the first places.
 unfoldable pub placesTested : List ℤ → ℕ → ℕ → ℤ → PlacesTested
 placesTested numbers count layer y =
-    cond (placesKept numbers 0 count && rowsInOrder (rowsFrom numbers 0 count)) (Kept (askedFrom numbers layer y 0 count)) Broken
+    cond (placesKept numbers 0 count && rowsInOrder (rowsFrom numbers 0 count))
+    (Kept (askedFrom numbers layer y 0 count)) Broken

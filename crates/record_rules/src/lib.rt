@@ -6,18 +6,14 @@ use place_rules::first_row;
 use place_rules::place_rows;
 use sheet_record::LAYER_LENGTH;
 ghost use mathlib.Core.Path.{_≡_};
-ghost use mathlib.Core.Bool.{true, cond, _&&_, _||_};
+ghost use mathlib.Core.Bool.{true};
 ghost use Prim.Native.Nat.{_-_, _<_, _≤_};
-ghost use lib.Dec.{eqb, ltb};
 ghost use lib.ListN.{length};
-ghost use lib.Signed.{ltZ};
 ghost use Rattle.geometry.specs.Limits.{maxLayers};
-ghost use Rattle.layer_rows.specs.LayerRows.{rowsOwe, noRowsOvertake};
-ghost use Rattle.layer_rows.proofs.RowTests.{RowsFit};
+ghost use Rattle.layer_rows.specs.LayerRows.{noRowsOvertake};
 ghost use Rattle.sheet_record.specs.SheetRecord.{sheetLength, placeNumbers};
 ghost use Rattle.place_rules.specs.PlaceRules.{placeKept};
 ghost use Rattle.record_rules.specs.RecordRules.{rowsAt, rowsFrom, placesKept, nonePainted, alsoPainted, KeepTo, askedOf, placesTested};
-ghost use Rattle.record_rules.specs.declared.PlacesTested.the-variants as places-tested;
 
 // The rows that some layers have painted: they lie from the first up to the end.
 pub struct PaintedRows {

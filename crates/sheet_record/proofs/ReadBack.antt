@@ -4,7 +4,7 @@ use mathlib.Core.Path.{_≡_, refl, sym, ap, ap₂, _∙_}
 use mathlib.Core.Bool.{Bool, true, false, _&&_}
 use mathlib.Core.List.{List, [], _∷_, _++_}
 use mathlib.Core.Logic.{_≢_}
-use Prim.Native.Nat.{ℕ, zero, suc, _+_, _<_, _≤_, min}
+use Prim.Native.Nat.{ℕ, zero, suc, _+_, _-_, _<_, _≤_, min}
 use native.Mathlib.Omega.{arith}
 use borrow.Author.Tests.{leb-true, leb-false, eqb-true, eqb-false}
 use lib.Dec.{leb, eqb}
@@ -15,7 +15,7 @@ use lib.Signed.{leZ}
 use Rattle.signed.specs.Signed.{floor0}
 use Rattle.signed.proofs.Laws.{int}
 use Rattle.record_numbers.specs.RecordNumbers.{numberAt, listFrom, allFrom, noneNegative, isFigure, isStyle, figureOf, styleOf}
-use Rattle.book.proofs.Tests.{and-true-parts}
+use Rattle.book.proofs.Tests.{and-true-parts, and-true-of}
 use Rattle.layers.specs.declared.Layer.{Layer}
 use Rattle.layers.specs.Layers.{blankLayer}
 use Rattle.sheet.specs.Sheet.{withLayer}
@@ -51,20 +51,22 @@ module _ {A : Type 0} (f : ℕ → A) (d : A) where
 
 -- ---- A test that holds for each of some things, and for all of them.
 module _ (test : ℕ → Bool) where
-  each-of-all : (n j i : ℕ) → i < n → allFrom test j n ≡ true → test (j + i) ≡ true
+  pub each-of-all : (n j k : ℕ) → j ≤ k → suc k ≤ j + n → allFrom test j n ≡ true → test k ≡ true
   unfolding allFrom
-  each-of-all zero j i within all = absurd (omega arith)
-  each-of-all (suc n) j zero within all =
-      let here : j + 0 ≡ j = omega arith in
-      ap test here ∙ and-true-parts (test j) (allFrom test (suc j) n) all .0
-  each-of-all (suc n) j (suc i) within all =
-      let next : j + suc i ≡ suc j + i = omega arith in
-      ap test next ∙ each-of-all n (suc j) i (omega arith) (and-true-parts (test j) (allFrom test (suc j) n) all .1)
+  each-of-all zero j k from to all = absurd (omega arith)
+  each-of-all (suc n) j k from to all =
+      let parts = and-true-parts (test j) (allFrom test (suc j) n) all in
+      by-place (k - j) refl (parts .0) (λ later. each-of-all n (suc j) k later (omega arith) (parts .1))
+    where
+      by-place : (d : ℕ) → k - j ≡ d → test j ≡ true → (suc j ≤ k → test k ≡ true) → test k ≡ true
+      by-place zero at here later = let same : k ≡ j = omega arith in ap test same ∙ here
+      by-place (suc d) at here later = later (omega arith)
 
-  all-of-each : (n j : ℕ) → ((i : ℕ) → i < j + n → test i ≡ true) → allFrom test j n ≡ true
+  pub all-of-each : (n j : ℕ) → ((k : ℕ) → j ≤ k → suc k ≤ j + n → test k ≡ true) → allFrom test j n ≡ true
   unfolding allFrom
   all-of-each zero j each = refl
-  all-of-each (suc n) j each = ap₂ _&&_ (each j (omega arith)) (all-of-each n (suc j) (λ i within. each i (omega arith)))
+  all-of-each (suc n) j each =
+      and-true-of (each j (omega arith) (omega arith)) (all-of-each n (suc j) (λ k from to. each k (omega arith) (omega arith)))
 
 -- ---- A place that nothing was written in.
 apart : (i j : ℕ) → j ≢ i → (t : Bool) → leb i j ≡ t → (P : Type 0) → (i < j → P) → (j < i → P) → P
@@ -92,9 +94,7 @@ module _ (before after : List ℤ) (records : holdsRecords before ≡ true) wher
   places-before : (j : ℕ) → j < used before → isLayer (placeNumbers before j) ≡ true
   unfolding holdsRecords
   places-before j within =
-      let here : 0 + j ≡ j = omega arith in
-      ap (λ (k : ℕ). isLayer (placeNumbers before k)) (sym here)
-      ∙ each-of-all (λ k. isLayer (placeNumbers before k)) (used before) 0 j within
+      each-of-all (λ k. isLayer (placeNumbers before k)) (used before) 0 j (omega arith) (omega arith)
       (and-true-parts (noneNegative (take 3 before)) (allFrom (λ k. isLayer (placeNumbers before k)) 0 (used before)) records .1)
 
   sides-before : noneNegative (take 3 before) ≡ true
@@ -105,7 +105,7 @@ module _ (before after : List ℤ) (records : holdsRecords before ≡ true) wher
       → holdsRecords after ≡ true
   unfolding holdsRecords
   still-records sides places =
-      rw sides (all-of-each (λ k. isLayer (placeNumbers after k)) (used after) 0 (λ j within. places j (omega arith)))
+      rw sides (all-of-each (λ k. isLayer (placeNumbers after k)) (used after) 0 (λ j from to. places j (omega arith)))
 
 -- ---- The layer in a place.
 pub layer-in-place : (numbers : List ℤ) (i : ℕ) → i < 16 → getD (sheetOf numbers .layers) i blankLayer ≡ layerOf (placeNumbers numbers i)

@@ -61,7 +61,7 @@ fn holds_records(numbers: &[i32]) -> bool
 }
 
 // How many layers the numbers say: one more than there may be where they hold no records.
-pub fn count_of(numbers: &[i32]) -> u32
+fn count_of(numbers: &[i32]) -> u32
     requires { ⌜ length (now numbers) ≡ sheetLength ⌝ }
     ensures { λ r. ⌜ r ≡ countOf (now (numbers .entry)) ⌝ }
 {
@@ -105,7 +105,7 @@ pub fn size_of(numbers: &[i32]) -> CanvasSize
 }
 
 // The layers in all places.
-pub fn places_of(numbers: &[i32]) -> [Layer; 16]
+fn places_of(numbers: &[i32]) -> [Layer; 16]
     requires { ⌜ length (now numbers) ≡ sheetLength ⌝ }
     ensures { λ r. ⌜ r ≡ sheetOf (now (numbers .entry)) .layers ⌝ }
 {

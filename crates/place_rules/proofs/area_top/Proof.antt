@@ -1,12 +1,12 @@
 -- `place_rules::area_top` meets its contract: the figure's top less the rows above it.
 -- Assumes nothing.
-use mathlib.Core.Path.{_≡_, ap, ap₂, _∙_}
+use mathlib.Core.Path.{ap, ap₂, _∙_}
 use Prim.Native.Nat.{ℕ}
 use native.Mathlib.Omega.{arith}
 use borrow.Author.Needs.{needs}
-use lib.IntN.{ℤ, pos, _-ℤ_}
+use lib.IntN.{pos, _-ℤ_}
 use mir.Facts.{toZ-ofZ}
-use Rattle.signed.proofs.Laws.{int, sub-law}
+use Rattle.signed.proofs.Laws.{int}
 use Rattle.place_rules.specs.PlaceRules.{rowsAbove}
 use Rattle.place_rules.proofs.Area.{rows-above-le, less-near}
 use Rattle.place_rules.proofs.area_top.Statement.{statement}
@@ -43,8 +43,11 @@ returns c =
     let few = entry .pre .1 in
     let above = c .before .before .rows-above .ensures in
     let is = made .is ∙ ap₂ _-ℤ_ (toZ-ofZ (near .fits)) (toZ-ofZ (wide .fits) ∙ wide .is ∙ ap (λ (n : ℕ). pos n) above) in
-    rw (toZ-ofZ (made .fits))
-    (record { is = is; fits = made .fits }, less-near (a .top) (rowsAbove (a .height) (a .outside)) near (omega (arith, rows-above-le (a .height) (a .outside))) is (made .fits))
+    rw (toZ-ofZ (made .fits)) (
+      record { is = is; fits = made .fits },
+      less-near (a .top) (rowsAbove (a .height) (a .outside)) near
+          (omega (arith, rows-above-le (a .height) (a .outside))) is (made .fits),
+    )
 
 pub area-top-spec : {M : Type 1} → statement M
 area-top-spec = tie.close (tie.spec rows-above-requires from-u32-requires sub-requires returns)

@@ -16,7 +16,8 @@ use Rattle.place_rules.proofs.first_row.Statement.{statement}
 use Rattle.place_rules.proofs.first_row.Tie as tie
 
 -- the outside width read is the place's
-outside-is : (c : tie.After-outside-width) → c .outside-width .result ≡ outsideOf (c .before .before .before .before .before .before .args .numbers .now)
+outside-is : (c : tie.After-outside-width)
+    → c .outside-width .result ≡ outsideOf (c .before .before .before .before .before .before .args .numbers .now)
 outside-is c =
     let n = c .before .before .before .before .before .before .args .numbers .now in
     let width = read-back n 15 (c .before .before .outside-width-arg .given) in
@@ -55,7 +56,8 @@ returns c =
     let n = entry .args .numbers .now in
     let made = c .area-top .ensures .0 in
     let y = read-back n 2 (c .before .before .before .before .before .before .area-top-arg .given) in
-    let height = c .before .before .before .before .floor0 .ensures ∙ ap (λ (z : ℤ). floor0 z) (read-back n 4 (c .before .before .before .before .before .floor0-arg .given)) in
+    let height = c .before .before .before .before .floor0 .ensures
+    ∙ ap (λ (z : ℤ). floor0 z) (read-back n 4 (c .before .before .before .before .before .floor0-arg .given)) in
     rw (toZ-ofZ (made .fits))
     (record { is = made .is ∙ (λ i. y i -ℤ pos (rowsAbove (height i) (outside-is (c .before) i))); fits = made .fits })
 

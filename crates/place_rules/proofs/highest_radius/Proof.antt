@@ -1,7 +1,7 @@
 -- `place_rules::highest_radius` meets its contract: by whether any will do.
 -- Assumes nothing.
 use borrow.Author.Needs.{needs}
-use mathlib.Core.Path.{_≡_, refl, sym, ap, _∙_}
+use mathlib.Core.Path.{refl}
 use Rattle.place_rules.proofs.highest_radius.Statement.{statement}
 use Rattle.place_rules.proofs.highest_radius.Tie as tie
 

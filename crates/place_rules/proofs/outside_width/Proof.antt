@@ -15,7 +15,8 @@ use Rattle.place_rules.proofs.outside_width.Statement.{statement}
 use Rattle.place_rules.proofs.outside_width.Tie as tie
 
 -- the tests of the number as it is held
-held : (c : tie.Start) (n : ℕ) {t : Bool} → ltZ (toZ w32 (ofZ w32 (c .args .alignment))) (pos n) ≡ t → ltZ (c .args .alignment) (pos n) ≡ t
+held : (c : tie.Start) (n : ℕ) {t : Bool} → ltZ (toZ w32 (ofZ w32 (c .args .alignment))) (pos n) ≡ t
+    → ltZ (c .args .alignment) (pos n) ≡ t
 held c n test =
     let fits : SFits w32 (c .args .alignment) = search needs in
     sym (ap (λ (z : ℤ). ltZ z (pos n)) (toZ-ofZ fits)) ∙ test
@@ -36,7 +37,8 @@ returns-2 : tie.Need-returns-2
 unfolding alignmentOf
 returns-2 c =
     let entry = c .before .before .before in
-    rw (held entry 1 (c .before .before .if1 .left), held entry 2 (c .before .if2 .taken)) (ap (λ (n : ℕ). n / 2) (c .floor0 .ensures ∙ width-is entry))
+    rw (held entry 1 (c .before .before .if1 .left), held entry 2 (c .before .if2 .taken))
+    (ap (λ (n : ℕ). n / 2) (c .floor0 .ensures ∙ width-is entry))
 
 floor0-requires-2 : tie.Need-floor0-requires-2
 floor0-requires-2 c κs = search needs

@@ -1,4 +1,5 @@
--- `place_rules::place_rows` meets its contract: the limits and the two tests of the next row decide whether the layer keeps its rules.
+-- `place_rules::place_rows` meets its contract: the limits and the two tests of the next row decide whether the layer keeps its
+-- rules.
 -- Assumes nothing.
 use mathlib.Core.Path.{_≡_, sym, ap, _∙_}
 use mathlib.Core.Bool.{Bool, true, _&&_}
@@ -19,7 +20,8 @@ use Rattle.place_rules.proofs.place_rows.Statement.{statement}
 use Rattle.place_rules.proofs.place_rows.Tie as tie
 
 -- what the tests of the limits say
-limits : (c : tie.Else2) → (figureKept (c .before .before .before .before .args .numbers .now) && styleKept (c .before .before .before .before .args .numbers .now)) ≡ true
+limits : (c : tie.Else2)
+    → (figureKept (c .before .before .before .before .args .numbers .now) && styleKept (c .before .before .before .before .args .numbers .now)) ≡ true
 limits c =
     and-true-of (sym (c .before .before .before .figure-kept .ensures) ∙ not-false _ (c .before .before .if1 .left))
     (sym (c .before .style-kept .ensures) ∙ not-false _ (c .if2 .left))
@@ -30,10 +32,12 @@ start c = c .before .before .before .before .before
 
 by-first : (c : tie.After-rows-within) {t : Bool}
     → ltZ (toZ w32 (ofZ w32 (c .rows-within .result .next))) (toZ w32 (ofZ w32 (c .rows-within .result .first))) ≡ t
-    → ltZ (layerRows (layerOf (start c .args .numbers .now)) .next) (layerRows (layerOf (start c .args .numbers .now)) .first) ≡ t
+    → ltZ (layerRows (layerOf (start c .args .numbers .now)) .next) (layerRows (layerOf (start c .args .numbers .now)) .first)
+    ≡ t
 by-first c test =
     let fits = c .rows-within .ensures .1 in
-    sym (ap (λ (r : LayerRows). ltZ (r .next) (r .first)) (c .rows-within .ensures .0)) ∙ lt-held (fits .next) (fits .first) test
+    sym (ap (λ (r : LayerRows). ltZ (r .next) (r .first)) (c .rows-within .ensures .0))
+    ∙ lt-held (fits .next) (fits .first) test
 
 by-end : (c : tie.After-rows-within) {t : Bool}
     → ltZ (toZ w32 (ofZ w32 (c .rows-within .result .end))) (toZ w32 (ofZ w32 (c .rows-within .result .next))) ≡ t
@@ -81,7 +85,8 @@ returns-5 : tie.Need-returns-5
 returns-5 c =
     let found = c .before .before .before .before .before .before in
     let entry = start found in
-    rw (place-among (entry .args .numbers .now) (entry .pre) (limits (found .before)) (by-first found (c .before .before .before .if3 .left)) (by-end found (c .if4 .left)))
+    rw (place-among (entry .args .numbers .now) (entry .pre) (limits (found .before))
+    (by-first found (c .before .before .before .if3 .left)) (by-end found (c .if4 .left)))
     (ap Kept (found .rows-within .ensures .0))
 
 pub place-rows-spec : {M : Type 1} → statement M

@@ -1,5 +1,5 @@
--- `place_rules::radii_kept` meets its contract. Invariant: what is found so far and what is asked of the radii that are left make what
--- is asked of all.
+-- `place_rules::radii_kept` meets its contract. Invariant: what is found so far and what is asked of the radii that are left
+-- make what is asked of all.
 -- Assumes nothing.
 use mathlib.Core.Path.{_≡_, refl, sym, ap, ap₂, _∙_}
 use mathlib.Core.Bool.{Bool, _&&_}
@@ -22,7 +22,9 @@ test numbers any k = radiusKept any (numberAt numbers k)
 
 abbrev Inv-loop : tie.InvT-loop
 Inv-loop numbers any limit kept₀ k₀ kept k =
-    (k ≤ 13) × ((kept && allFrom (λ j. radiusKept any (numberAt numbers j)) k (13 - k)) ≡ allFrom (λ j. radiusKept any (numberAt numbers j)) 5 8)
+    (k ≤ 13) ×
+    ((kept && allFrom (λ j. radiusKept any (numberAt numbers j)) k (13 - k)) ≡ allFrom
+    (λ j. radiusKept any (numberAt numbers j)) 5 8)
 
 abbrev μ-loop : tie.MeasureT-loop
 μ-loop numbers any limit kept₀ k₀ kept k = 13 - k
@@ -74,7 +76,8 @@ loop-again : tie.Need-loop-again Inv-loop μ-loop
 loop-again c =
     let walk = c .before .before .before .loop in (
       omega arith,
-      and-assoc (walk .kept) (c .is-within .result) (left c (walk .k + 1)) ∙ ap (λ (t : Bool). walk .kept && t) (sym (step c)) ∙ walk .inv .1,
+      and-assoc (walk .kept) (c .is-within .result) (left c (walk .k + 1)) ∙ ap (λ (t : Bool). walk .kept && t) (sym (step c))
+          ∙ walk .inv .1,
     )
 
 returns : tie.Need-returns Inv-loop μ-loop

@@ -1,6 +1,6 @@
 -- `place_rules::rectangle_kept` meets its contract: each number is tested as it is read.
 -- Assumes nothing.
-use mathlib.Core.Path.{_≡_, ap, _∙_}
+use mathlib.Core.Path.{ap, _∙_}
 use mathlib.Core.Bool.{_&&_}
 use lib.IntN.{pos, negsuc}
 use Rattle.record_numbers.specs.RecordNumbers.{within}
@@ -50,9 +50,12 @@ returns c =
     let kind = x .before .before in
     let n = kind .before .args .numbers .now in
     let at0 = x .before .is-within .ensures ∙ ap (within (pos 0) (pos 2)) (read-back n 0 (kind .is-within-arg .given)) in
-    let at1 = y .before .is-within2 .ensures ∙ ap (within (negsuc 4095) (pos 4096)) (read-back n 1 (x .is-within-arg2 .given)) in
-    let at2 = width .before .is-within3 .ensures ∙ ap (within (negsuc 4095) (pos 4096)) (read-back n 2 (y .is-within-arg3 .given)) in
-    let at3 = height .before .is-within4 .ensures ∙ ap (within (pos 0) (pos 1024)) (read-back n 3 (width .is-within-arg4 .given)) in
+    let at1 = y .before .is-within2 .ensures
+    ∙ ap (within (negsuc 4095) (pos 4096)) (read-back n 1 (x .is-within-arg2 .given)) in
+    let at2 = width .before .is-within3 .ensures
+    ∙ ap (within (negsuc 4095) (pos 4096)) (read-back n 2 (y .is-within-arg3 .given)) in
+    let at3 = height .before .is-within4 .ensures
+    ∙ ap (within (pos 0) (pos 1024)) (read-back n 3 (width .is-within-arg4 .given)) in
     let at4 = c .is-within5 .ensures ∙ ap (within (pos 0) (pos 1024)) (read-back n 4 (height .is-within-arg5 .given)) in
     λ i. (((at0 i && at1 i) && at2 i) && at3 i) && at4 i
 

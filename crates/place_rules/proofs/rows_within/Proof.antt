@@ -1,4 +1,5 @@
--- `place_rules::rows_within` meets its contract: the numbers read are the place's, and the rows made of them those of its layer.
+-- `place_rules::rows_within` meets its contract: the numbers read are the place's, and the rows made of them those of its
+-- layer.
 -- Assumes nothing.
 use mathlib.Core.Path.{_≡_, sym, ap, ap₂, _∙_}
 use Prim.Native.Nat.{ℕ, _+_, _*_}
@@ -11,7 +12,7 @@ use Rattle.signed.specs.Signed.{floor0}
 use Rattle.signed.proofs.Laws.{int}
 use Rattle.style.specs.Style.{outsideWidth}
 use Rattle.drawing.specs.declared.StrokeRows.{StrokeRows}
-use Rattle.layer_rows.proofs.RowTests.{rows-by-fields, RowsFit}
+use Rattle.layer_rows.proofs.RowTests.{rows-by-fields}
 use Rattle.layers.specs.Layers.{layerRows}
 use Rattle.record_numbers.specs.RecordNumbers.{numberAt, alignmentOf}
 use Rattle.record_numbers.proofs.Walks.{read-back}
@@ -29,10 +30,12 @@ start c = c .before .before .before .before .before
 limits : (c : tie.Start) → PlaceLimits (numberAt (c .args .numbers .now))
 limits c = kept-limits (c .args .numbers .now) (c .pre .0) (c .pre .1)
 
-height-is : (c : tie.After-outside-width) → c .before .before .before .floor0 .result ≡ floor0 (numberAt (start c .args .numbers .now) 4)
+height-is : (c : tie.After-outside-width)
+    → c .before .before .before .floor0 .result ≡ floor0 (numberAt (start c .args .numbers .now) 4)
 height-is c =
     c .before .before .before .floor0 .ensures
-    ∙ ap (λ (z : ℤ). floor0 z) (read-back (start c .args .numbers .now) 4 (c .before .before .before .before .floor0-arg .given))
+    ∙ ap (λ (z : ℤ). floor0 z)
+    (read-back (start c .args .numbers .now) 4 (c .before .before .before .before .floor0-arg .given))
 
 outside-is : (c : tie.After-outside-width) → c .outside-width .result ≡ outsideOf (start c .args .numbers .now)
 outside-is c =
@@ -47,17 +50,21 @@ first-is c =
     let y = read-back (start read .args .numbers .now) 2 (c .before .area-top-arg .given) in
     c .area-top .ensures .0 .is ∙ (λ i. y i -ℤ pos (rowsAbove (height-is read i) (outside-is read i)))
 
-width-is : (c : tie.After-floor02) → c .floor02 .result ≡ floor0 (numberAt (start (c .before .before .before .before .before) .args .numbers .now) 3)
+width-is : (c : tie.After-floor02)
+    → c .floor02 .result ≡ floor0 (numberAt (start (c .before .before .before .before .before) .args .numbers .now) 3)
 width-is c =
     c .floor02 .ensures
-    ∙ ap (λ (z : ℤ). floor0 z) (read-back (start (c .before .before .before .before .before) .args .numbers .now) 3 (c .before .floor0-arg2 .given))
+    ∙ ap (λ (z : ℤ). floor0 z)
+    (read-back (start (c .before .before .before .before .before) .args .numbers .now) 3 (c .before .floor0-arg2 .given))
 
-count-is : (c : tie.After-area-rows) → c .area-rows .result ≡ countOf (start (c .before .before .before .before .before .before) .args .numbers .now)
+count-is : (c : tie.After-area-rows)
+    → c .area-rows .result ≡ countOf (start (c .before .before .before .before .before .before) .args .numbers .now)
 count-is c =
     let read = c .before .before .before .before .before .before in
     let kind = read-back (start read .args .numbers .now) 0 (c .before .before .before .area-rows-arg .given) in
     c .area-rows .ensures .0
-    ∙ (λ i. strokeCount (ltZ (kind i) (pos 1)) (width-is (c .before) i + 2 * outside-is read i) (height-is read i + 2 * outside-is read i))
+    ∙ (λ i. strokeCount (ltZ (kind i) (pos 1)) (width-is (c .before) i + 2 * outside-is read i)
+    (height-is read i + 2 * outside-is read i))
 
 shared-slice-copy-out-floor0 : tie.Need-shared-slice-copy-out-floor0
 shared-slice-copy-out-floor0 c = search needs
@@ -129,7 +136,8 @@ returns c =
     let next = c .before .before .t10 .given in
     let first = toZ-ofZ (top .area-top .ensures .0 .fits) ∙ first-is top in
     let place = rows-of-place n (start (top .before .before) .pre .0) in
-    let end = toZ-ofZ (made .fits) ∙ made .is ∙ ap₂ _+ℤ_ first (toZ-ofZ (wide .fits) ∙ wide .is ∙ ap (λ (k : ℕ). pos k) (count-is rows)) in (
+    let end = toZ-ofZ (made .fits) ∙ made .is
+    ∙ ap₂ _+ℤ_ first (toZ-ofZ (wide .fits) ∙ wide .is ∙ ap (λ (k : ℕ). pos k) (count-is rows)) in (
       rows-by-fields (first ∙ sym (ap (λ (r : StrokeRows). r .first) place)) (read-back n 17 next)
           (end ∙ sym (ap (λ (r : StrokeRows). r .first +ℤ pos (r .count)) place)),
       record {

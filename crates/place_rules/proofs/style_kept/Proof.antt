@@ -1,6 +1,6 @@
 -- `place_rules::style_kept` meets its contract: each number is tested as it is read.
 -- Assumes nothing.
-use mathlib.Core.Path.{_≡_, ap, _∙_}
+use mathlib.Core.Path.{ap, _∙_}
 use mathlib.Core.Bool.{_&&_}
 use borrow.Author.Needs.{needs}
 use lib.IntN.{pos, negsuc}
@@ -42,9 +42,12 @@ returns c =
     let fill = width .before .before in
     let stroke = fill .before .before in
     let n = stroke .before .args .numbers .now in
-    let at13 = fill .before .is-within .ensures ∙ ap (within (negsuc 0) (pos 255)) (read-back n 13 (stroke .is-within-arg .given)) in
-    let at14 = width .before .is-within2 .ensures ∙ ap (within (negsuc 0) (pos 255)) (read-back n 14 (fill .is-within-arg2 .given)) in
-    let at15 = alignment .before .is-within3 .ensures ∙ ap (within (pos 0) (pos 256)) (read-back n 15 (width .is-within-arg3 .given)) in
+    let at13 = fill .before .is-within .ensures
+    ∙ ap (within (negsuc 0) (pos 255)) (read-back n 13 (stroke .is-within-arg .given)) in
+    let at14 = width .before .is-within2 .ensures
+    ∙ ap (within (negsuc 0) (pos 255)) (read-back n 14 (fill .is-within-arg2 .given)) in
+    let at15 = alignment .before .is-within3 .ensures
+    ∙ ap (within (pos 0) (pos 256)) (read-back n 15 (width .is-within-arg3 .given)) in
     let at16 = c .is-within4 .ensures ∙ ap (within (pos 0) (pos 2)) (read-back n 16 (alignment .is-within-arg4 .given)) in
     λ i. ((at13 i && at14 i) && at15 i) && at16 i
 

@@ -1,7 +1,6 @@
 -- `record_paint::check_asked` meets its contract: its tests are the definition's, in order.
 -- Assumes nothing.
-use mathlib.Core.Path.{_≡_, refl, sym, ap, _∙_}
-use mathlib.Core.Bool.{Bool, true, false}
+use mathlib.Core.Path.{_≡_, sym, _∙_}
 use borrow.Author.Tests.{le-leb, lt-leb, not-true, not-false}
 use Rattle.refusal.specs.declared.Checked.the-variants.{Passed}
 use Rattle.canvas_size.specs.CanvasSize.{canvasLengthCheck}
@@ -38,7 +37,13 @@ returns-3 : tie.Need-returns-3
 unfolding askedCheck
 returns-3 c =
     let a = c .before .before .before .before .before .before .before .args in
-    rw (size (c .before .before .before .before), lt-leb _ _ (c .before .before .before .if1 .left), not-false (a .asked .left) (c .before .if2 .left), c .if3 .taken)
+    rw (
+      size (c .before .before .before .before),
+      lt-leb _ _ (c .before .before .before .if1 .left),
+      not-false (a .asked .left)
+          (c .before .if2 .left),
+      c .if3 .taken,
+    )
 
 returns-4 : tie.Need-returns-4
 unfolding askedCheck
@@ -48,7 +53,13 @@ returns-5 : tie.Need-returns-5
 unfolding askedCheck
 returns-5 c =
     let a = c .before .before .before .before .before .before .before .args in
-    rw (size (c .before .before .before .before), lt-leb _ _ (c .before .before .before .if1 .left), not-false (a .asked .left) (c .before .if2 .left), c .if3 .left)
+    rw (
+      size (c .before .before .before .before),
+      lt-leb _ _ (c .before .before .before .if1 .left),
+      not-false (a .asked .left)
+          (c .before .if2 .left),
+      c .if3 .left,
+    )
 
 pub check-asked-spec : {M : Type 1} → statement M
 check-asked-spec =

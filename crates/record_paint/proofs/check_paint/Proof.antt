@@ -1,16 +1,13 @@
--- `record_paint::check_paint` meets its contract: the size, the count and then the places decide whether the rules are kept; where they
--- are, what is asked of the layers gives the answer.
+-- `record_paint::check_paint` meets its contract: the size, the count and then the places decide whether the rules are kept;
+-- where they are, what is asked of the layers gives the answer.
 -- Assumes nothing.
 use mathlib.Core.Path.{_≡_, sym, ap, ap₂, _∙_}
-use mathlib.Core.Bool.{Bool, true, false, _&&_}
+use mathlib.Core.Bool.{true, false}
 use mathlib.Core.List.{List}
-use Prim.Native.Nat.{ℕ, _≤_}
+use Prim.Native.Nat.{ℕ}
 use native.Mathlib.Omega.{arith}
 use borrow.Author.Tests.{not-true, not-false}
 use lib.IntN.{ℤ, pos}
-use lib.ListN.{length}
-use mir.Syntax.{w32}
-use mir.Val.{toZ, ofZ}
 use mir.Facts.{toZ-ofZ}
 use Rattle.signed.specs.Signed.{floor0}
 use Rattle.refusal.specs.declared.Checked.{Checked}
@@ -26,7 +23,7 @@ use Rattle.record_numbers.specs.RecordNumbers.{numberAt, within}
 use Rattle.record_numbers.proofs.Walks.{read-back}
 use Rattle.sheet_record.specs.SheetRecord.{sheetOf}
 use Rattle.sheet_record.proofs.Parts.{sixteen}
-use Rattle.record_rules.specs.RecordRules.{placesTested, askedFrom}
+use Rattle.record_rules.specs.RecordRules.{placesTested}
 use Rattle.record_paint.specs.RecordPaint.{nextOf, askedCheck}
 use Rattle.record_paint.proofs.Rules.{rulesKept, broken-by-count, count-few, rules-by-places, count-kept}
 use Rattle.record_paint.proofs.Answers.{tested-broken, tested-kept, answer-by-asked}
@@ -41,20 +38,29 @@ sheet c = sheetOf (c .args .numbers .now)
 refused : (c : tie.Start) (canvas : List ℕ) → rulesKept (c .args .numbers .now) (c .pre) ≡ false
     → sheetAnswer (sheet c) canvas (Call·paint (c .args .layer)) ≡ brokenSheet
 refused c canvas broken =
-    paint-broken (sheet c .width) (sheet c .height) (sheet c .count) (sheet c .layers) (sixteen (c .args .numbers .now)) (c .args .layer) canvas broken
+    paint-broken (sheet c .width) (sheet c .height) (sheet c .count) (sheet c .layers) (sixteen (c .args .numbers .now))
+    (c .args .layer) canvas broken
 
 -- the size is the sheet's
-size-is : (c : tie.After-check) (check : Checked) → c .check .result ≡ check → canvasSizeCheck (sheet (c .before .before) .width) (sheet (c .before .before) .height) ≡ check
+size-is : (c : tie.After-check) (check : Checked) → c .check .result ≡ check
+    → canvasSizeCheck (sheet (c .before .before) .width) (sheet (c .before .before) .height) ≡ check
 size-is c check found =
     let size = c .before .size-of .ensures in
     sym (c .check .ensures ∙ ap₂ canvasSizeCheck (size .0) (size .1)) ∙ found
 
-size : (c : tie.After-enum-told2) → canvasSizeCheck (sheet (c .before .before .before .before) .width) (sheet (c .before .before .before .before) .height) ≡ Passed
+size : (c : tie.After-enum-told2)
+    → canvasSizeCheck (sheet (c .before .before .before .before) .width) (sheet (c .before .before .before .before) .height)
+    ≡ Passed
 size c = size-is (c .before .before) Passed (c .enum-told2 .given .1)
 
 -- the count is tested as it is read
-few-is : (c : tie.After-is-within) → within (pos 0) (pos 16) (numberAt (c .before .before .before .before .before .before .args .numbers .now) 2) ≡ c .is-within .result
-few-is c = sym (c .is-within .ensures ∙ ap (within (pos 0) (pos 16)) (read-back (c .before .before .before .before .before .before .args .numbers .now) 2 (c .before .is-within-arg .given)))
+few-is : (c : tie.After-is-within)
+    → within (pos 0) (pos 16) (numberAt (c .before .before .before .before .before .before .args .numbers .now) 2)
+    ≡ c .is-within .result
+few-is c =
+    sym (c .is-within .ensures
+    ∙ ap (within (pos 0) (pos 16))
+    (read-back (c .before .before .before .before .before .before .args .numbers .now) 2 (c .before .is-within-arg .given)))
 
 abbrev start : tie.After-next-of → tie.Start
 start c = c .before .before .before .before .before .before .before .before .before .before
@@ -102,7 +108,9 @@ is-within-requires c κs = search needs
 returns : tie.Need-returns
 returns c =
     let entry = c .before .before .before .before .before .before .before in
-    λ canvas long. sym (refused entry canvas (broken-by-count (entry .args .numbers .now) (entry .pre) (few-is (c .before) ∙ not-true _ (c .if1 .taken))))
+    λ canvas long. sym
+    (refused entry canvas
+    (broken-by-count (entry .args .numbers .now) (entry .pre) (few-is (c .before) ∙ not-true _ (c .if1 .taken))))
 
 shared-slice-copy-out-floor0 : tie.Need-shared-slice-copy-out-floor0
 shared-slice-copy-out-floor0 c = search needs
@@ -133,7 +141,8 @@ returns-2 c =
     let read = places .before in
     let entry = start read in
     let n = entry .args .numbers .now in
-    let broken = tested-broken n (floor0 (numberAt n 2)) (entry .args .layer) (nextOf n (entry .args .layer)) (sym (c .enum-told3 .given .1) ∙ tested places) in
+    let broken = tested-broken n (floor0 (numberAt n 2)) (entry .args .layer) (nextOf n (entry .args .layer))
+    (sym (c .enum-told3 .given .1) ∙ tested places) in
     λ canvas long. sym (refused entry canvas (rules-by-places n (entry .pre) (passed read) (few read) ∙ broken))
 
 check-asked-requires : tie.Need-check-asked-requires
@@ -143,7 +152,8 @@ returns-3 : tie.Need-returns-3
 returns-3 c =
     let entry = c .before .before .before .before in
     λ canvas long. sym (refused entry canvas
-    (broken-size (sheet entry .width) (sheet entry .height) (sheet entry .count) (sheet entry .layers) _ (size-is (c .before .before) _ (c .enum-told .given .1))))
+    (broken-size (sheet entry .width) (sheet entry .height) (sheet entry .count) (sheet entry .layers) _
+    (size-is (c .before .before) _ (c .enum-told .given .1))))
 
 returns-4 : tie.Need-returns-4
 returns-4 c =
@@ -152,11 +162,13 @@ returns-4 c =
     let entry = start read in
     let a = entry .args in
     let n = a .numbers .now in
-    let found = tested-kept n (floor0 (numberAt n 2)) (a .layer) (nextOf n (a .layer)) (c .before .before .asked .given .0 .0) (sym (c .before .before .asked .given .1) ∙ tested places) in
+    let found = tested-kept n (floor0 (numberAt n 2)) (a .layer) (nextOf n (a .layer)) (c .before .before .asked .given .0 .0)
+    (sym (c .before .before .asked .given .1) ∙ tested places) in
     let rules = rules-by-places n (entry .pre) (passed read) (few read) ∙ found .0 in
     let size = read .before .before .before .before .before .before .before .before .before .size-of .ensures in
     λ canvas long.
-    ap answerOf (c .check-asked .ensures ∙ (λ i. askedCheck (size .0 i) (size .1 i) (sym long i) (count-is read i) (a .layer) (found .1 i)))
+    ap answerOf
+    (c .check-asked .ensures ∙ (λ i. askedCheck (size .0 i) (size .1 i) (sym long i) (count-is read i) (a .layer) (found .1 i)))
     ∙ answer-by-asked n (entry .pre) (floor0 (numberAt n 2)) (a .layer) canvas rules
     (count-kept n (entry .pre) (passed read) (few read) rules) (count-few n (entry .pre) (passed read) (few read))
 

@@ -1,8 +1,7 @@
 -- `record_paint::next_of` meets its contract: the last number of a place is its next row.
 -- Assumes nothing.
-use mathlib.Core.Path.{_≡_, refl, sym}
-use Prim.Native.Nat.{ℕ, _+_, _*_}
-use native.Mathlib.Omega.{arith}
+use mathlib.Core.Path.{refl, sym}
+use Prim.Native.Nat.{_+_, _*_}
 use borrow.Author.Tests.{lt-ltb, le-ltb}
 use Rattle.layers.specs.Layers.{layerRows}
 use Rattle.record_numbers.proofs.Walks.{read-back}

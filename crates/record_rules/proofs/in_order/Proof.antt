@@ -1,7 +1,7 @@
--- `record_rules::in_order` meets its contract: a layer that owes nothing, or whose rows left lie apart from the painted ones, is overtaken
--- by none.
+-- `record_rules::in_order` meets its contract: a layer that owes nothing, or whose rows left lie apart from the painted ones,
+-- is overtaken by none.
 -- Assumes nothing.
-use mathlib.Core.Path.{_≡_, sym}
+use mathlib.Core.Path.{sym}
 use mathlib.Core.List.{List}
 use Prim.Native.Nat.{_-_}
 use mir.Syntax.{w32}
@@ -31,17 +31,20 @@ later c = rowsFrom (c .args .numbers .now) (c .args .from) (c .args .count - c .
 returns : tie.Need-returns
 returns c =
     let entry = c .before .before .before in
-    sym (none-owed (entry .args .earlier) (later entry) (le-held (earlier-fits entry .end) (earlier-fits entry .next) (c .if1 .taken)))
+    sym (none-owed (entry .args .earlier) (later entry)
+    (le-held (earlier-fits entry .end) (earlier-fits entry .next) (c .if1 .taken)))
 
 returns-2 : tie.Need-returns-2
 returns-2 c =
     let entry = c .before .before .before .before .before .before .before .before in
-    sym (none-past-next (entry .args .earlier) (entry .args .painted) (le-held (end-fits entry) (earlier-fits entry .next) (c .if2 .taken)) (later entry) (entry .pre .1 .1 .1))
+    sym (none-past-next (entry .args .earlier) (entry .args .painted)
+    (le-held (end-fits entry) (earlier-fits entry .next) (c .if2 .taken)) (later entry) (entry .pre .1 .1 .1))
 
 returns-3 : tie.Need-returns-3
 returns-3 c =
     let entry = c .before .before .before .before .before .before .before .before .before .before .before .before .before in
-    sym (none-before-end (entry .args .earlier) (entry .args .painted) (le-held (earlier-fits entry .end) (first-fits entry) (c .if3 .taken)) (later entry) (entry .pre .1 .1 .1))
+    sym (none-before-end (entry .args .earlier) (entry .args .painted)
+    (le-held (earlier-fits entry .end) (first-fits entry) (c .if3 .taken)) (later entry) (entry .pre .1 .1 .1))
 
 none-overtakes-requires : tie.Need-none-overtakes-requires
 none-overtakes-requires c κs = search needs

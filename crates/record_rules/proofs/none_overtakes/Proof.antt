@@ -2,17 +2,14 @@
 -- Assumes nothing.
 use mathlib.Core.Path.{_≡_, refl, sym, ap, _∙_}
 use mathlib.Core.Bool.{Bool, true, false, not, _&&_}
-use mathlib.Core.List.{List, []}
-use Prim.Native.Nat.{ℕ, _+_, _-_, _≤_, _<_}
+use Prim.Native.Nat.{ℕ, _+_, _-_, _≤_}
 use native.Mathlib.Omega.{arith}
 use borrow.Author.Needs.{needs}
-use lib.IntN.{ℤ}
-use Rattle.layer_rows.specs.declared.LayerRows.{LayerRows}
 use Rattle.layer_rows.specs.LayerRows.{rowsOvertake, noRowsOvertake}
 use Rattle.record_numbers.proofs.Walks.{list-from-here, list-from-past}
 use Rattle.sheet_record.specs.SheetRecord.{placeNumbers}
 use Rattle.place_rules.specs.PlaceRules.{placeKept}
-use Rattle.place_rules.proofs.Limits.{each-of-all}
+use Rattle.sheet_record.proofs.ReadBack.{each-of-all}
 use Rattle.record_rules.specs.RecordRules.{rowsAt, rowsFrom}
 use Rattle.record_rules.proofs.Painted.{overtake-by-painted}
 use Rattle.record_rules.proofs.none_overtakes.Statement.{statement}
@@ -20,7 +17,8 @@ use Rattle.record_rules.proofs.none_overtakes.Tie as tie
 
 abbrev Inv-loop : tie.InvT-loop
 Inv-loop numbers earlier from count j₀ j =
-    (from ≤ j) × (j ≤ count) × (noRowsOvertake earlier (rowsFrom numbers j (count - j)) ≡ noRowsOvertake earlier (rowsFrom numbers from (count - from)))
+    (from ≤ j) × (j ≤ count) ×
+    (noRowsOvertake earlier (rowsFrom numbers j (count - j)) ≡ noRowsOvertake earlier (rowsFrom numbers from (count - from)))
 
 abbrev μ-loop : tie.MeasureT-loop
 μ-loop numbers earlier from count j₀ j = count - j
@@ -41,7 +39,8 @@ step c t found =
     let j = c .before .before .before .loop .j in
     let painted = c .before .painted-at .ensures in
     let here : rowsOvertake (a .earlier) (rowsAt n j) ≡ t =
-    sym (overtake-by-painted (a .earlier) (c .before .painted-at .result) (rowsAt n j) (painted .0) (painted .1)) ∙ sym (c .is-overtaken .ensures) ∙ found in
+    sym (overtake-by-painted (a .earlier) (c .before .painted-at .result) (rowsAt n j) (painted .0) (painted .1))
+    ∙ sym (c .is-overtaken .ensures) ∙ found in
     ap (noRowsOvertake (a .earlier)) (list-from-here (rowsAt n) (a .count) j (c .before .before .loop-test .taken))
     ∙ ap (λ (s : Bool). not s && left c (j + 1)) here
 
@@ -56,7 +55,8 @@ painted-at-requires c κs =
     let from = c .before .loop .inv .0 in
     let few = entry .pre .1 .0 .1 in (
       (entry .pre .0, omega arith),
-      each-of-all (λ k. placeKept (placeNumbers n k)) (entry .args .count - entry .args .from) (entry .args .from) (c .before .loop .j) from (omega arith) (entry .pre .1 .1),
+      each-of-all (λ k. placeKept (placeNumbers n k)) (entry .args .count - entry .args .from) (entry .args .from)
+          (c .before .loop .j) from (omega arith) (entry .pre .1 .1),
     )
 
 is-overtaken-requires : tie.Need-is-overtaken-requires Inv-loop μ-loop
@@ -82,7 +82,8 @@ unfolding noRowsOvertake
 returns-2 c =
     let a = c .before .before .args in
     let n = a .numbers .now in
-    sym (sym (c .before .loop .inv .2) ∙ ap (noRowsOvertake (a .earlier)) (list-from-past (rowsAt n) (a .count) (c .before .loop .j) (c .loop-test .left)))
+    sym (sym (c .before .loop .inv .2)
+    ∙ ap (noRowsOvertake (a .earlier)) (list-from-past (rowsAt n) (a .count) (c .before .loop .j) (c .loop-test .left)))
 
 pub none-overtakes-spec : {M : Type 1} → statement M
 none-overtakes-spec =

@@ -1,10 +1,9 @@
 -- `record_rules::painted_at` meets its contract: the part that is lent is the place's.
 -- Assumes nothing.
 use mathlib.Core.Path.{_≡_, sym, ap, subst, _∙_}
-use mathlib.Core.Bool.{Bool, true, _&&_}
+use mathlib.Core.Bool.{true, _&&_}
 use mathlib.Core.List.{List}
-use Prim.Native.Nat.{ℕ, _+_, _*_, _<_}
-use native.Mathlib.Omega.{arith}
+use Prim.Native.Nat.{_+_, _*_}
 use lib.IntN.{ℤ}
 use lib.ListN.{length}
 use mir.Facts.{toZ-ofZ}
@@ -24,7 +23,8 @@ use Rattle.record_rules.proofs.painted_at.Tie as tie
 -- a place has 18 numbers
 long-place : (c : tie.Start) → length (placeNumbers (c .args .numbers .now) (c .args .j)) ≡ 18
 long-place c =
-    sym (ap length (place-part (c .args .numbers .now) (c .args .j))) ∙ place-part-length (c .args .numbers .now) (c .args .j) (c .pre .0 .0) (c .pre .0 .1)
+    sym (ap length (place-part (c .args .numbers .now) (c .args .j)))
+    ∙ place-part-length (c .args .numbers .now) (c .args .j) (c .pre .0 .0) (c .pre .0 .1)
 
 mul-at : tie.Need-mul-at
 mul-at c = search needs
@@ -73,7 +73,8 @@ returns c =
     let j = entry .args .j in
     let made = c .before .first-row .ensures in
     let place = rows-of-place (placeNumbers n j) (long-place entry) in (
-      toZ-ofZ (made .fits) ∙ made .is ∙ ap (λ (p : List ℤ). firstRowOf p) (place-part n j) ∙ sym (ap (λ (r : StrokeRows). r .first) place),
+      toZ-ofZ (made .fits) ∙ made .is ∙ ap (λ (p : List ℤ). firstRowOf p) (place-part n j)
+          ∙ sym (ap (λ (r : StrokeRows). r .first) place),
       read-back n (3 + 18 * j + 17) (c .t14 .given) ∙ sym (next-in-place n j),
     )
 

@@ -1,10 +1,10 @@
--- `record_rules::test_places` meets its contract: what is known of the places behind is known of one more, or the whole breaks a rule. At
--- the end it is known of all.
+-- `record_rules::test_places` meets its contract: what is known of the places behind is known of one more, or the whole breaks
+-- a rule. At the end it is known of all.
 -- Assumes nothing.
-use mathlib.Core.Path.{_≡_, refl, sym, ap, subst, _∙_}
-use mathlib.Core.Bool.{Bool, true, false, cond}
+use mathlib.Core.Path.{_≡_, sym, ap, subst, _∙_}
+use mathlib.Core.Bool.{true, cond}
 use mathlib.Core.List.{List}
-use Prim.Native.Nat.{ℕ, _+_, _-_, _*_, _<_, _≤_}
+use Prim.Native.Nat.{ℕ, _+_, _-_, _<_, _≤_}
 use native.Mathlib.Omega.{arith}
 use borrow.Author.Needs.{needs}
 use borrow.Author.Tests.{not-true, not-false}
@@ -14,7 +14,6 @@ use mir.Val.{SFits, toZ, ofZ}
 use mir.Facts.{toZ-ofZ}
 use Rattle.layer_rows.specs.declared.LayerRows.{LayerRows}
 use Rattle.layer_rows.specs.LayerRows.{noRowsOvertake}
-use Rattle.layers.specs.declared.RowsFound.{RowsFound}
 use Rattle.layers.specs.declared.RowsFound.the-variants as rows-found
 use Rattle.layers.specs.Layers.{layerRows}
 use Rattle.sheet_record.specs.SheetRecord.{placeNumbers, layerOf}
@@ -28,7 +27,8 @@ use Rattle.record_rules.proofs.test_places.Statement.{statement}
 use Rattle.record_rules.proofs.test_places.Tie as tie
 
 abbrev Inv-loop : tie.InvT-loop
-Inv-loop numbers count layer y painted₀ asked₀ i₀ painted asked i = (i ≤ count) × WalkedTo numbers count layer (toZ w32 y) painted asked i
+Inv-loop numbers count layer y painted₀ asked₀ i₀ painted asked i =
+    (i ≤ count) × WalkedTo numbers count layer (toZ w32 y) painted asked i
 
 abbrev μ-loop : tie.MeasureT-loop
 μ-loop numbers count layer y painted₀ asked₀ i₀ painted asked i = i
@@ -61,24 +61,32 @@ found : (c : tie.After-place-rows Inv-loop μ-loop) → c .place-rows .result
     ≡ cond (placeKept (placeNumbers (start c .args .numbers .now) (place c))) (rows-found.Kept (rowsAt (start c .args .numbers .now) (place c))) rows-found.Broken
 found c =
     c .place-rows .ensures
-    ∙ ap (λ (p : List ℤ). cond (placeKept p) (rows-found.Kept (layerRows (layerOf p))) rows-found.Broken) (place-part (start c .args .numbers .now) (place c))
+    ∙ ap (λ (p : List ℤ). cond (placeKept p) (rows-found.Kept (layerRows (layerOf p))) rows-found.Broken)
+    (place-part (start c .args .numbers .now) (place c))
 
 abbrev taken : tie.After-in-order Inv-loop μ-loop → tie.After-place-rows Inv-loop μ-loop
 taken c = c .before .before .before .before
 
 kept : (c : tie.After-known-told Inv-loop μ-loop)
-    → (placeKept (placeNumbers (start (c .before .before .before) .args .numbers .now) (place (c .before .before .before))) ≡ true)
-    × (c .before .rows .given .0 .0 ≡ rowsAt (start (c .before .before .before) .args .numbers .now) (place (c .before .before .before)))
+    → (placeKept (placeNumbers (start (c .before .before .before) .args .numbers .now) (place (c .before .before .before)))
+    ≡ true)
+    × (c .before .rows .given .0 .0
+    ≡ rowsAt (start (c .before .before .before) .args .numbers .now) (place (c .before .before .before)))
 kept c =
     let at = c .before .before .before in
     let n = start at .args .numbers .now in
-    found-kept (placeKept (placeNumbers n (place at))) (rowsAt n (place at)) (c .before .rows .given .0 .0) (sym (c .before .rows .given .1) ∙ found at)
+    found-kept (placeKept (placeNumbers n (place at))) (rowsAt n (place at)) (c .before .rows .given .0 .0)
+    (sym (c .before .rows .given .1) ∙ found at)
 
 none-requires : tie.Need-none-requires Inv-loop μ-loop
 none-requires c κs = search needs
 
 loop-holds : tie.Need-loop-holds Inv-loop μ-loop
-loop-holds c = (omega arith, walked-none (c .before .args .numbers .now) (c .before .args .count) (c .before .args .layer) (toZ w32 (ofZ w32 (c .before .args .y))) (c .none .result))
+loop-holds c = (
+  omega arith,
+  walked-none (c .before .args .numbers .now) (c .before .args .count) (c .before .args .layer)
+      (toZ w32 (ofZ w32 (c .before .args .y))) (c .none .result),
+)
 
 sub-place : tie.Need-sub-place Inv-loop μ-loop
 sub-place c = omega arith
@@ -137,7 +145,8 @@ returns-2 c =
     let at = taken (c .before) in
     let a = start at .args in
     overtaken-here (a .numbers .now) (a .count) (a .layer) (a .y) (place at) (walk at .loop .i) (step at) (here at)
-    (ap (λ (r : LayerRows). noRowsOvertake r (rowsFrom (a .numbers .now) (walk at .loop .i) (a .count - walk at .loop .i))) (sym (kept known .1))
+    (ap (λ (r : LayerRows). noRowsOvertake r (rowsFrom (a .numbers .now) (walk at .loop .i) (a .count - walk at .loop .i)))
+    (sym (kept known .1))
     ∙ sym (c .before .in-order .ensures) ∙ not-true _ (c .if1 .taken))
 
 and-requires : tie.Need-and-requires Inv-loop μ-loop
@@ -157,15 +166,20 @@ loop-again c =
     let a = start at .args in
     let y = toZ w32 (ofZ w32 (a .y)) in
     let inv = walk at .loop .inv in
-    let none = ap (λ (r : LayerRows). noRowsOvertake r (rowsFrom (a .numbers .now) (walk at .loop .i) (a .count - walk at .loop .i))) (sym (kept known .1))
+    let none = ap
+    (λ (r : LayerRows). noRowsOvertake r (rowsFrom (a .numbers .now) (walk at .loop .i) (a .count - walk at .loop .i)))
+    (sym (kept known .1))
     ∙ sym (order .in-order .ensures) ∙ not-false _ (c .before .before .if1 .left) in
     let next = one-more (a .numbers .now) (a .count) (a .layer) y (place at) (walk at .loop .i) (step at) (here at)
     (walk at .loop .painted) (walk at .loop .asked) (inv .1) (kept known .0) none in
     let painted = c .before .and .ensures ∙ ap (alsoPainted (walk at .loop .painted)) (kept known .1) in
-    let asked = c .and2 .ensures ∙ ap (λ (r : LayerRows). askedOf (walk at .loop .asked) r (place at) (a .layer) y) (kept known .1) in (
+    let asked = c .and2 .ensures
+    ∙ ap (λ (r : LayerRows). askedOf (walk at .loop .asked) r (place at) (a .layer) y) (kept known .1) in (
       omega (arith, here at),
-      subst (λ (p : PaintedRows). WalkedTo (a .numbers .now) (a .count) (a .layer) y p (c .and2 .result) (place at)) (sym painted)
-          (subst (λ (q : Asked). WalkedTo (a .numbers .now) (a .count) (a .layer) y (alsoPainted (walk at .loop .painted) (rowsAt (a .numbers .now) (place at))) q (place at)) (sym asked) next),
+      subst (λ (p : PaintedRows). WalkedTo (a .numbers .now) (a .count) (a .layer) y p (c .and2 .result) (place at))
+          (sym painted)
+          (subst (λ (q : Asked). WalkedTo (a .numbers .now) (a .count) (a .layer) y
+          (alsoPainted (walk at .loop .painted) (rowsAt (a .numbers .now) (place at))) q (place at)) (sym asked) next),
     )
 
 returns-3 : tie.Need-returns-3 Inv-loop μ-loop
@@ -174,7 +188,9 @@ returns-3 c =
     let a = loop .before .before .args in
     let none : loop .loop .i ≡ 0 = omega arith in
     let y = held-row (loop .before .before) in
-    let all = subst (λ (i : ℕ). WalkedTo (a .numbers .now) (a .count) (a .layer) (toZ w32 (ofZ w32 (a .y))) (loop .loop .painted) (loop .loop .asked) i) none (loop .loop .inv .1) in
+    let all = subst
+    (λ (i : ℕ). WalkedTo (a .numbers .now) (a .count) (a .layer) (toZ w32 (ofZ w32 (a .y))) (loop .loop .painted)
+    (loop .loop .asked) i) none (loop .loop .inv .1) in
     walked-all (a .numbers .now) (a .count) (a .layer) (toZ w32 (ofZ w32 (a .y))) (loop .loop .painted) (loop .loop .asked) all
     ∙ ap (placesTested (a .numbers .now) (a .count) (a .layer)) y
 

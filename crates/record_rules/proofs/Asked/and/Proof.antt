@@ -1,12 +1,11 @@
--- `record_rules::Asked::and` meets its contract: a later place changes nothing, an earlier one may owe the row, and the layer's own may
--- have it left.
+-- `record_rules::Asked::and` meets its contract: a later place changes nothing, an earlier one may owe the row, and the layer's
+-- own may have it left.
 -- Assumes nothing.
-use mathlib.Core.Path.{_≡_, refl, sym, ap, ap₂, _∙_}
+use mathlib.Core.Path.{_≡_, refl, ap, ap₂, _∙_}
 use mathlib.Core.Bool.{Bool, _||_}
 use native.Mathlib.Omega.{arith}
 use borrow.Author.Needs.{needs}
 use borrow.Author.Tests.{eq-eqb, ne-eqb, le-ltb, lt-ltb}
-use lib.IntN.{ℤ}
 use lib.Signed.{ltZ}
 use mir.Syntax.{w32}
 use mir.Val.{SFits}
@@ -36,7 +35,8 @@ returns-2 c =
     let earlier = c .before .before .if2 .taken in
     let y-fits : SFits w32 (a .y) = fits entry in
     rw (ne-eqb (a .i) (a .layer) (λ same. omega arith), lt-ltb (a .i) (a .layer) earlier)
-    (asked-by-fields refl (ap (λ (t : Bool). t || a .self .owed) (c .before .owes .ensures ∙ ap (rowsOwe (a .rows)) (toZ-ofZ y-fits))))
+    (asked-by-fields refl
+    (ap (λ (t : Bool). t || a .self .owed) (c .before .owes .ensures ∙ ap (rowsOwe (a .rows)) (toZ-ofZ y-fits))))
   where
     fits : (e : tie.Start) → SFits w32 (e .args .y)
     fits e = search needs
@@ -48,7 +48,8 @@ returns-3 c =
     let not-later = c .before .before .before .before .if1 .left in
     let not-earlier = c .before .before .before .if2 .left in
     rw (eq-eqb (a .i) (a .layer) (omega arith), le-ltb (a .i) (a .layer) not-earlier)
-    (asked-by-fields (ap (λ (t : Bool). t || a .self .left) (ap₂ ltZ (toZ-ofZ (next-fits entry)) (toZ-ofZ (end-fits entry)))) refl)
+    (asked-by-fields
+    (ap (λ (t : Bool). t || a .self .left) (ap₂ ltZ (toZ-ofZ (next-fits entry)) (toZ-ofZ (end-fits entry)))) refl)
   where
     next-fits : (e : tie.Start) → SFits w32 (e .args .rows .next)
     next-fits e = search needs
