@@ -98,56 +98,56 @@ module _ (f : ℕ → ℤ) where
   radius k = radiusKept any (f k)
 
   -- ---- the tests of the numbers say that they are in their ranges, and back
-  abbrev k0 : Bool
-  k0 = within (pos 0) (pos 2) (f 0)
+  abbrev kindWithin : Bool
+  kindWithin = within (pos 0) (pos 2) (f 0)
 
-  abbrev k1 : Bool
-  k1 = within (negsuc 4095) (pos 4096) (f 1)
+  abbrev xWithin : Bool
+  xWithin = within (negsuc 4095) (pos 4096) (f 1)
 
-  abbrev k2 : Bool
-  k2 = within (negsuc 4095) (pos 4096) (f 2)
+  abbrev yWithin : Bool
+  yWithin = within (negsuc 4095) (pos 4096) (f 2)
 
-  abbrev k3 : Bool
-  k3 = within (pos 0) (pos 1024) (f 3)
+  abbrev widthWithin : Bool
+  widthWithin = within (pos 0) (pos 1024) (f 3)
 
-  abbrev k4 : Bool
-  k4 = within (pos 0) (pos 1024) (f 4)
+  abbrev heightWithin : Bool
+  heightWithin = within (pos 0) (pos 1024) (f 4)
 
-  abbrev s13 : Bool
-  s13 = within (negsuc 0) (pos 255) (f 13)
+  abbrev strokeWithin : Bool
+  strokeWithin = within (negsuc 0) (pos 255) (f 13)
 
-  abbrev s14 : Bool
-  s14 = within (negsuc 0) (pos 255) (f 14)
+  abbrev fillWithin : Bool
+  fillWithin = within (negsuc 0) (pos 255) (f 14)
 
-  abbrev s15 : Bool
-  s15 = within (pos 0) (pos 256) (f 15)
+  abbrev strokeWidthWithin : Bool
+  strokeWidthWithin = within (pos 0) (pos 256) (f 15)
 
-  abbrev s16 : Bool
-  s16 = within (pos 0) (pos 2) (f 16)
+  abbrev alignmentWithin : Bool
+  alignmentWithin = within (pos 0) (pos 2) (f 16)
 
   radii-are : radiiKept any numbers ≡ allFrom radius 5 8
   unfolding radiiKept listFrom allFrom
   radii-are = refl
 
-  figure-is : figureKept numbers ≡ (((((k0 && k1) && k2) && k3) && k4) && allFrom radius 5 8)
+  figure-is : figureKept numbers ≡ (((((kindWithin && xWithin) && yWithin) && widthWithin) && heightWithin) && allFrom radius 5 8)
   unfolding figureKept rectangleKept listFrom
-  figure-is = ap (λ (t : Bool). ((((k0 && k1) && k2) && k3) && k4) && t) radii-are
+  figure-is = ap (λ (t : Bool). ((((kindWithin && xWithin) && yWithin) && widthWithin) && heightWithin) && t) radii-are
 
-  style-is : styleKept numbers ≡ (((s13 && s14) && s15) && s16)
+  style-is : styleKept numbers ≡ (((strokeWithin && fillWithin) && strokeWidthWithin) && alignmentWithin)
   unfolding styleKept listFrom
   style-is = refl
 
   pub limits-of-kept : (figureKept numbers && styleKept numbers) ≡ true → PlaceLimits f
   limits-of-kept e =
       let both = and-true-parts (figureKept numbers) (styleKept numbers) e in
-      let a5 = and-true-parts ((((k0 && k1) && k2) && k3) && k4) (allFrom radius 5 8) (sym figure-is ∙ both .0) in
-      let a4 = and-true-parts (((k0 && k1) && k2) && k3) k4 (a5 .0) in
-      let a3 = and-true-parts ((k0 && k1) && k2) k3 (a4 .0) in
-      let a2 = and-true-parts (k0 && k1) k2 (a3 .0) in
-      let a1 = and-true-parts k0 k1 (a2 .0) in
-      let b3 = and-true-parts ((s13 && s14) && s15) s16 (sym style-is ∙ both .1) in
-      let b2 = and-true-parts (s13 && s14) s15 (b3 .0) in
-      let b1 = and-true-parts s13 s14 (b2 .0) in
+      let a5 = and-true-parts ((((kindWithin && xWithin) && yWithin) && widthWithin) && heightWithin) (allFrom radius 5 8) (sym figure-is ∙ both .0) in
+      let a4 = and-true-parts (((kindWithin && xWithin) && yWithin) && widthWithin) heightWithin (a5 .0) in
+      let a3 = and-true-parts ((kindWithin && xWithin) && yWithin) widthWithin (a4 .0) in
+      let a2 = and-true-parts (kindWithin && xWithin) yWithin (a3 .0) in
+      let a1 = and-true-parts kindWithin xWithin (a2 .0) in
+      let b3 = and-true-parts ((strokeWithin && fillWithin) && strokeWidthWithin) alignmentWithin (sym style-is ∙ both .1) in
+      let b2 = and-true-parts (strokeWithin && fillWithin) strokeWidthWithin (b3 .0) in
+      let b1 = and-true-parts strokeWithin fillWithin (b2 .0) in
       record {
         kind = between (pos 0) (pos 2) (f 0) (a1 .0);
         x = between (negsuc 4095) (pos 4096) (f 1) (a1 .1);
@@ -163,16 +163,16 @@ module _ (f : ℕ → ℤ) where
 
   kept-of-limits : PlaceLimits f → (figureKept numbers && styleKept numbers) ≡ true
   kept-of-limits l =
-      let a0 : k0 ≡ true = and-true-of (l .kind .0) (l .kind .1) in
-      let a1 : k1 ≡ true = and-true-of (l .x .0) (l .x .1) in
-      let a2 : k2 ≡ true = and-true-of (l .y .0) (l .y .1) in
-      let a3 : k3 ≡ true = and-true-of (l .width .0) (l .width .1) in
-      let a4 : k4 ≡ true = and-true-of (l .height .0) (l .height .1) in
+      let a0 : kindWithin ≡ true = and-true-of (l .kind .0) (l .kind .1) in
+      let a1 : xWithin ≡ true = and-true-of (l .x .0) (l .x .1) in
+      let a2 : yWithin ≡ true = and-true-of (l .y .0) (l .y .1) in
+      let a3 : widthWithin ≡ true = and-true-of (l .width .0) (l .width .1) in
+      let a4 : heightWithin ≡ true = and-true-of (l .height .0) (l .height .1) in
       let a5 : allFrom radius 5 8 ≡ true = all-of-each radius 8 5 (λ k from to. l .radii k from (omega arith)) in
-      let b13 : s13 ≡ true = and-true-of (l .stroke .0) (l .stroke .1) in
-      let b14 : s14 ≡ true = and-true-of (l .fill .0) (l .fill .1) in
-      let b15 : s15 ≡ true = and-true-of (l .stroke-width .0) (l .stroke-width .1) in
-      let b16 : s16 ≡ true = and-true-of (l .alignment .0) (l .alignment .1) in
+      let b13 : strokeWithin ≡ true = and-true-of (l .stroke .0) (l .stroke .1) in
+      let b14 : fillWithin ≡ true = and-true-of (l .fill .0) (l .fill .1) in
+      let b15 : strokeWidthWithin ≡ true = and-true-of (l .stroke-width .0) (l .stroke-width .1) in
+      let b16 : alignmentWithin ≡ true = and-true-of (l .alignment .0) (l .alignment .1) in
       and-true-of
       (figure-is ∙ and-true-of (and-true-of (and-true-of (and-true-of (and-true-of a0 a1) a2) a3) a4) a5)
       (style-is ∙ and-true-of (and-true-of (and-true-of b13 b14) b15) b16)
@@ -267,7 +267,7 @@ module _ (f : ℕ → ℤ) where
   signs j n = noneNegative (listFrom f j n)
 
   is-layer-by : isLayer numbers
-      ≡ ((within (pos 0) (pos 2) (f 0) && signs 3 10) && (s13 && (s14 && (leZ (pos 0) (f 15) && s16))))
+      ≡ ((within (pos 0) (pos 2) (f 0) && signs 3 10) && (strokeWithin && (fillWithin && (leZ (pos 0) (f 15) && alignmentWithin))))
   unfolding isFigure isStyle listFrom
   is-layer-by = refl
 
@@ -345,12 +345,12 @@ module _ (f : ℕ → ℤ) where
       → PlaceLimits f
   unfolding styledCheck
   limits-of-layer layer passed =
-      let both = and-true-parts (within (pos 0) (pos 2) (f 0) && signs 3 10) (s13 && (s14 && (leZ (pos 0) (f 15) && s16)))
+      let both = and-true-parts (within (pos 0) (pos 2) (f 0) && signs 3 10) (strokeWithin && (fillWithin && (leZ (pos 0) (f 15) && alignmentWithin)))
       (sym is-layer-by ∙ layer) in
       let figure = and-true-parts (within (pos 0) (pos 2) (f 0)) (signs 3 10) (both .0) in
-      let a = and-true-parts s13 (s14 && (leZ (pos 0) (f 15) && s16)) (both .1) in
-      let b = and-true-parts s14 (leZ (pos 0) (f 15) && s16) (a .1) in
-      let c = and-true-parts (leZ (pos 0) (f 15)) s16 (b .1) in
+      let a = and-true-parts strokeWithin (fillWithin && (leZ (pos 0) (f 15) && alignmentWithin)) (both .1) in
+      let b = and-true-parts fillWithin (leZ (pos 0) (f 15) && alignmentWithin) (a .1) in
+      let c = and-true-parts (leZ (pos 0) (f 15)) alignmentWithin (b .1) in
       let fig = figureCheck (layerOf numbers .figure) in
       let sty = styleCheck (layerOf numbers .style) in
       let checked = figure-checked (passed-first fig sty passed) in

@@ -5,10 +5,10 @@ use mathlib.Core.Bool.{Bool, cond, _&&_, _||_}
 use mathlib.Core.List.{List}
 use Prim.Native.Nat.{ℕ, _+_, _-_, _*_}
 use lib.Dec.{eqb}
-use lib.IntN.{ℤ, pos, negsuc, _-ℤ_}
+use lib.IntN.{ℤ, pos, negsuc, negℤ, _-ℤ_}
 use lib.Signed.{leZ, ltZ}
 use Rattle.signed.specs.Signed.{floor0}
-use Rattle.geometry.specs.Limits.{maxSide, maxRadius, maxStrokeWidth}
+use Rattle.geometry.specs.Limits.{maxSide, maxRadius, maxPosition, maxStrokeWidth}
 use Rattle.ellipse_points.specs.Relative.{firstRowInside}
 use Rattle.style.specs.Style.{outsideWidth}
 use Rattle.book.specs.Sheet.{layerKeepsRules}
@@ -38,8 +38,8 @@ radiiKept any numbers = allFrom (λ k. radiusKept any (numberAt numbers k)) 5 8
 -- the figure's numbers before its radii: kind, x and y, width and height
 unfoldable pub rectangleKept : List ℤ → Bool
 rectangleKept numbers =
-    (((within (pos 0) (pos 2) (numberAt numbers 0) && within (negsuc 4095) (pos 4096) (numberAt numbers 1))
-    && within (negsuc 4095) (pos 4096) (numberAt numbers 2)) && within (pos 0) (pos maxSide) (numberAt numbers 3))
+    (((within (pos 0) (pos 2) (numberAt numbers 0) && within (negℤ (pos maxPosition)) (pos maxPosition) (numberAt numbers 1))
+    && within (negℤ (pos maxPosition)) (pos maxPosition) (numberAt numbers 2)) && within (pos 0) (pos maxSide) (numberAt numbers 3))
     && within (pos 0) (pos maxSide) (numberAt numbers 4)
 
 -- all of the figure's numbers; the radii of an ellipse are not looked at

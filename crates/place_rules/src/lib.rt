@@ -23,11 +23,23 @@ ghost use Rattle.layers.specs.Layers.{layerRows};
 ghost use Rattle.sheet_record.specs.SheetRecord.{layerLength, layerOf};
 ghost use Rattle.place_rules.specs.PlaceRules.{highestRadius, radiiKept, rectangleKept, figureKept, styleKept, rowsAbove, strokeCount, firstRowOf, placeKept};
 
+// The limits of a side, a radius, a position and a stroke width (refusals 1, 2, 3 and 5), as a host's
+// numbers are held to them.
+const MAX_SIDE: i32 = 1024;
+
+const MAX_RADIUS: i32 = 1024;
+
+const MAX_POSITION: i32 = 4096;
+
+const MIN_POSITION: i32 = -4096;
+
+const MAX_STROKE_WIDTH: i32 = 256;
+
 // The highest number of a radius. That of an ellipse is not looked at.
 fn highest_radius(any: bool) -> i32
     ensures { λ r. ⌜ Is (highestRadius any) r ⌝ }
 {
-    if any { 2147483647 } else { 1024 }
+    if any { 2147483647 } else { MAX_RADIUS }
 }
 
 // Whether a figure's radii are within limits, whatever they are where any will do. No test ends the
@@ -52,10 +64,10 @@ fn rectangle_kept(numbers: &[i32]) -> bool
     ensures { λ r. ⌜ r ≡ rectangleKept (now (numbers .entry)) ⌝ }
 {
     is_within(0, 2, numbers[0])
-        & is_within(-4096, 4096, numbers[1])
-        & is_within(-4096, 4096, numbers[2])
-        & is_within(0, 1024, numbers[3])
-        & is_within(0, 1024, numbers[4])
+        & is_within(MIN_POSITION, MAX_POSITION, numbers[1])
+        & is_within(MIN_POSITION, MAX_POSITION, numbers[2])
+        & is_within(0, MAX_SIDE, numbers[3])
+        & is_within(0, MAX_SIDE, numbers[4])
 }
 
 // Whether the numbers are a figure's within limits. The radii are tested by one loop for each kind of
@@ -80,7 +92,7 @@ fn style_kept(numbers: &[i32]) -> bool
 {
     is_within(-1, 255, numbers[13])
         & is_within(-1, 255, numbers[14])
-        & is_within(0, 256, numbers[15])
+        & is_within(0, MAX_STROKE_WIDTH, numbers[15])
         & is_within(0, 2, numbers[16])
 }
 

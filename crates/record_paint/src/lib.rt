@@ -1,6 +1,7 @@
 // Painting on a sheet that a host keeps as numbers: what is tested and painted is read from them, and no
 // sheet is made and handed on.
 use canvas_size::CanvasSize;
+use layers::Layer;
 use record_numbers::is_within;
 use record_rules::Asked;
 use record_rules::PlacesTested;
@@ -21,12 +22,15 @@ ghost use Rattle.sheet.specs.Sheet.{sheetAnswer, canvasAfter};
 ghost use Rattle.sheet_record.specs.SheetRecord.{sheetLength, sheetOf, rowPainted};
 ghost use Rattle.record_paint.specs.RecordPaint.{nextOf, askedCheck};
 
+// The largest count of layers, as a host's number is held to it.
+const MAX_COUNT: i32 = 16;
+
 // The next row of a layer, or 0 where there is no such place.
 fn next_of(numbers: &[i32], layer: u32) -> i32
     requires { ⌜ length (now numbers) ≡ sheetLength ⌝ }
     ensures { λ r. ⌜ Is (nextOf (now (numbers .entry)) layer) r ⌝ }
 {
-    if 16 <= layer {
+    if Layer::MAX_LAYERS <= layer {
         return 0;
     }
     numbers[3 + LAYER_LENGTH * (layer as usize) + 17]
@@ -62,7 +66,7 @@ pub fn check_paint(numbers: &[i32], layer: u32, bytes: usize) -> Checked
     match size.check() {
         Checked::Refused(_) => Checked::Refused(Refusal::SheetRule),
         Checked::Passed => {
-            if !is_within(0, 16, numbers[2]) {
+            if !is_within(0, MAX_COUNT, numbers[2]) {
                 return Checked::Refused(Refusal::SheetRule);
             }
             let count = signed::floor0(numbers[2]);

@@ -34,7 +34,7 @@ placesKept numbers j n = allFrom (λ k. placeKept (placeNumbers numbers k)) j n
 
 -- ---- The rows that layers have painted: from the first up to the end.
 
--- none: no row of a layer is below the first or above the end
+-- none: a first row below every row of a layer, and an end above
 abbrev pub nonePainted : PaintedRows
 nonePainted = record { first = pos 8192; end = negsuc 8191 }
 
