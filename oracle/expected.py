@@ -47,10 +47,12 @@ def offset(x, y, w, h, k):
 def written(w, h, length, seed, room, full):
     if not (1 <= w <= 1024 and 1 <= h <= 1024):
         return 'refused 6'
-    if length > 16384 or room > 20480:
+    if length > 16384:
         return 'error larger than the buffers of this program'
     if length != w * h:
         return 'refused 8'
+    if room > 20480:
+        return 'error larger than the buffers of this program'
     file = f'P5\n{w} {h}\n255\n'.encode() + bytes((seed + 37 * i) % 256 for i in range(length))
     if len(file) > room:
         return 'refused 13'

@@ -29,9 +29,9 @@ canvasLent tokens = seeded (u32At tokens 3) (lentLength (u32At tokens 2) canvasR
 abbrev pub fileLent : List ℕ → List ℕ
 fileLent tokens = replicate (lentLength (u32At tokens 4) fileRoom) 0
 
--- with a canvas or a file that is too large, refusals from 8 on are the program's; 8 comes of the canvas and 13 of the file
+-- a canvas that is too large comes out as 8, and a file that is too large as 13: refusals from this number on come of it
 unfoldable pub leastShort : ℕ → ℕ → ℕ
-leastShort length room = cond (ltb canvasRoom length) 8 (cond (ltb fileRoom room) 8 14)
+leastShort length room = cond (ltb canvasRoom length) 8 (cond (ltb fileRoom room) 13 14)
 
 -- the file of a length in its buffer: its bytes, or the sum of the whole buffer
 unfoldable pub fileText : Bool → ℕ → List ℕ → List ℕ

@@ -76,8 +76,7 @@ fn write_on(
     }
 }
 
-// The number from which on refusals are the program's, where a canvas or a file is too large to be
-// lent.
+// The number from which on refusals come of a canvas or a file that is too large to be lent.
 fn least_short(asked: usize, room: usize) -> u32
     ensures { λ r. ⌜ r ≡ leastShort asked room ⌝ }
 {
@@ -85,7 +84,7 @@ fn least_short(asked: usize, room: usize) -> u32
         return 8;
     }
     if 20480 < room {
-        return 8;
+        return 13;
     }
     NONE_SHORT
 }

@@ -109,7 +109,8 @@ unfoldable pub eachKeeps : List Layer → Bool
 eachKeeps [] = true
 eachKeeps (l ∷ rest) = layerKeepsRules drawing (layerOf l) && eachKeeps rest
 
-regroup : (a b c d : Bool) → ((a && b) && (c && d)) ≡ ((a && c) && (b && d))
+-- two pairs of tests are the first ones and the second ones
+pub regroup : (a b c d : Bool) → ((a && b) && (c && d)) ≡ ((a && c) && (b && d))
 regroup true true true d = refl
 regroup true true false d = refl
 regroup true false true d = refl
@@ -127,14 +128,14 @@ kept-by-parts (l ∷ rest) =
 
 -- ---- what the test of one layer found
 module _ (t : Bool) (r : LayerRows) where
-  found-broken : Broken ≡ cond t (Kept r) Broken → t ≡ false
+  pub found-broken : Broken ≡ cond t (Kept r) Broken → t ≡ false
   found-broken e = by-test t e
     where
       by-test : (t : Bool) → Broken ≡ cond t (Kept r) Broken → t ≡ false
       by-test true e = let z : _≡_ {A = ℕ} 0 1 = cc in absurd (omega arith)
       by-test false e = refl
 
-  found-kept : (q : LayerRows) → Kept q ≡ cond t (Kept r) Broken → (t ≡ true) × (q ≡ r)
+  pub found-kept : (q : LayerRows) → Kept q ≡ cond t (Kept r) Broken → (t ≡ true) × (q ≡ r)
   found-kept q e = by-test t e
     where
       by-test : (t : Bool) → Kept q ≡ cond t (Kept r) Broken → (t ≡ true) × (q ≡ r)

@@ -21,7 +21,7 @@ use Rattle.drawing.specs.Drawing.{drawing}
 use Rattle.layers.specs.declared.Layer.{Layer}
 use Rattle.layers.specs.Layers.{layersOf, layerRows}
 use Rattle.layers.specs.Layers.{layerOf as Layers·layerOf}
-use Rattle.layers.proofs.LayerRules.{eachKeeps, kept-by-parts}
+use Rattle.layers.proofs.LayerRules.{eachKeeps, regroup, kept-by-parts}
 use Rattle.sheet_checks.proofs.Places.{broken-count, kept-by-layers}
 use Rattle.record_numbers.specs.RecordNumbers.{numberAt, listFrom, allFrom, within, noneNegative}
 use Rattle.sheet_record.specs.SheetRecord.{placeNumbers, isLayer, holdsRecords, layerOf, sheetOf}
@@ -48,13 +48,6 @@ each-keeps-from f j (suc n) =
     ap (λ (t : Bool). layerKeepsRules drawing (Layers·layerOf (f j)) && t) (each-keeps-from f (suc j) n)
 
 -- two tests of each place are one test of all and the other of all
-regroup : (a b c d : Bool) → ((a && b) && (c && d)) ≡ ((a && c) && (b && d))
-regroup true true true d = refl
-regroup true true false d = refl
-regroup true false true d = refl
-regroup true false false d = refl
-regroup false b c d = refl
-
 all-both : (s t : ℕ → Bool) (j n : ℕ) → allFrom (λ k. s k && t k) j n ≡ (allFrom s j n && allFrom t j n)
 unfolding allFrom
 all-both s t j zero = refl

@@ -12,6 +12,7 @@ use Rattle.layer_rows.proofs.RowTests.{and-false}
 use Rattle.book.proofs.Tests.{and-true-parts, and-true-of, false-unless}
 use Rattle.layers.specs.declared.RowsFound.the-variants as rows-found
 use Rattle.record_numbers.specs.RecordNumbers.{listFrom, allFrom}
+use Rattle.layers.proofs.LayerRules.{found-broken}
 use Rattle.record_numbers.proofs.Walks.{list-from-here, all-from-here}
 use Rattle.sheet_record.specs.SheetRecord.{placeNumbers}
 use Rattle.place_rules.specs.PlaceRules.{placeKept}
@@ -21,22 +22,6 @@ use Rattle.record_rules.specs.declared.Asked.{Asked}
 use Rattle.record_rules.specs.declared.PlacesTested.the-variants as places-tested
 use Rattle.record_rules.specs.RecordRules.{rowsAt, rowsFrom, placesKept, alsoPainted, KeepTo, askedOf, askedFrom, placesTested}
 use Rattle.record_rules.proofs.Painted.{keep-more}
-
--- ---- what the test of one place found
-module _ (t : Bool) (r : LayerRows) where
-  found-broken : rows-found.Broken ≡ cond t (rows-found.Kept r) rows-found.Broken → t ≡ false
-  found-broken e = by-test t e
-    where
-      by-test : (t : Bool) → rows-found.Broken ≡ cond t (rows-found.Kept r) rows-found.Broken → t ≡ false
-      by-test true e = let z : _≡_ {A = ℕ} 0 1 = cc in absurd (omega arith)
-      by-test false e = refl
-
-  pub found-kept : (q : LayerRows) → rows-found.Kept q ≡ cond t (rows-found.Kept r) rows-found.Broken → (t ≡ true) × (q ≡ r)
-  found-kept q e = by-test t e
-    where
-      by-test : (t : Bool) → rows-found.Kept q ≡ cond t (rows-found.Kept r) rows-found.Broken → (t ≡ true) × (q ≡ r)
-      by-test true e = (refl, cc)
-      by-test false e = let z : _≡_ {A = ℕ} 0 1 = cc in absurd (omega arith)
 
 -- rows in order are in order from any place on
 order-from : (f : ℕ → LayerRows) (k j n : ℕ) → rowsInOrder (listFrom f j (k + n)) ≡ true

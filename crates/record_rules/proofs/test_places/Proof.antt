@@ -22,7 +22,8 @@ use Rattle.place_rules.specs.PlaceRules.{placeKept}
 use Rattle.record_rules.specs.declared.PaintedRows.{PaintedRows}
 use Rattle.record_rules.specs.declared.Asked.{Asked}
 use Rattle.record_rules.specs.RecordRules.{rowsAt, rowsFrom, placesTested, alsoPainted, askedOf}
-use Rattle.record_rules.proofs.Walk.{WalkedTo, walked-none, walked-all, found-kept, broken-here, overtaken-here, one-more}
+use Rattle.layers.proofs.LayerRules.{found-kept}
+use Rattle.record_rules.proofs.Walk.{WalkedTo, walked-none, walked-all, broken-here, overtaken-here, one-more}
 use Rattle.record_rules.proofs.test_places.Statement.{statement}
 use Rattle.record_rules.proofs.test_places.Tie as tie
 
