@@ -1,4 +1,4 @@
--- `paint::paint_whole` meets its contract: the kind says whose rows are painted, and the visible ones make the whole.
+-- `paint_whole::paint_whole` meets its contract: the kind says whose rows are painted, and the visible ones make the whole.
 -- Assumes nothing.
 use borrow.Author.Needs.{needs}
 use mathlib.Core.Path.{_≡_, refl, sym, ap, subst, _∙_}
@@ -11,9 +11,9 @@ use Rattle.styled_shape.specs.declared.StyledShape.the-variants as styled
 use Rattle.styled_shape.specs.Ready.{rowOf, Ready}
 use Rattle.drawing.specs.Rows.{rowsOfShape, strokeRows}
 use Rattle.paint_rows.specs.Rows.{rowsBy}
-use Rattle.paint.proofs.OnCanvas.{visible-rows-whole, lacking-whole}
-use Rattle.paint.proofs.paint_whole.Statement.{statement}
-use Rattle.paint.proofs.paint_whole.Tie as tie
+use Rattle.paint_whole.proofs.OnCanvas.{visible-rows-whole, lacking-whole}
+use Rattle.paint_whole.proofs.paint_whole.Statement.{statement}
+use Rattle.paint_whole.proofs.paint_whole.Tie as tie
 
 -- ---- after both areas were found
 abbrev start : tie.After-new → tie.Start

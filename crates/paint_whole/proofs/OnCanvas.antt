@@ -17,14 +17,24 @@ use Rattle.scanline.specs.declared.StyledRow.the-variants.{NoRow}
 use Rattle.style.specs.declared.Style.{Style}
 use Rattle.drawing.specs.declared.StrokeRows.{StrokeRows}
 use Rattle.drawing.specs.Drawing.{styledFigure, paintBy, drawing}
-use Rattle.drawing.proofs.PaintRow.{paint-by-above, paint-by-below, paint-by-lacking}
+use Rattle.drawing.proofs.PaintRow.{paint-by-figure, paint-by-above, paint-by-below, paint-by-lacking}
+use Rattle.book.specs.Sheet.{paintRow}
 use Rattle.book.specs.Whole.{paintRows, paintWhole}
 use Rattle.figure.specs.declared.Figure.{Figure}
 use Rattle.styled.specs.Styled.{styledRow}
 use Rattle.drawing.specs.Rows.{strokeRows}
 use Rattle.paint_rows.specs.Rows.{rowsBy}
-use Rattle.paint.specs.Rows.{rowsAbove, visibleRows}
-use Rattle.paint.proofs.Painted.{rows-by-figure}
+use Rattle.paint_whole.specs.Rows.{rowsAbove, visibleRows}
+
+-- ---- a figure's rows are those of its definition
+rows-by-figure : (rowAt : ℤ → StyledRow) (f : Figure) (style : Style) (W H : ℕ) → ((y : ℤ) → rowAt y ≡ styledRow f style y)
+    → (n : ℕ) (y : ℤ) (canvas : List ℕ)
+    → rowsBy rowAt style W H y n canvas ≡ paintRows drawing W H (styledFigure f style) y n canvas
+unfolding rowsBy paintRows
+rows-by-figure rowAt f style W H is zero y canvas = refl
+rows-by-figure rowAt f style W H is (suc n) y canvas =
+    ap (rowsBy rowAt style W H (y +ℤ pos 1) n) (paint-by-figure rowAt style W H canvas f is y)
+    ∙ rows-by-figure rowAt f style W H is n (y +ℤ pos 1) (paintRow drawing W H (styledFigure f style) y canvas)
 
 module _ (rowAt : ℤ → StyledRow) (style : Style) (W H : ℕ) where
   -- ---- above

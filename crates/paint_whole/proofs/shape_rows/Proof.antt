@@ -1,4 +1,4 @@
--- `paint::shape_rows` meets its contract: the shape's kind says which rows they are.
+-- `paint_whole::shape_rows` meets its contract: the shape's kind says which rows they are.
 -- Assumes nothing.
 use borrow.Author.Needs.{needs}
 use mathlib.Core.Path.{_≡_, refl, sym, ap, subst, _∙_}
@@ -8,8 +8,8 @@ use Rattle.figure.proofs.Within.{area-bounded}
 use Rattle.drawing.specs.declared.StrokeRows.{StrokeRows}
 use Rattle.drawing.specs.Rows.{boxRows, ellipseRows, rowsOfShape}
 use Rattle.drawing.proofs.Rows.{RowsWithin, box-rows-within, ellipse-rows-within}
-use Rattle.paint.proofs.shape_rows.Statement.{statement}
-use Rattle.paint.proofs.shape_rows.Tie as tie
+use Rattle.paint_whole.proofs.shape_rows.Statement.{statement}
+use Rattle.paint_whole.proofs.shape_rows.Tie as tie
 
 enum-known-shape : tie.Need-enum-known-shape
 enum-known-shape c = search needs

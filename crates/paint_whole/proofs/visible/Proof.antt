@@ -1,4 +1,4 @@
--- `paint::visible` meets its contract: each number is the definition's.
+-- `paint_whole::visible` meets its contract: each number is the definition's.
 -- Assumes nothing.
 use native.Mathlib.Omega.{arith}
 use Rattle.signed.proofs.Laws.{int}
@@ -10,9 +10,9 @@ use mir.Facts.{toZ-ofZ}
 use Rattle.signed.specs.Signed.{Near, floor0}
 use Rattle.signed.proofs.Laws.{add-law, sub-law}
 use Rattle.figure.specs.Bounds.{wideAreaPosition}
-use Rattle.paint.specs.Rows.{rowsAbove}
-use Rattle.paint.proofs.visible.Statement.{statement}
-use Rattle.paint.proofs.visible.Tie as tie
+use Rattle.paint_whole.specs.Rows.{rowsAbove}
+use Rattle.paint_whole.proofs.visible.Statement.{statement}
+use Rattle.paint_whole.proofs.visible.Tie as tie
 
 -- how many rows lie above, and the first that does not
 above-is : (c : tie.After-least) → c .least .result ≡ rowsAbove (c .before .before .before .before .args .rows)
