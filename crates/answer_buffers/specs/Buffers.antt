@@ -7,6 +7,7 @@ use Prim.Native.Char.{code}
 use lib.Dec.{leb, ltb}
 use lib.ListN.{length}
 use Rattle.query_records.specs.Queries.{plus, tokenAt, isLetter, u32At, formEnd}
+use Rattle.geometry.specs.Limits.{maxCanvasSide}
 use Rattle.refusal.specs.Refusal.{Outcome, refused, answered}
 use Rattle.answer_text.specs.Text.{bytes}
 use Rattle.answer_records.specs.Answers.{refusedText}
@@ -15,13 +16,17 @@ use Rattle.answer_records.specs.Answers.{refusedText}
 unfoldable pub lentLength : ℕ → ℕ → ℕ
 lentLength asked most = cond (leb asked most) asked 0
 
--- the bytes of a canvas with sides within the limit of 1024, and 0 for others
+-- the bytes of a canvas with sides within the limit, and 0 for others
 unfoldable pub canvasArea : ℕ → ℕ → ℕ
-canvasArea W H = cond (ltb 1024 W) 0 (cond (ltb 1024 H) 0 (W * H))
+canvasArea W H = cond (ltb maxCanvasSide W) 0 (cond (ltb maxCanvasSide H) 0 (W * H))
 
 -- what is said of a canvas, list or file that is too large for the program
 abbrev pub tooLargeText : List ℕ
 tooLargeText = bytes "error larger than the buffers of this program"
+
+-- no refusal comes of that: a number above all of theirs
+abbrev pub noneShort : ℕ
+noneShort = 100
 
 -- what is said of a refusal, where refusals from the number `least` on come of what the program could not lend
 unfoldable pub shortText : ℕ → ℕ → List ℕ

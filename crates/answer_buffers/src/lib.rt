@@ -2,6 +2,7 @@
 // at most: how much is lent, and how a canvas is filled before.
 use answer_records::put_refused;
 use answer_text::put_text;
+use canvas_size::CanvasSize;
 use query_records::form_end;
 use query_records::is_letter;
 use query_records::plus;
@@ -25,7 +26,7 @@ pub fn put_too_large(out: &mut [u8], at: usize) -> usize
 }
 
 // No refusal comes of what the program could not lend.
-pub const NONE_SHORT: u32 = 14;
+pub const NONE_SHORT: u32 = 100;
 
 // A refusal; from the number `least` on refusals come of what the program could not lend.
 pub fn put_short(out: &mut [u8], at: usize, least: u32, refusal: Refusal) -> usize
@@ -79,10 +80,10 @@ pub fn fill(canvas: &mut [u8], seed: u32)
 pub fn area(width: u32, height: u32) -> usize
     ensures { λ r. ⌜ r ≡ canvasArea width height ⌝ }
 {
-    if 1024 < width {
+    if CanvasSize::MAX_SIDE < width {
         return 0;
     }
-    if 1024 < height {
+    if CanvasSize::MAX_SIDE < height {
         return 0;
     }
     long(width) * long(height)

@@ -13,7 +13,7 @@ use Rattle.query_records.specs.Queries.{fits, u32At}
 use Rattle.answer_text.specs.Adler.{sumOf}
 use Rattle.answer_text.specs.Text.{bytes, signedText, hexText}
 use Rattle.answer_records.specs.Answers.{queryText, Said, unasked, named}
-use Rattle.answer_buffers.specs.Buffers.{lentLength, shortText, seeded}
+use Rattle.answer_buffers.specs.Buffers.{lentLength, shortText, seeded, noneShort}
 
 -- what the program lends at most: of a canvas, and of a file
 abbrev pub canvasRoom : ℕ
@@ -31,7 +31,7 @@ fileLent tokens = replicate (lentLength (u32At tokens 4) fileRoom) 0
 
 -- a canvas that is too large comes out as 8, and a file that is too large as 13: refusals from this number on come of it
 unfoldable pub leastShort : ℕ → ℕ → ℕ
-leastShort length room = cond (ltb canvasRoom length) 8 (cond (ltb fileRoom room) 13 14)
+leastShort length room = cond (ltb canvasRoom length) 8 (cond (ltb fileRoom room) 13 noneShort)
 
 -- the file of a length in its buffer: its bytes, or the sum of the whole buffer
 unfoldable pub fileText : Bool → ℕ → List ℕ → List ℕ

@@ -24,7 +24,7 @@ ghost use Rattle.netpbm.specs.Netpbm.{writeOutcome, writeCall, fileAfter};
 ghost use Rattle.query_records.specs.Queries.{u32At};
 ghost use Rattle.answer_text.specs.Text.{hexText, Puts};
 ghost use Rattle.answer_records.specs.Answers.{Answers};
-ghost use Rattle.answer_buffers.specs.Buffers.{seeded};
+ghost use Rattle.answer_buffers.specs.Buffers.{noneShort, seeded};
 ghost use Rattle.file_answers.specs.Queries.{leastShort, fileText, writtenText, p5Text, answerSaid};
 
 // The first bytes of a file buffer in hexadecimal.
@@ -49,7 +49,7 @@ fn put_file(file: &[u8], count: usize, is_full: bool, out: &mut [u8], at: usize)
 // The length of a file, and the file.
 fn put_written(file: &[u8], count: usize, is_full: bool, out: &mut [u8], at: usize) -> usize
     requires { ⌜ count < 4294967296 ⌝ }
-    ensures { λ r. ⌜ Puts (now (out .entry)) at (writtenText 14 «is_full» (answered (pos count ∷ [])) (now (file .entry))) (now (out .exit)) r ⌝ }
+    ensures { λ r. ⌜ Puts (now (out .entry)) at (writtenText noneShort «is_full» (answered (pos count ∷ [])) (now (file .entry))) (now (out .exit)) r ⌝ }
 {
     let place = put_number(out, at, count as u32);
     let spaced = put_byte(out, place, b' ');

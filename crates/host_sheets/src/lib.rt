@@ -6,6 +6,7 @@ use host_answers::DONE;
 use host_answers::NO_RECORD;
 use host_answers::held;
 use host_answers::put_numbers;
+use layers::Layer;
 use record_numbers::FIGURE_LENGTH;
 use record_numbers::figure_of;
 use record_numbers::is_figure;
@@ -16,6 +17,7 @@ use record_paint::paint_next;
 use refusal::Checked;
 use sheet::SheetAnswer;
 use sheet_record::LAYER_LENGTH;
+use sheet_record::SHEET_LENGTH;
 use sheet_record::is_sheet;
 use sheet_record::put_layer;
 use sheet_record::sheet_of;
@@ -23,13 +25,16 @@ ghost use mathlib.Core.Path.{_≡_};
 ghost use Rattle.host_answers.specs.HostAnswers.{Tells};
 ghost use Rattle.host_sheets.specs.Sheets.{openedNumbers, openSaid, addTold, addNumbers, paintTold, paintNumbers, paintCanvas};
 
-// The numbers of a sheet without layers, its width and height left 0: 16 unused places without paint.
-fn unused_places() -> [i32; 291]
+// How many places a sheet has for layers.
+const PLACES: usize = Layer::MAX_LAYERS as usize;
+
+// The numbers of a sheet without layers, its width and height left 0: unused places, without paint.
+fn unused_places() -> [i32; SHEET_LENGTH]
     ensures { λ r. ⌜ r ≡ openedNumbers 0 0 ⌝ }
 {
-    let mut numbers = [0i32; 291];
+    let mut numbers = [0i32; SHEET_LENGTH];
     let mut j: usize = 0;
-    while j < 16 {
+    while j < PLACES {
         let style = 3 + LAYER_LENGTH * j + FIGURE_LENGTH;
         numbers[style] = -1;
         numbers[style + 1] = -1;

@@ -42,7 +42,7 @@ rectangleKept numbers =
     && within (negℤ (pos maxPosition)) (pos maxPosition) (numberAt numbers 2)) && within (pos 0) (pos maxSide) (numberAt numbers 3))
     && within (pos 0) (pos maxSide) (numberAt numbers 4)
 
--- all of the figure's numbers; the radii of an ellipse are not looked at
+-- all of the figure's numbers; the radii of an ellipse may be any numbers that are not negative
 unfoldable pub figureKept : List ℤ → Bool
 figureKept numbers = rectangleKept numbers && radiiKept (ltZ (numberAt numbers 0) (pos 1)) numbers
 

@@ -1,11 +1,14 @@
 // One place of a sheet that a host keeps as numbers: whether it holds a layer that keeps its own rules,
 // and that layer's rows. The tests are made on the numbers themselves, and no layer is made of them.
+use corner_radii::CornerRadii;
 use ellipse::EllipseContains;
 use ellipse_points::has_rows;
+use geometry::Point;
 use geometry::Size;
 use layer_rows::LayerRows;
 use layers::RowsFound;
 use record_numbers::is_within;
+use style::Style;
 ghost use mathlib.Core.Path.{_≡_};
 ghost use mathlib.Core.Bool.{true, cond, _&&_};
 ghost use Prim.Native.Nat.{_+_, _*_, _≤_};
@@ -25,17 +28,17 @@ ghost use Rattle.place_rules.specs.PlaceRules.{highestRadius, radiiKept,
 
 // The limits of a side, a radius, a position and a stroke width (refusals 1, 2, 3 and 5), as a host's
 // numbers are held to them.
-const MAX_SIDE: i32 = 1024;
+const MAX_SIDE: i32 = Size::MAX_SIDE as i32;
 
-const MAX_RADIUS: i32 = 1024;
+const MAX_RADIUS: i32 = CornerRadii::MAX_RADIUS as i32;
 
-const MAX_POSITION: i32 = 4096;
+const MAX_POSITION: i32 = Point::MAX_POSITION as i32;
 
-const MIN_POSITION: i32 = -4096;
+const MIN_POSITION: i32 = -MAX_POSITION;
 
-const MAX_STROKE_WIDTH: i32 = 256;
+const MAX_STROKE_WIDTH: i32 = Style::MAX_STROKE_WIDTH as i32;
 
-// The highest number of a radius. That of an ellipse is not looked at.
+// The highest number of a radius. Those of an ellipse may be any that are not negative.
 fn highest_radius(any: bool) -> i32
     ensures { λ r. ⌜ Is (highestRadius any) r ⌝ }
 {

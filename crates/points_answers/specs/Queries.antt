@@ -14,7 +14,7 @@ use Rattle.query_records.specs.Queries.{fits, u32At, figureWords, figureAt}
 use Rattle.answer_text.specs.Adler.{signedSumOf}
 use Rattle.answer_text.specs.Text.{bytes, signedText, nextTexts}
 use Rattle.answer_records.specs.Answers.{queryText, Said, unasked, named}
-use Rattle.answer_buffers.specs.Buffers.{lentLength, shortText}
+use Rattle.answer_buffers.specs.Buffers.{lentLength, shortText, noneShort}
 
 -- the numbers of the list that the program lends at most
 abbrev pub listRoom : ℕ
@@ -40,7 +40,7 @@ roomText isFull figure room least =
 
 -- refusals from this number on come of a list that is too large for the program, where room is asked for
 unfoldable pub leastShort : ℕ → ℕ
-leastShort room = cond (leb room listRoom) 14 13
+leastShort room = cond (leb room listRoom) noneShort 13
 
 -- `points::points`; where no room is asked for, a list that is too short is the program's
 unfoldable pub pointsText : Bool → List ℕ → List ℕ

@@ -25,6 +25,7 @@ ghost use Rattle.refusal.specs.Refusal.{answered};
 ghost use Rattle.points.specs.Points.{pointsCall, listAfter};
 ghost use Rattle.answer_text.specs.Text.{nextTexts, Puts};
 ghost use Rattle.answer_records.specs.Answers.{Answers};
+ghost use Rattle.answer_buffers.specs.Buffers.{noneShort};
 ghost use Rattle.points_answers.specs.Queries.{numbersText, listedText, roomText, leastShort, pointsText, answerSaid};
 
 // The numbers of a list of points.
@@ -65,7 +66,7 @@ fn put_front(list: &[i32], end: usize, is_full: bool, out: &mut [u8], at: usize)
 
 // So many points: their number, and their sum or all of them.
 fn put_points(list: &[i32], count: u32, is_full: bool, out: &mut [u8], at: usize) -> usize
-    ensures { λ r. ⌜ Puts (now (out .entry)) at (listedText 14 «is_full» (answered (pos count ∷ [])) (now (list .entry))) (now (out .exit)) r ⌝ }
+    ensures { λ r. ⌜ Puts (now (out .entry)) at (listedText noneShort «is_full» (answered (pos count ∷ [])) (now (list .entry))) (now (out .exit)) r ⌝ }
 {
     let place = put_number(out, at, count);
     put_front(list, 2 * (count as usize), is_full, out, place)

@@ -23,7 +23,7 @@ ghost use Rattle.sheet_record.specs.SheetRecord.{sheetLength, sheetOf, rowPaint
 ghost use Rattle.record_paint.specs.RecordPaint.{nextOf, askedCheck};
 
 // The largest count of layers, as a host's number is held to it.
-const MAX_COUNT: i32 = 16;
+const MAX_COUNT: i32 = Layer::MAX_LAYERS as i32;
 
 // The next row of a layer, or 0 where there is no such place.
 fn next_of(numbers: &[i32], layer: u32) -> i32

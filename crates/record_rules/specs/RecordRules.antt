@@ -1,5 +1,5 @@
 -- The rules of the layers of a sheet's numbers, place by place, and what a paint call asks of them: by the places and their
--- rows. The laws of proofs/ equate them with the rules and the answers of `sheet_checks`.
+-- rows. The laws of `record_paint` (proofs/{Rules,Answers}.antt) equate them with the rules and the answers of a sheet.
 -- Assumes nothing.
 use mathlib.Core.Path.{_≡_}
 use mathlib.Core.Bool.{Bool, true, false, cond, _&&_, _||_}
@@ -34,9 +34,9 @@ placesKept numbers j n = allFrom (λ k. placeKept (placeNumbers numbers k)) j n
 
 -- ---- The rows that layers have painted: from the first up to the end.
 
--- none: a first row below every row of a layer, and an end above
+-- none: the last number of 32 bits for a first row and the first one for an end, so that those of any layer take their place
 abbrev pub nonePainted : PaintedRows
-nonePainted = record { first = pos 8192; end = negsuc 8191 }
+nonePainted = record { first = pos 2147483647; end = negsuc 2147483647 }
 
 -- with those of one layer more, if it has painted any
 unfoldable pub alsoPainted : PaintedRows → LayerRows → PaintedRows

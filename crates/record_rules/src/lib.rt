@@ -27,8 +27,8 @@ impl PaintedRows {
         ensures { λ r. ⌜ r ≡ nonePainted ⌝ }
     {
         PaintedRows {
-            first: 8192,
-            end: -8192,
+            first: 2147483647,
+            end: -2147483648,
         }
     }
 

@@ -9,6 +9,7 @@ use lib.Seq.{sets}
 use Rattle.book.specs.Book.{Answer, accepted, refused, Call, add, paint}
 use Rattle.drawing.specs.Drawing.{StyledFigure, styledFigure}
 use Rattle.layers.specs.declared.Layer.{Layer}
+use Rattle.geometry.specs.Limits.{maxLayers}
 use Rattle.layers.specs.Layers.{blankLayer}
 use Rattle.sheet.specs.declared.Sheet.{Sheet}
 use Rattle.sheet.specs.Sheet.{openAnswer, openedSheet, sheetAnswer, sheetAfter, canvasAfter}
@@ -17,7 +18,7 @@ use Rattle.query_records.specs.Queries.{misfit, plus, u32At, i32At, figureWords
 use Rattle.answer_text.specs.Adler.{sumOf}
 use Rattle.answer_text.specs.Text.{bytes, nextText, each}
 use Rattle.answer_records.specs.Answers.{refusedText, queryText, Said, unasked, named}
-use Rattle.answer_buffers.specs.Buffers.{lentLength, shortText, seeded}
+use Rattle.answer_buffers.specs.Buffers.{lentLength, shortText, seeded, noneShort}
 
 -- the bytes of a canvas that the program lends at most
 abbrev pub canvasRoom : ℕ
@@ -47,7 +48,7 @@ layersEnd tokens (suc n) at = layersEnd tokens n (layerEnd tokens at)
 -- the place after a sheet
 unfoldable pub recordEnd : List ℕ → ℕ
 recordEnd tokens =
-    cond (ltb 16 (u32At tokens 3)) misfit (layersEnd tokens (u32At tokens 3) (formEnd tokens 0 (bytes "uuuu")))
+    cond (ltb maxLayers (u32At tokens 3)) misfit (layersEnd tokens (u32At tokens 3) (formEnd tokens 0 (bytes "uuuu")))
 
 -- a sheet with some layers in its first places
 abbrev pub withLayers : Sheet → List Layer → Sheet
@@ -60,7 +61,7 @@ sheetAt tokens =
       width = u32At tokens 0;
       height = u32At tokens 1;
       count = u32At tokens 2;
-      layers = sets (replicate 16 blankLayer) 0 (layersAt tokens (min (u32At tokens 3) 16) 4);
+      layers = sets (replicate maxLayers blankLayer) 0 (layersAt tokens (min (u32At tokens 3) maxLayers) 4);
     }
 
 -- ---- The answers.
@@ -102,7 +103,7 @@ addText tokens =
 
 -- a canvas that is too large comes out as 8
 unfoldable pub leastShort : ℕ → ℕ
-leastShort asked = cond (ltb canvasRoom asked) 8 14
+leastShort asked = cond (ltb canvasRoom asked) 8 noneShort
 
 -- `Sheet::paint` of a layer on a canvas: the sheet after it, and the sum of the canvas
 abbrev pub paintedText : ℕ → Sheet → ℕ → List ℕ → List ℕ
