@@ -16,6 +16,10 @@ use Rattle.answer_records.specs.Answers.{refusedText}
 unfoldable pub lentLength : ℕ → ℕ → ℕ
 lentLength asked most = cond (leb asked most) asked 0
 
+-- the bytes of a canvas that the program lends at most
+abbrev pub canvasRoom : ℕ
+canvasRoom = 36864
+
 -- the bytes of a canvas with sides within the limit, and 0 for others
 unfoldable pub canvasArea : ℕ → ℕ → ℕ
 canvasArea W H = cond (ltb maxCanvasSide W) 0 (cond (ltb maxCanvasSide H) 0 (W * H))
@@ -27,6 +31,10 @@ tooLargeText = bytes "error larger than the buffers of this program"
 -- no refusal comes of that: a number above all of theirs
 abbrev pub noneShort : ℕ
 noneShort = 100
+
+-- a canvas that is too large comes out as 8: refusals from this number on come of it
+unfoldable pub leastShort : ℕ → ℕ
+leastShort asked = cond (ltb canvasRoom asked) 8 noneShort
 
 -- what is said of a refusal, where refusals from the number `least` on come of what the program could not lend
 unfoldable pub shortText : ℕ → ℕ → List ℕ

@@ -14,7 +14,7 @@ ghost use Prim.Native.Nat.{_%_, _≤_};
 ghost use lib.ListN.{length};
 ghost use Rattle.refusal.specs.Refusal.{number};
 ghost use Rattle.answer_text.specs.Text.{Puts};
-ghost use Rattle.answer_buffers.specs.Buffers.{lentLength, canvasArea, tooLargeText, shortText, seeded, isSeed, filled, seedEnd};
+ghost use Rattle.answer_buffers.specs.Buffers.{lentLength, canvasArea, tooLargeText, shortText, seeded, isSeed, filled, seedEnd, leastShort};
 
 // The bytes of a canvas.
 pub const CANVAS: usize = 36864;
@@ -113,4 +113,14 @@ pub fn seed_end(tokens: &[u64], at: usize) -> usize
         return form_end(tokens, at, b"bu");
     }
     at
+}
+
+// The number from which on refusals come of a canvas that is too large to be lent.
+pub fn least_short(asked: usize) -> u32
+    ensures { λ r. ⌜ r ≡ leastShort asked ⌝ }
+{
+    if CANVAS < asked {
+        return 8;
+    }
+    NONE_SHORT
 }

@@ -26,6 +26,10 @@ outcomeText none (refused n) = refusedText n
 outcomeText none (answered []) = none
 outcomeText none (answered (v ∷ rest)) = valuesText (v ∷ rest)
 
+-- what stands for no values of a row: the figure lacks it
+abbrev pub noRowText : List ℕ
+noRowText = bytes "none"
+
 -- 1 for true, 0 for false
 abbrev pub boolText : Bool → List ℕ
 boolText holds = decimal (cond holds 1 0)

@@ -6,7 +6,7 @@ use Rattle.refusal.specs.Refusal.{Outcome, refused, answered}
 use Rattle.figure.specs.Calls.{containsCall, rowCall, figureOffsetCall, confinedRadiiCall, ellipseWithCenterCall}
 use Rattle.query_records.specs.Queries.{fits, i32At, pointAt, sizeAt, figureWords, figureAt}
 use Rattle.answer_text.specs.Text.{bytes}
-use Rattle.answer_records.specs.Answers.{outcomeText, queryText, Said, unasked, named}
+use Rattle.answer_records.specs.Answers.{outcomeText, queryText, Said, unasked, named, noRowText}
 
 -- a figure's values without the number of its kind, which the query has said
 abbrev pub withoutKind : Outcome → Outcome
@@ -14,10 +14,7 @@ withoutKind (refused n) = refused n
 withoutKind (answered []) = answered []
 withoutKind (answered (kind ∷ values)) = answered values
 
--- what is said of a row that a figure lacks, and of the radii of an ellipse
-abbrev pub noRowText : List ℕ
-noRowText = bytes "none"
-
+-- what is said of the radii of an ellipse
 abbrev pub noRadiiText : List ℕ
 noRadiiText = bytes "n/a"
 

@@ -31,8 +31,8 @@ ghost use Rattle.refusal.specs.Refusal.{answered};
 ghost use Rattle.rectangle.specs.Calls.{rectangleValues};
 ghost use Rattle.figure.specs.Calls.{flag, sizeValues, radiiValues, figureValues, rowValues, containsOutcome, rowOutcome, figureOutcome, radiiOutcome};
 ghost use Rattle.answer_text.specs.Text.{nextTexts, Puts};
-ghost use Rattle.answer_records.specs.Answers.{valuesText, outcomeText, Answers};
-ghost use Rattle.figure_answers.specs.Queries.{withoutKind, noRowText, noRadiiText, containsText, rowText, offsetText, confineText, ellipseCenterText, otherSaid, answerSaid};
+ghost use Rattle.answer_records.specs.Answers.{valuesText, outcomeText, Answers, noRowText};
+ghost use Rattle.figure_answers.specs.Queries.{withoutKind, noRadiiText, containsText, rowText, offsetText, confineText, ellipseCenterText, otherSaid, answerSaid};
 
 fn put_next_size(out: &mut [u8], at: usize, size: Size) -> usize
     ensures { λ r. ⌜ Puts (now (out .entry)) at (nextTexts (sizeValues size)) (now (out .exit)) r ⌝ }

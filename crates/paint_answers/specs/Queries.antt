@@ -13,11 +13,7 @@ use Rattle.query_records.specs.Queries.{misfit, plus, tokenAt, isU32, u32At, fi
 use Rattle.answer_text.specs.Adler.{sumOf}
 use Rattle.answer_text.specs.Text.{bytes, hexText}
 use Rattle.answer_records.specs.Answers.{queryText, Said, unasked, named}
-use Rattle.answer_buffers.specs.Buffers.{lentLength, canvasArea, lentText, filled, seedEnd, noneShort}
-
--- the bytes of a canvas that the program lends at most
-abbrev pub canvasRoom : ℕ
-canvasRoom = 36864
+use Rattle.answer_buffers.specs.Buffers.{lentLength, canvasArea, lentText, filled, seedEnd, canvasRoom, leastShort}
 
 -- ---- The words after the figure and its style: W, H, a length where one is given, and a seed where one is given.
 
@@ -44,10 +40,6 @@ unfoldable pub paintFits : List ℕ → ℕ → Bool
 paintFits tokens seedAt = not (eqb (formEnd tokens 0 (bytes "fkkuguu")) misfit) && eqb (seedEnd tokens seedAt) (length tokens)
 
 -- ---- The answer.
-
--- a canvas that is too large comes out as 8: refusals from this number on come of it
-unfoldable pub leastShort : ℕ → ℕ
-leastShort asked = cond (ltb canvasRoom asked) 8 noneShort
 
 -- all bytes of a canvas, or their sum
 unfoldable pub canvasText : Bool → List ℕ → List ℕ

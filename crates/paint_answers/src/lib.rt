@@ -1,8 +1,7 @@
 // The answer to a query for a figure painted in one call, on a canvas of this crate's own frame.
-use answer_buffers::CANVAS;
-use answer_buffers::NONE_SHORT;
 use answer_buffers::area;
 use answer_buffers::fill_seeded;
+use answer_buffers::least_short;
 use answer_buffers::lent;
 use answer_buffers::long;
 use answer_buffers::put_short;
@@ -28,7 +27,7 @@ ghost use Rattle.query_records.specs.Queries.{plus as Queries·plus, u32At, fig
 ghost use Rattle.answer_text.specs.Text.{Puts};
 ghost use Rattle.answer_records.specs.Answers.{Answers};
 ghost use Rattle.answer_buffers.specs.Buffers.{filled};
-ghost use Rattle.paint_answers.specs.Queries.{isLengthGiven, askedLength, lengthEnd, paintFits, leastShort, canvasText, paintedText, paintText, answerSaid};
+ghost use Rattle.paint_answers.specs.Queries.{isLengthGiven, askedLength, lengthEnd, paintFits, canvasText, paintedText, paintText, answerSaid};
 
 // The sum of a canvas, or all its bytes.
 fn put_canvas(canvas: &[u8], is_full: bool, out: &mut [u8], at: usize) -> usize
@@ -117,16 +116,6 @@ fn paint_fits(tokens: &[u64], seed_place: usize) -> bool
         return false;
     }
     seed_end(tokens, seed_place) == tokens.len()
-}
-
-// The number from which on refusals come of a canvas that is too large to be lent.
-fn least_short(asked: usize) -> u32
-    ensures { λ r. ⌜ r ≡ leastShort asked ⌝ }
-{
-    if CANVAS < asked {
-        return 8;
-    }
-    NONE_SHORT
 }
 
 fn paint(tokens: &[u64], is_full: bool, out: &mut [u8], at: usize) -> usize

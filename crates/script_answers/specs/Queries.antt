@@ -15,11 +15,7 @@ use Rattle.query_records.specs.Queries.{misfit, plus, tokenAt, isLetter, u32At,
 use Rattle.answer_text.specs.Adler.{sumOf}
 use Rattle.answer_text.specs.Text.{bytes}
 use Rattle.answer_records.specs.Answers.{refusedText, queryText, Said, unasked, named}
-use Rattle.answer_buffers.specs.Buffers.{lentLength, canvasArea, tooLargeText, filled, seedEnd}
-
--- the bytes of a canvas that the program lends at most
-abbrev pub canvasRoom : ℕ
-canvasRoom = 36864
+use Rattle.answer_buffers.specs.Buffers.{lentLength, canvasArea, tooLargeText, filled, seedEnd, canvasRoom}
 
 -- ---- The words of calls.
 

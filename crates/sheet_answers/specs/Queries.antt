@@ -18,11 +18,7 @@ use Rattle.query_records.specs.Queries.{misfit, plus, u32At, i32At, figureWords
 use Rattle.answer_text.specs.Adler.{sumOf}
 use Rattle.answer_text.specs.Text.{bytes, nextText, each}
 use Rattle.answer_records.specs.Answers.{refusedText, queryText, Said, unasked, named}
-use Rattle.answer_buffers.specs.Buffers.{lentLength, shortText, seeded, noneShort}
-
--- the bytes of a canvas that the program lends at most
-abbrev pub canvasRoom : ℕ
-canvasRoom = 36864
+use Rattle.answer_buffers.specs.Buffers.{lentLength, shortText, seeded, canvasRoom, leastShort}
 
 -- ---- A sheet as its words give it: W H COUNT LISTED, then so many layers. Places that are not listed are blank.
 
@@ -100,10 +96,6 @@ addText tokens =
     (bytes "RECORD FIGURE stroke fill width align")
     (toldText (sheetText (sheetAfter (sheetAt tokens) [] (add (itemAt tokens (recordEnd tokens)))))
     (sheetAnswer (sheetAt tokens) [] (add (itemAt tokens (recordEnd tokens)))))
-
--- a canvas that is too large comes out as 8
-unfoldable pub leastShort : ℕ → ℕ
-leastShort asked = cond (ltb canvasRoom asked) 8 noneShort
 
 -- `Sheet::paint` of a layer on a canvas: the sheet after it, and the sum of the canvas
 abbrev pub paintedText : ℕ → Sheet → ℕ → List ℕ → List ℕ

@@ -1,8 +1,7 @@
 // The answers to queries for one call on a sheet: it is opened, or given by its words, whether or not
 // it keeps the rules.
-use answer_buffers::CANVAS;
-use answer_buffers::NONE_SHORT;
 use answer_buffers::fill;
+use answer_buffers::least_short;
 use answer_buffers::lent;
 use answer_buffers::long;
 use answer_buffers::put_short;
@@ -34,7 +33,7 @@ ghost use Rattle.query_records.specs.Queries.{plus as Queries·plus, u32At};
 ghost use Rattle.answer_text.specs.Text.{each, Puts};
 ghost use Rattle.answer_records.specs.Answers.{Answers};
 ghost use Rattle.answer_buffers.specs.Buffers.{seeded};
-ghost use Rattle.sheet_answers.specs.Queries.{layerAt, layerEnd, layersAt, layersEnd, recordEnd, withLayers, sheetAt, nextRowText, sheetText, leastShort, openText, addText, paintedText, paintText, answerSaid};
+ghost use Rattle.sheet_answers.specs.Queries.{layerAt, layerEnd, layersAt, layersEnd, recordEnd, withLayers, sheetAt, nextRowText, sheetText, openText, addText, paintedText, paintText, answerSaid};
 
 // The place after a layer: a figure, its style and its next row.
 fn layer_end(tokens: &[u64], at: usize) -> usize
@@ -208,16 +207,6 @@ fn paint_filled(
     fill(canvas, u32_at(tokens, plus(after, 2)));
     let layer = u32_at(tokens, after);
     paint_on(sheet_at(tokens), layer, canvas, least, out, at)
-}
-
-// The number from which on refusals come of a canvas that is too large to be lent.
-fn least_short(asked: usize) -> u32
-    ensures { λ r. ⌜ r ≡ leastShort asked ⌝ }
-{
-    if CANVAS < asked {
-        return 8;
-    }
-    NONE_SHORT
 }
 
 // A row of a layer painted of a sheet as its words give it.

@@ -5,11 +5,7 @@ use Prim.Native.Nat.{ℕ}
 use Rattle.styled.specs.Calls.{styledRowCall, styledBoundingBoxCall}
 use Rattle.query_records.specs.Queries.{plus, fits, i32At, figureWords, figureAt, strokeAt}
 use Rattle.answer_text.specs.Text.{bytes}
-use Rattle.answer_records.specs.Answers.{outcomeText, queryText, Said, unasked, named}
-
--- what is said of a row that a figure lacks
-abbrev pub noRowText : List ℕ
-noRowText = bytes "none"
+use Rattle.answer_records.specs.Answers.{outcomeText, queryText, Said, unasked, named, noRowText}
 
 -- `styled::styled_row`
 abbrev pub styledRowText : List ℕ → List ℕ

@@ -22,8 +22,8 @@ ghost use Rattle.refusal.specs.Refusal.{answered};
 ghost use Rattle.rectangle.specs.Calls.{rangeValues};
 ghost use Rattle.styled.specs.Calls.{styledRowValues, styledRowOutcome};
 ghost use Rattle.answer_text.specs.Text.{Puts};
-ghost use Rattle.answer_records.specs.Answers.{valuesText, outcomeText, Answers};
-ghost use Rattle.styled_answers.specs.Queries.{noRowText, styledRowText, boundingBoxText, answerSaid};
+ghost use Rattle.answer_records.specs.Answers.{valuesText, outcomeText, Answers, noRowText};
+ghost use Rattle.styled_answers.specs.Queries.{styledRowText, boundingBoxText, answerSaid};
 
 // The ends of three runs.
 fn put_runs(out: &mut [u8], at: usize, left: Range, fill: Range, right: Range) -> usize

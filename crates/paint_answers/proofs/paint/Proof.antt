@@ -6,9 +6,9 @@ use Prim.Native.Nat.{ℕ}
 use lib.ListN.{replicate}
 use borrow.Author.Tests.{not-true, not-false}
 use Rattle.query_records.specs.Queries.{plus, u32At, figureAt, styleAt}
-use Rattle.answer_buffers.specs.Buffers.{lentLength, filled}
+use Rattle.answer_buffers.specs.Buffers.{lentLength, filled, canvasRoom, leastShort}
 use Rattle.answer_buffers.proofs.Filling.{lent-part}
-use Rattle.paint_answers.specs.Queries.{canvasRoom, sidesAt, askedLength, lengthEnd, paintFits, leastShort, paintedText}
+use Rattle.paint_answers.specs.Queries.{sidesAt, askedLength, lengthEnd, paintFits, paintedText}
 use Rattle.answer_text.proofs.Puts.{puts-as}
 use Rattle.answer_records.proofs.Answering.{puts-usage, puts-query}
 use borrow.Author.Needs.{needs}

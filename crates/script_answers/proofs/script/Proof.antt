@@ -6,9 +6,9 @@ use Prim.Native.Nat.{ℕ}
 use lib.Dec.{ltb}
 use lib.ListN.{replicate}
 use borrow.Author.Tests.{not-true, not-false}
-use Rattle.answer_buffers.specs.Buffers.{lentLength, canvasArea, filled}
+use Rattle.answer_buffers.specs.Buffers.{lentLength, canvasArea, filled, canvasRoom}
 use Rattle.answer_buffers.proofs.Filling.{lent-part}
-use Rattle.script_answers.specs.Queries.{canvasRoom, callsText, scriptFits, scriptLength}
+use Rattle.script_answers.specs.Queries.{callsText, scriptFits, scriptLength}
 use Rattle.answer_text.proofs.Puts.{puts-as}
 use Rattle.answer_records.proofs.Answering.{puts-usage, puts-query}
 use borrow.Author.Needs.{needs}

@@ -7,9 +7,9 @@ use lib.ListN.{length, length-replicate}
 use borrow.Author.Tests.{eq-eqb, ne-eqb}
 use Rattle.answer_text.specs.Text.{bytes}
 use Rattle.query_records.specs.Queries.{plus, u32At, formEnd}
-use Rattle.answer_buffers.specs.Buffers.{lentLength, seeded}
+use Rattle.answer_buffers.specs.Buffers.{lentLength, seeded, canvasRoom, leastShort}
 use Rattle.answer_buffers.proofs.Filling.{lent-part}
-use Rattle.sheet_answers.specs.Queries.{canvasRoom, sheetAt, leastShort, paintedText}
+use Rattle.sheet_answers.specs.Queries.{sheetAt, paintedText}
 use Rattle.answer_text.proofs.Puts.{puts-as}
 use Rattle.answer_records.proofs.Answering.{puts-usage, puts-query}
 use borrow.Author.Needs.{needs}

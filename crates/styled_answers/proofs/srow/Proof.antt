@@ -6,10 +6,9 @@ use Prim.Native.Nat.{ℕ}
 use Rattle.styled.specs.Calls.{styledRowCall}
 use Rattle.query_records.specs.Queries.{plus, i32At, strokeAt}
 use Rattle.query_records.proofs.Reading.{read-held}
-use Rattle.styled_answers.specs.Queries.{noRowText}
 use borrow.Author.Tests.{not-true, not-false}
 use Rattle.refusal.specs.Refusal.{Outcome}
-use Rattle.answer_records.specs.Answers.{outcomeText}
+use Rattle.answer_records.specs.Answers.{outcomeText, noRowText}
 use Rattle.answer_text.proofs.Puts.{puts-as}
 use Rattle.answer_records.proofs.Answering.{puts-usage, puts-query}
 use borrow.Author.Needs.{needs}

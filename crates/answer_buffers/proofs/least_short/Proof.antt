@@ -1,10 +1,10 @@
--- `paint_answers::least_short` meets its contract: the test is the definition's.
+-- `answer_buffers::least_short` meets its contract: the test is the definition's.
 -- Assumes nothing.
 use borrow.Author.Tests.{lt-ltb, le-ltb}
-use Rattle.paint_answers.specs.Queries.{leastShort}
+use Rattle.answer_buffers.specs.Buffers.{leastShort}
 use borrow.Author.Needs.{needs}
-use Rattle.paint_answers.proofs.least_short.Statement.{statement}
-use Rattle.paint_answers.proofs.least_short.Tie as tie
+use Rattle.answer_buffers.proofs.least_short.Statement.{statement}
+use Rattle.answer_buffers.proofs.least_short.Tie as tie
 
 returns : tie.Need-returns
 unfolding leastShort
