@@ -29,14 +29,16 @@ module _ (b : RoundedRectangle) (style : Style) (y : ℤ) (r : StraightRow) (out
       → Told r (styledRow (CrateBox b) style y)
   unfolding styledRowOfShapes
   crate-told =
-      subst (Told r) (λ i. boxStyledRow (confined (offsetBox b (pos (outside-is i)))) (confined (offsetBox b (negℤ (pos (inside-is i))))) y)
+      subst (Told r)
+      (λ i. boxStyledRow (confined (offsetBox b (pos (outside-is i)))) (confined (offsetBox b (negℤ (pos (inside-is i))))) y)
 
   w3c-told : Told r (boxStyledRow (confinedW3c (confinedW3c (offsetBox (confinedW3c b) (pos outside)))) (confinedW3c (confinedW3c (offsetBox (confinedW3c b) (negℤ (pos inside))))) y)
       → Told r (styledRow (W3cBox b) style y)
   unfolding styledRowOfShapes
   w3c-told =
       subst (Told r)
-      (λ i. boxStyledRow (confinedW3c (confinedW3c (offsetBox (confinedW3c b) (pos (outside-is i))))) (confinedW3c (confinedW3c (offsetBox (confinedW3c b) (negℤ (pos (inside-is i)))))) y)
+      (λ i. boxStyledRow (confinedW3c (confinedW3c (offsetBox (confinedW3c b) (pos (outside-is i)))))
+      (confinedW3c (confinedW3c (offsetBox (confinedW3c b) (negℤ (pos (inside-is i)))))) y)
 
   pub figure-told : (f : Figure) → IsBox f b
       → Told r (boxStyledRow (confined (offsetBox b (pos outside))) (confined (offsetBox b (negℤ (pos inside)))) y)

@@ -16,7 +16,6 @@ ghost use Prim.Native.Nat.{_-_, _<_, _≤_};
 ghost use lib.IntN.{pos, negℤ};
 ghost use Rattle.signed.specs.Signed.{Near};
 ghost use Rattle.geometry.specs.Bounds.{widePoint};
-ghost use Rattle.corner.specs.Bounds.{wideRadius};
 ghost use Rattle.corner_radii.specs.declared.CornerRadii.{CornerRadii};
 ghost use Rattle.box_rules.specs.Bounds.{wideOffset, OwnBox, AreaRectangle};
 ghost use Rattle.box_rules.specs.BoxRules.{confined, confinedW3c, offsetBox};

@@ -15,10 +15,12 @@ use Rattle.row_alone.proofs.ellipse_row_at.Statement.{statement}
 use Rattle.row_alone.proofs.ellipse_row_at.Tie as tie
 
 -- the two areas' rectangles
-area-is : (c : tie.After-offset) → c .offset .result ≡ Rectangle·offset (c .before .before .args .rectangle) (pos (c .before .before .args .outside))
+area-is : (c : tie.After-offset)
+    → c .offset .result ≡ Rectangle·offset (c .before .before .args .rectangle) (pos (c .before .before .args .outside))
 area-is c =
     c .offset .ensures
-    ∙ ap (Rectangle·offset (c .before .before .args .rectangle)) (toZ-ofZ (c .before .from-u32 .ensures .fits) ∙ c .before .from-u32 .ensures .is)
+    ∙ ap (Rectangle·offset (c .before .before .args .rectangle))
+    (toZ-ofZ (c .before .from-u32 .ensures .fits) ∙ c .before .from-u32 .ensures .is)
 
 abbrev start : tie.After-sub → tie.Start
 start c = c .before .before .before .before
@@ -29,10 +31,12 @@ opposite c =
     let difference = c .sub .ensures .is in
     omega (arith, int, positive-of-opposite (pos (start c .args .inside)), negative-of-opposite (pos (start c .args .inside)))
 
-inner-is : (c : tie.After-offset2) → c .offset2 .result ≡ Rectangle·offset (start (c .before) .args .rectangle) (negℤ (pos (start (c .before) .args .inside)))
+inner-is : (c : tie.After-offset2)
+    → c .offset2 .result ≡ Rectangle·offset (start (c .before) .args .rectangle) (negℤ (pos (start (c .before) .args .inside)))
 inner-is c =
     c .offset2 .ensures
-    ∙ ap (Rectangle·offset (start (c .before) .args .rectangle)) (toZ-ofZ (c .before .sub .ensures .fits) ∙ opposite (c .before))
+    ∙ ap (Rectangle·offset (start (c .before) .args .rectangle))
+    (toZ-ofZ (c .before .sub .ensures .fits) ∙ opposite (c .before))
 
 from-u32-requires : tie.Need-from-u32-requires
 from-u32-requires c κs = search needs
@@ -55,8 +59,11 @@ sub-requires c κs =
 offset-requires-2 : tie.Need-offset-requires-2
 offset-requires-2 c κs =
     let small = start c .pre .1 .0 in
-    let inside = start c .args .inside in
-    (area-bounded _ (own-area _ (start c .pre .0)), omega (arith, int, opposite c, positive-of-opposite (pos inside), negative-of-opposite (pos inside)))
+    let inside = start c .args .inside in (
+      area-bounded _ (own-area _ (start c .pre .0)),
+      omega
+          (arith, int, opposite c, positive-of-opposite (pos inside), negative-of-opposite (pos inside)),
+    )
 
 styled-row-of-shapes-requires : tie.Need-styled-row-of-shapes-requires
 styled-row-of-shapes-requires c κs =
@@ -64,9 +71,12 @@ styled-row-of-shapes-requires c κs =
     let small = entry .pre .1 .0 in
     let near = entry .pre .1 .1 in
     let inside = entry .args .inside in (
-      subst AreaRectangle (sym (area-is (c .before .before .before))) (offset-area (entry .args .rectangle) (pos (entry .args .outside)) (entry .pre .0) (omega (arith, int))),
+      subst AreaRectangle (sym (area-is (c .before .before .before)))
+          (offset-area (entry .args .rectangle) (pos (entry .args .outside)) (entry .pre .0) (omega (arith, int))),
       (
-        subst AreaRectangle (sym (inner-is c)) (offset-area (entry .args .rectangle) (negℤ (pos inside)) (entry .pre .0) (omega (arith, int, positive-of-opposite (pos inside), negative-of-opposite (pos inside)))),
+        subst AreaRectangle (sym (inner-is c))
+            (offset-area (entry .args .rectangle) (negℤ (pos inside)) (entry .pre .0)
+            (omega (arith, int, positive-of-opposite (pos inside), negative-of-opposite (pos inside)))),
         rw (toZ-ofZ (near .fits)) near,
       ),
     )
@@ -75,7 +85,8 @@ returns : tie.Need-returns
 returns c =
     let after = c .before in
     c .styled-row-of-shapes .ensures
-    ∙ (λ i. styledRowOfShapes (Ellipse (area-is (after .before .before .before) i)) (Ellipse (inner-is after i)) (toZ-ofZ (start (after .before) .pre .1 .1 .fits) i))
+    ∙ (λ i. styledRowOfShapes (Ellipse (area-is (after .before .before .before) i)) (Ellipse (inner-is after i))
+    (toZ-ofZ (start (after .before) .pre .1 .1 .fits) i))
 
 pub ellipse-row-at-spec : {M : Type 1} → statement M
 ellipse-row-at-spec =

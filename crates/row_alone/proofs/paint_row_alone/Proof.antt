@@ -33,8 +33,10 @@ returns c =
     let row = c .before .before .before .row-alone .result in
     c .before .before .paint-row-on .ensures
     ∙ ap (λ (z : ℤ). paintBy (λ _. row) (a .style) (a .size .width) (a .size .height) z (a .canvas .now)) held
-    ∙ paint-by-row (styledRow (a .figure) (a .style)) (a .style) (a .size .width) (a .size .height) (a .canvas .now) row (a .y) (c .before .before .before .row-alone .ensures ∙ ap (styledRow (a .figure) (a .style)) held)
-    ∙ paint-by-figure (styledRow (a .figure) (a .style)) (a .style) (a .size .width) (a .size .height) (a .canvas .now) (a .figure) (λ _. refl) (a .y)
+    ∙ paint-by-row (styledRow (a .figure) (a .style)) (a .style) (a .size .width) (a .size .height) (a .canvas .now) row (a .y)
+    (c .before .before .before .row-alone .ensures ∙ ap (styledRow (a .figure) (a .style)) held)
+    ∙ paint-by-figure (styledRow (a .figure) (a .style)) (a .style) (a .size .width) (a .size .height) (a .canvas .now)
+    (a .figure) (λ _. refl) (a .y)
 
 pub paint-row-alone-spec : {M : Type 1} → statement M
 paint-row-alone-spec = tie.close (tie.spec row-alone-requires paint-row-on-requires same-length returns)

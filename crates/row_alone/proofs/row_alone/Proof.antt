@@ -1,4 +1,5 @@
--- `row_alone::row_alone` meets its contract: the figure's kind says which shapes its areas have, and what is told of a box's row is the
+-- `row_alone::row_alone` meets its contract: the figure's kind says which shapes its areas have, and what is told of a box's
+-- row is the
 -- figure's.
 -- Assumes nothing.
 use borrow.Author.Needs.{needs}
@@ -24,16 +25,21 @@ use Rattle.row_alone.proofs.row_alone.Statement.{statement}
 use Rattle.row_alone.proofs.row_alone.Tie as tie
 
 -- the stroke's widths are within bounds
-widths : (c : tie.After-inside-stroke-width) → (c .before .outside-stroke-width .result ≤ wideOffset) × (c .inside-stroke-width .result ≤ wideOffset)
+widths : (c : tie.After-inside-stroke-width)
+    → (c .before .outside-stroke-width .result ≤ wideOffset) × (c .inside-stroke-width .result ≤ wideOffset)
 widths c =
     let style = c .before .before .args .style in
-    let small = c .before .before .pre .1 .0 in
-    (omega (arith, c .before .outside-stroke-width .ensures, outside-within-stroke style), omega (arith, c .inside-stroke-width .ensures, inside-within-stroke style))
+    let small = c .before .before .pre .1 .0 in (
+      omega (arith, c .before .outside-stroke-width .ensures, outside-within-stroke style),
+      omega
+          (arith, c .inside-stroke-width .ensures, inside-within-stroke style),
+    )
 
 -- past the match the figure is a box
 is-box : (c : tie.At-match-came) → IsBox (c .before .before .before .args .figure) (c .match .b)
 is-box c =
-    ⊎-elim (λ w. inl (w .1 .given .1 ∙ ap CrateBox (sym (w .4)))) (λ w. inr (w .1 .given .1 ∙ ap W3cBox (sym (w .4)))) (c .match .came)
+    ⊎-elim (λ w. inl (w .1 .given .1 ∙ ap CrateBox (sym (w .4)))) (λ w. inr (w .1 .given .1 ∙ ap W3cBox (sym (w .4))))
+    (c .match .came)
 
 same-figure : (c : tie.At-match-came) → c .match .figure ≡ c .before .before .before .args .figure
 same-figure c = ⊎-elim (λ w. w .3 ∙ sym (w .1 .given .1)) (λ w. w .3 ∙ sym (w .1 .given .1)) (c .match .came)
@@ -50,15 +56,22 @@ enum-known-figure c = search needs
 ellipse-row-at-requires : tie.Need-ellipse-row-at-requires
 ellipse-row-at-requires c κs =
     let entry = c .before .before .before .before .before in
-    let near = entry .pre .1 .1 in
-    (subst OwnFigure (c .before .figure .given .1) (entry .pre .0), (widths (c .before .before .before), rw (toZ-ofZ (near .fits)) near))
+    let near = entry .pre .1 .1 in (
+      subst OwnFigure (c .before .figure .given .1) (entry .pre .0),
+      (widths (c .before .before .before), rw (toZ-ofZ (near .fits)) near),
+    )
 
 returns : tie.Need-returns
 returns c =
     let entry = c .before .before .before .before .before .before in
     let figure = c .before .before .figure .given in
     c .ellipse-row-at .ensures
-    ∙ (λ i. styledRowOfShapes (shape-of.Ellipse (Rectangle·offset (figure .0 .0) (pos (c .before .before .before .before .before .outside-stroke-width .ensures i)))) (shape-of.Ellipse (Rectangle·offset (figure .0 .0) (negℤ (pos (c .before .before .before .before .inside-stroke-width .ensures i))))) (toZ-ofZ (entry .pre .1 .1 .fits) i))
+    ∙ (λ i. styledRowOfShapes
+    (shape-of.Ellipse
+    (Rectangle·offset (figure .0 .0) (pos (c .before .before .before .before .before .outside-stroke-width .ensures i))))
+    (shape-of.Ellipse
+    (Rectangle·offset (figure .0 .0) (negℤ (pos (c .before .before .before .before .inside-stroke-width .ensures i)))))
+    (toZ-ofZ (entry .pre .1 .1 .fits) i))
     ∙ ap (λ (f : Figure). styledRow f (entry .args .style) (entry .args .y)) (sym (figure .1))
 
 enum-known-figure-2 : tie.Need-enum-known-figure-2
@@ -79,11 +92,13 @@ enum-known-runs c = search needs
 enum-told : tie.Need-enum-told
 enum-told c = search needs
 
-row-at-requires : tie.Need-row-at-requires
-row-at-requires c κs =
+row-by-areas-requires : tie.Need-row-by-areas-requires
+row-by-areas-requires c κs =
     let entry = c .before .before .before .before .before .before in
-    let near = entry .pre .1 .1 in
-    (subst OwnFigure (sym (same-figure (c .before .before .before))) (entry .pre .0), (entry .pre .1 .0, rw (toZ-ofZ (near .fits)) near))
+    let near = entry .pre .1 .1 in (
+      subst OwnFigure (sym (same-figure (c .before .before .before))) (entry .pre .0),
+      (entry .pre .1 .0, rw (toZ-ofZ (near .fits)) near),
+    )
 
 enum-known-found : tie.Need-enum-known-found
 enum-known-found c = search needs
@@ -92,11 +107,13 @@ enum-told-2 : tie.Need-enum-told-2
 enum-told-2 c = search needs
 
 -- the row by both areas
-found-row : (c : tie.After-row-at) (told : StyledRow) → c .row-at .result ≡ told
+found-row : (c : tie.After-row-by-areas) (told : StyledRow) → c .row-by-areas .result ≡ told
     → told ≡ styledRow (c .before .before .before .before .before .before .before .args .figure) (c .before .before .before .before .before .before .before .args .style) (c .before .before .before .before .before .before .before .args .y)
 found-row c told is =
     let entry = c .before .before .before .before .before .before .before in
-    sym is ∙ c .row-at .ensures ∙ (λ i. styledRow (same-figure (c .before .before .before .before) i) (entry .args .style) (toZ-ofZ (entry .pre .1 .1 .fits) i))
+    sym is ∙ c .row-by-areas .ensures
+    ∙ (λ i. styledRow (same-figure (c .before .before .before .before) i) (entry .args .style)
+    (toZ-ofZ (entry .pre .1 .1 .fits) i))
 
 returns-2 : tie.Need-returns-2
 returns-2 c = found-row (c .before .before) _ (c .enum-told2 .given .1)
@@ -112,7 +129,9 @@ straight-told c r is =
     let held = toZ-ofZ (entry .pre .1 .1 .fits) in
     subst (λ (s : StraightRow). Told s (styledRow (entry .args .figure) (entry .args .style) (entry .args .y))) is
     (subst (λ (z : ℤ). Told (c .straight-row .result) (styledRow (entry .args .figure) (entry .args .style) z)) held
-    (figure-told (c .before .match .b) (entry .args .style) _ (c .straight-row .result) _ _ (c .before .before .before .outside-stroke-width .ensures) (c .before .before .inside-stroke-width .ensures) (entry .args .figure) (is-box (c .before))
+    (figure-told (c .before .match .b) (entry .args .style) _ (c .straight-row .result) _ _
+    (c .before .before .before .outside-stroke-width .ensures) (c .before .before .inside-stroke-width .ensures)
+    (entry .args .figure) (is-box (c .before))
     (c .straight-row .ensures .0) (c .straight-row .ensures .1)))
 
 returns-4 : tie.Need-returns-4
@@ -132,7 +151,7 @@ row-alone-spec =
     straight-row-requires
     enum-known-runs
     enum-told
-    row-at-requires
+    row-by-areas-requires
     enum-known-found
     enum-told-2
     returns-2

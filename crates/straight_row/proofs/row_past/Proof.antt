@@ -1,10 +1,10 @@
--- `straight_row::row_past` meets its contract: a row that both tests let pass lies past the corners that reach no further than told, so
+-- `straight_row::row_past` meets its contract: a row that both tests let pass lies past the corners that reach no further than
+-- told, so
 -- its run is the whole area and its fill needs no test.
 -- Assumes nothing.
 use borrow.Author.Needs.{needs}
 use borrow.Author.Tests.{not-false}
 use mathlib.Core.Path.{_≡_, sym, ap, subst, _∙_}
-use mathlib.Core.Bool.{true}
 use Prim.Native.Nat.{_-_, _≤_, _<_}
 use native.Mathlib.Omega.{arith}
 use mir.Facts.{toZ-ofZ}
@@ -36,7 +36,8 @@ start c = c .before .before .before .before .before .before .before
 row-place : (c : tie.After-known-told)
     → Placed (start c .args .area .«top_left» .y) (start c .args .area .size .height) (start c .args .y) (At (c .before .dy .given .0 .0))
 row-place c =
-    placed-told _ _ _ (start c .pre .0 .at .y .fits) (start c .pre .1 .1 .fits) (c .before .before .before .place-of .ensures) (c .before .dy .given .1)
+    placed-told _ _ _ (start c .pre .0 .at .y .fits) (start c .pre .1 .1 .fits) (c .before .before .before .place-of .ensures)
+    (c .before .dy .given .1)
 
 abbrev outer : tie.After-known-told2 → tie.After-known-told
 outer c = c .before .before .before .before .before .before .before
@@ -44,7 +45,8 @@ outer c = c .before .before .before .before .before .before .before
 inner-place : (c : tie.After-known-told2)
     → Placed (start (outer c) .args .inner .«top_left» .y) (start (outer c) .args .inner .size .height) (start (outer c) .args .y) (At (c .before .inner-dy .given .0 .0))
 inner-place c =
-    placed-told _ _ _ (start (outer c) .pre .1 .0 .at .y .fits) (start (outer c) .pre .1 .1 .fits) (c .before .before .before .place-of2 .ensures) (c .before .inner-dy .given .1)
+    placed-told _ _ _ (start (outer c) .pre .1 .0 .at .y .fits) (start (outer c) .pre .1 .1 .fits)
+    (c .before .before .before .place-of2 .ensures) (c .before .inner-dy .given .1)
 
 -- the stroke area's run
 abbrev placed : tie.After-run-between → tie.After-known-told2
@@ -54,10 +56,12 @@ run-is : (c : tie.After-run-between) → c .run-between .result ≡ wholeRun (st
 run-is c =
     let entry = start (outer (placed c)) in
     c .run-between .ensures
-    ∙ (λ i. runBetween (toZ-ofZ (entry .pre .0 .at .x .fits) i) (entry .args .area .size .width) (record { left = 0; right = 0 }))
+    ∙ (λ i. runBetween (toZ-ofZ (entry .pre .0 .at .x .fits) i) (entry .args .area .size .width)
+    (record { left = 0; right = 0 }))
 
 -- a row past the corners has straight sides
-straight : (corners : CornerRadii) (s : Size) (dy : _) (r : Reaches) → dy < s .height → (r .upper ≤ dy) × (r .lower ≤ s .height - 1 - dy) → Reach corners r → Straight corners s dy
+straight : (corners : CornerRadii) (s : Size) (dy : _) (r : Reaches) → dy < s .height
+    → (r .upper ≤ dy) × (r .lower ≤ s .height - 1 - dy) → Reach corners r → Straight corners s dy
 straight corners s dy r inside past reach =
     let u = reach .upper in
     let l = reach .lower in
@@ -118,9 +122,17 @@ filled-between-requires c κs =
     let area = entry .pre .0 in
     let inner = area-bounded _ (entry .pre .1 .0) in
     let a = entry .args .area in
-    let ends = subst (EndsWithin (a .«top_left» .x) (a .size .width)) (sym (run-is after)) (between-within (a .«top_left» .x) (a .size .width) (record { left = 0; right = 0 }) (omega arith) (omega arith)) in (
+    let ends = subst (EndsWithin (a .«top_left» .x) (a .size .width)) (sym (run-is after))
+    (between-within (a .«top_left» .x) (a .size .width) (record { left = 0; right = 0 }) (omega arith) (omega arith)) in (
       rw (toZ-ofZ (inner .at .x .fits)) (inner .at .x),
-      ((entry .pre .1 .0 .size .width, omega arith), record { start = start-is-near _ _ _ (area .at .x) (area .size .width) ends; end = end-is-near _ _ _ (area .at .x) (area .size .width) ends }),
+      (
+        (entry .pre .1 .0 .size .width, omega arith),
+        record {
+          start = start-is-near _ _ _ (area .at .x)
+              (area .size .width) ends;
+          end = end-is-near _ _ _ (area .at .x) (area .size .width) ends;
+        },
+      ),
     )
 
 around-fill-requires : tie.Need-around-fill-requires
@@ -132,11 +144,15 @@ returns-5 c = λ c₁ d reach-c reach-d.
     let at = placed after in
     let entry = start (outer at) in
     let a = entry .args in
-    let past = after .before .before .before .before .before .is-past .ensures (not-false _ (after .before .before .before .before .if1 .left)) in
+    let past = after .before .before .before .before .before .is-past .ensures
+    (not-false _ (after .before .before .before .before .if1 .left)) in
     let past₂ = after .before .before .before .is-past2 .ensures (not-false _ (after .before .before .if2 .left)) in
     ap Runs
     (c .around-fill .ensures
-    ∙ ap (aroundFill (after .run-between .result)) (c .before .filled-between .ensures ∙ ap (λ (x : _). fillBetween x (a .inner .size .width) (after .run-between .result) 0) (toZ-ofZ (entry .pre .1 .0 .at .x .fits)))
+    ∙ ap (aroundFill (after .run-between .result))
+    (c .before .filled-between .ensures
+    ∙ ap (λ (x : _). fillBetween x (a .inner .size .width) (after .run-between .result) 0)
+    (toZ-ofZ (entry .pre .1 .0 .at .x .fits)))
     ∙ ap (λ (r : Range). aroundFill r (fillBetween (a .inner .«top_left» .x) (a .inner .size .width) r 0)) (run-is after))
     ∙ straight-row-is (a .area) (a .inner) c₁ d (a .y) _ _ (row-place (outer at)) (inner-place at)
     (straight c₁ (a .area .size) _ (a .stroke) (row-place (outer at) .1) past reach-c)

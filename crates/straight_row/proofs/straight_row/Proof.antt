@@ -1,19 +1,16 @@
--- `straight_row::straight_row` meets its contract: the areas are the box's rectangle offset, and their corners, confined by either rule,
--- reach no further than the box's own, offset with it.
+-- `straight_row::straight_row` meets its contract: the areas are the rectangle offset, and their corners, confined by either
+-- rule, reach
+-- no further than the box's own, offset with it.
 -- Assumes nothing.
 use borrow.Author.Needs.{needs}
 use mathlib.Core.Path.{_≡_, sym, ap, subst, _∙_}
-use Prim.Native.Nat.{_+_, _-_}
-use native.Mathlib.Nat.{le-refl, le-trans}
 use native.Mathlib.Omega.{arith}
 use lib.IntN.{pos, negℤ}
 use mir.Facts.{toZ-ofZ}
 use Rattle.signed.proofs.Laws.{int, positive-of-opposite, negative-of-opposite}
-use Rattle.geometry.specs.declared.Size.{Size}
 use Rattle.rectangle.specs.Rectangle.{offset as Rectangle·offset}
-use Rattle.scanline.specs.declared.StyledRow.{StyledRow}
 use Rattle.corner_radii.specs.declared.CornerRadii.{CornerRadii}
-use Rattle.corner_radii.specs.Bounds.{SizeWithin, RadiiWithin}
+use Rattle.corner_radii.specs.Bounds.{RadiiWithin}
 use Rattle.corner_radii.specs.CornerRadii.{offset as CornerRadii·offset}
 use Rattle.corner_radii.proofs.Bounds.{confine-within, w3c-within}
 use Rattle.box_rules.specs.Bounds.{AreaRectangle}
@@ -21,7 +18,7 @@ use Rattle.box_rules.specs.BoxRules.{confined, confinedW3c, offsetBox}
 use Rattle.box_rules.proofs.Within.{own-area, area-bounded, offset-area}
 use Rattle.shape_row.specs.StyledRow.{boxStyledRow}
 use Rattle.straight_row.specs.StraightRow.{boxWith, Reach, Told}
-use Rattle.straight_row.proofs.Straight.{reach-within, reach-outward, reach-inward}
+use Rattle.straight_row.proofs.Straight.{reach-within, reach-outward, reach-inward, radii-twice, radii-themselves}
 use Rattle.straight_row.proofs.straight_row.Statement.{statement}
 use Rattle.straight_row.proofs.straight_row.Tie as tie
 
@@ -29,10 +26,12 @@ use Rattle.straight_row.proofs.straight_row.Tie as tie
 abbrev start : tie.After-offset → tie.Start
 start c = c .before .before .before .before .before .before .before .before .before .before
 
-area-is : (c : tie.After-offset) → c .offset .result ≡ Rectangle·offset (start c .args .b .rectangle) (pos (start c .args .outside))
+area-is : (c : tie.After-offset)
+    → c .offset .result ≡ Rectangle·offset (start c .args .b .rectangle) (pos (start c .args .outside))
 area-is c =
     c .offset .ensures
-    ∙ ap (Rectangle·offset (start c .args .b .rectangle)) (toZ-ofZ (c .before .from-u32 .ensures .fits) ∙ c .before .from-u32 .ensures .is)
+    ∙ ap (Rectangle·offset (start c .args .b .rectangle))
+    (toZ-ofZ (c .before .from-u32 .ensures .fits) ∙ c .before .from-u32 .ensures .is)
 
 opposite : (c : tie.After-sub) → c .sub .result ≡ negℤ (pos (start (c .before .before) .args .inside))
 opposite c =
@@ -41,10 +40,13 @@ opposite c =
     let inside = start (c .before .before) .args .inside in
     omega (arith, int, positive-of-opposite (pos inside), negative-of-opposite (pos inside))
 
-inner-is : (c : tie.After-offset2) → c .offset2 .result ≡ Rectangle·offset (start (c .before .before .before) .args .b .rectangle) (negℤ (pos (start (c .before .before .before) .args .inside)))
+inner-is : (c : tie.After-offset2)
+    → c .offset2 .result
+    ≡ Rectangle·offset (start (c .before .before .before) .args .b .rectangle) (negℤ (pos (start (c .before .before .before) .args .inside)))
 inner-is c =
     c .offset2 .ensures
-    ∙ ap (Rectangle·offset (start (c .before .before .before) .args .b .rectangle)) (toZ-ofZ (c .before .sub .ensures .fits) ∙ opposite (c .before))
+    ∙ ap (Rectangle·offset (start (c .before .before .before) .args .b .rectangle))
+    (toZ-ofZ (c .before .sub .ensures .fits) ∙ opposite (c .before))
 
 most-requires : tie.Need-most-requires
 most-requires c κs = search needs
@@ -74,8 +76,17 @@ sub-requires c κs =
 offset-requires-2 : tie.Need-offset-requires-2
 offset-requires-2 c κs =
     let entry = start (c .before .before) in
-    let small = entry .pre .1 .0 in
-    (area-bounded _ (own-area _ (entry .pre .0 .rectangle)), omega (arith, int, opposite c, positive-of-opposite (pos (entry .args .inside)), negative-of-opposite (pos (entry .args .inside))))
+    let small = entry .pre .1 .0 in (
+      area-bounded _ (own-area _ (entry .pre .0 .rectangle)),
+      omega (
+        arith,
+        int,
+        opposite c,
+        positive-of-opposite (pos (entry .args .inside)),
+        negative-of-opposite
+            (pos (entry .args .inside)),
+      ),
+    )
 
 add-t17 : tie.Need-add-t17
 add-t17 c =
@@ -107,9 +118,12 @@ row-past-requires c κs =
     let small = entry .pre .1 .0 in
     let near = entry .pre .1 .1 in
     let inside = entry .args .inside in (
-      subst AreaRectangle (sym (area-is (after .before .before .before))) (offset-area (entry .args .b .rectangle) (pos (entry .args .outside)) own (omega (arith, int))),
+      subst AreaRectangle (sym (area-is (after .before .before .before)))
+          (offset-area (entry .args .b .rectangle) (pos (entry .args .outside)) own (omega (arith, int))),
       (
-        subst AreaRectangle (sym (inner-is after)) (offset-area (entry .args .b .rectangle) (negℤ (pos inside)) own (omega (arith, int, positive-of-opposite (pos inside), negative-of-opposite (pos inside)))),
+        subst AreaRectangle (sym (inner-is after))
+            (offset-area (entry .args .b .rectangle) (negℤ (pos inside)) own
+            (omega (arith, int, positive-of-opposite (pos inside), negative-of-opposite (pos inside)))),
         rw (toZ-ofZ (near .fits)) near,
       ),
     )
@@ -132,49 +146,30 @@ own-reach c =
 
 -- the corners of the areas, by radii no larger than the box's own
 told : (c : tie.After-row-past) (r s t : CornerRadii) → RadiiWithin r (entry c .args .b .corners)
-    → RadiiWithin s (CornerRadii·offset r (pos (entry c .args .outside))) → RadiiWithin t (CornerRadii·offset r (negℤ (pos (entry c .args .inside))))
+    → RadiiWithin s (CornerRadii·offset r (pos (entry c .args .outside)))
+    → RadiiWithin t (CornerRadii·offset r (negℤ (pos (entry c .args .inside))))
     → Told (c .row-past .result)
-    (boxStyledRow (boxWith (Rectangle·offset (entry c .args .b .rectangle) (pos (entry c .args .outside))) s) (boxWith (Rectangle·offset (entry c .args .b .rectangle) (negℤ (pos (entry c .args .inside)))) t) (entry c .args .y))
+    (boxStyledRow (boxWith (Rectangle·offset (entry c .args .b .rectangle) (pos (entry c .args .outside))) s)
+    (boxWith (Rectangle·offset (entry c .args .b .rectangle) (negℤ (pos (entry c .args .inside)))) t) (entry c .args .y))
 told c r s t r-within s-within t-within =
     let own = reach-within r (entry c .args .b .corners) _ r-within (own-reach c) in
     let inward = reach-within t _ _ t-within (reach-inward r _ _ (entry c .args .inside) own) in
     subst (Told (c .row-past .result))
-    (λ i. boxStyledRow (boxWith (area-is (offsets c .before .before .before) i) s) (boxWith (inner-is (offsets c) i) t) (toZ-ofZ (entry c .pre .1 .1 .fits) i))
+    (λ i. boxStyledRow (boxWith (area-is (offsets c .before .before .before) i) s) (boxWith (inner-is (offsets c) i) t)
+    (toZ-ofZ (entry c .pre .1 .1 .fits) i))
     (c .row-past .ensures s t (reach-within s _ _ s-within (reach-outward r _ _ (entry c .args .outside) own))
     (record {
       upper = let u = inward .upper in omega (arith, c .before .before .difference .ensures);
       lower = let l = inward .lower in omega (arith, c .before .difference2 .ensures);
     }))
 
--- radii no larger than some that are no larger than others
-size-twice : {a b c : Size} → SizeWithin a b → SizeWithin b c → SizeWithin a c
-size-twice p q = record { width = le-trans (p .width) (q .width); height = le-trans (p .height) (q .height) }
-
-within-twice : (a b c : CornerRadii) → RadiiWithin a b → RadiiWithin b c → RadiiWithin a c
-within-twice a b c p q =
-    record {
-      «top_left» = size-twice (p .«top_left») (q .«top_left»);
-      «top_right» = size-twice (p .«top_right») (q .«top_right»);
-      «bottom_right» = size-twice (p .«bottom_right») (q .«bottom_right»);
-      «bottom_left» = size-twice (p .«bottom_left») (q .«bottom_left»);
-    }
-
--- radii are no larger than themselves
-itself : (r : CornerRadii) → RadiiWithin r r
-itself r =
-    record {
-      «top_left» = record { width = le-refl _; height = le-refl _ };
-      «top_right» = record { width = le-refl _; height = le-refl _ };
-      «bottom_right» = record { width = le-refl _; height = le-refl _ };
-      «bottom_left» = record { width = le-refl _; height = le-refl _ };
-    }
-
 returns : tie.Need-returns
 unfolding confined confinedW3c offsetBox
 returns c =
     let b = entry c .args .b in (
-      told c (b .corners) _ _ (itself (b .corners)) (confine-within _ _) (confine-within _ _),
-      told c _ _ _ (w3c-within (b .corners) (b .rectangle .size)) (within-twice _ _ _ (w3c-within _ _) (w3c-within _ _)) (within-twice _ _ _ (w3c-within _ _) (w3c-within _ _)),
+      told c (b .corners) _ _ (radii-themselves (b .corners)) (confine-within _ _) (confine-within _ _),
+      told c _ _ _ (w3c-within (b .corners) (b .rectangle .size)) (radii-twice _ _ _ (w3c-within _ _) (w3c-within _ _))
+          (radii-twice _ _ _ (w3c-within _ _) (w3c-within _ _)),
     )
 
 pub straight-row-spec : {M : Type 1} → statement M
