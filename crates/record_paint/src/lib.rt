@@ -8,6 +8,7 @@ use record_rules::PlacesTested;
 use record_rules::test_places;
 use refusal::Checked;
 use refusal::Refusal;
+use row_alone::paint_row_alone;
 use sheet_record::LAYER_LENGTH;
 use sheet_record::layer_at;
 use sheet_record::size_of;
@@ -92,6 +93,6 @@ pub fn paint_next(numbers: &mut [i32], layer: u32, canvas: &mut [u8])
     let figure = chosen.figure;
     let style = chosen.style;
     let row = chosen.next_row;
-    drawing::paint_row(canvas, size_of(numbers), figure, style, row);
+    paint_row_alone(canvas, size_of(numbers), figure, style, row);
     numbers[3 + LAYER_LENGTH * place + 17] = signed::add(row, 1);
 }

@@ -63,8 +63,8 @@ layer-at-requires c κs = (c .before .before .pre .0, place (c .before .before))
 size-of-requires : tie.Need-size-of-requires
 size-of-requires c κs = search needs
 
-paint-row-requires : tie.Need-paint-row-requires
-paint-row-requires c κs =
+paint-row-alone-requires : tie.Need-paint-row-alone-requires
+paint-row-alone-requires c κs =
     let read = c .before .before .before .before .before in
     let size = c .size-of .ensures in
     let next = within read .next in (
@@ -115,7 +115,7 @@ returns c =
     let held = toZ-ofZ (within read .next .fits) in (
       ap (λ (z : ℤ). set (a .numbers .now) (placeAt (a .layer) + 17) z)
           (toZ-ofZ (c .add .ensures .fits) ∙ c .add .ensures .is ∙ ap (λ (z : ℤ). z +ℤ pos 1) (held ∙ ap (λ (l : Layer). l .«next_row») (read .layer-at .ensures))),
-      c .before .before .before .paint-row .ensures
+      c .before .before .before .paint-row-alone .ensures
           ∙ ap (λ (y : ℤ). paintRow drawing (c .before .before .before .before .size-of .result .width) (c .before .before .before .before .size-of .result .height) (styledFigure (read .layer-at .result .figure) (read .layer-at .result .style)) y (a .canvas .now)) held
           ∙ (λ k. written (a .canvas .now) (size .0 k) (size .1 k) (chosen-is read k))
           ∙ sym (painted-canvas (sheet e) (sixteen (a .numbers .now)) (a .canvas .now) (a .layer) (e .pre .1)),
@@ -127,7 +127,7 @@ paint-next-spec =
     (tie.spec
     layer-at-requires
     size-of-requires
-    paint-row-requires
+    paint-row-alone-requires
     add-requires
     mul-t18
     add-t19
