@@ -3,7 +3,6 @@
 use borrow.Author.Needs.{needs}
 use mathlib.Core.Path.{_≡_, sym, ap, subst, _∙_}
 use mir.Facts.{toZ-ofZ}
-use Rattle.rounded_rectangle.specs.declared.RoundedRectangle.{RoundedRectangle}
 use Rattle.box_rules.specs.BoxRules.{confined, offsetBox}
 use Rattle.shape.specs.declared.Shape.the-variants.{RoundedBox}
 use Rattle.figure.specs.Bounds.{AreaBox}

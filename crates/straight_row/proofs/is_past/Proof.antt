@@ -1,7 +1,6 @@
 -- `straight_row::is_past` meets its contract: a row that passes both tests is past the upper corners and before the lower ones.
 -- Assumes nothing.
 use mathlib.Core.Bool.{false≢true}
-use native.Mathlib.Omega.{arith}
 use borrow.Author.Needs.{needs}
 use Rattle.straight_row.proofs.is_past.Statement.{statement}
 use Rattle.straight_row.proofs.is_past.Tie as tie
