@@ -1,8 +1,7 @@
 -- A row that no corner of either area touches: the stroke area's run is as wide as the area, and all of the fill area's columns
--- are
--- contained. How far the corners of an area reach follows from the box's own: confined radii are no larger than they were.
+-- are contained. How far the corners of an area reach follows from the box's own: confined radii are no larger than they were.
 -- Assumes nothing.
-use mathlib.Core.Path.{_≡_, sym, ap, _∙_}
+use mathlib.Core.Path.{_≡_, sym}
 use Prim.Native.Nat.{ℕ, _+_, _-_}
 use native.Mathlib.Nat.{le-refl, le-trans}
 use native.Mathlib.Omega.{arith}
@@ -11,8 +10,6 @@ use Rattle.signed.proofs.Laws.{positive-of-opposite, negative-of-opposite}
 use Rattle.geometry.specs.declared.Size.{Size}
 use Rattle.range.specs.declared.Range.{Range}
 use Rattle.rectangle.specs.declared.Rectangle.{Rectangle}
-use Rattle.scanline.specs.declared.Row.{Row}
-use Rattle.scanline.specs.declared.Row.the-variants.{Run}
 use Rattle.scanline.specs.declared.StyledRow.the-variants.{Runs}
 use Rattle.scanline.specs.declared.Place.the-variants.{At}
 use Rattle.scanline.specs.Places.{Placed}
@@ -21,17 +18,12 @@ use Rattle.corner.proofs.Offset.{offset-radius-by-parts}
 use Rattle.corner_radii.specs.declared.CornerRadii.{CornerRadii}
 use Rattle.corner_radii.specs.Bounds.{SizeWithin, RadiiWithin}
 use Rattle.corner_radii.specs.CornerRadii.{offset as CornerRadii·offset}
-use Rattle.rounded_rectangle.specs.declared.Insets.{Insets}
-use Rattle.rounded_rectangle.specs.Relative.{rowInsets, runBetween}
-use Rattle.rounded_rectangle.proofs.Rows.{row-placed, side-straight}
+use Rattle.rounded_rectangle.specs.Relative.{runBetween}
 use Rattle.box_rows.specs.Sides.{Straight}
-use Rattle.box_rows.proofs.Even.{between-straight}
-use Rattle.box_fill.specs.BoxFill.{fillRun}
-use Rattle.box_fill.proofs.Rows.{fill-relative}
 use Rattle.even_fill.specs.EvenFill.{fillBetween}
-use Rattle.even_fill.proofs.Evenly.{fill-between}
-use Rattle.ellipse_styled.specs.EllipseStyled.{aroundFill, styledBy}
+use Rattle.ellipse_styled.specs.EllipseStyled.{aroundFill}
 use Rattle.shape_row.specs.StyledRow.{boxStyledRow}
+use Rattle.styled_box.proofs.Straight.{straight-row}
 use Rattle.straight_row.specs.declared.Reaches.{Reaches}
 use Rattle.straight_row.specs.StraightRow.{boxWith, Reach}
 
@@ -40,37 +32,14 @@ use Rattle.straight_row.specs.StraightRow.{boxWith, Reach}
 abbrev pub wholeRun : Rectangle → Range
 wholeRun area = runBetween (area .«top_left» .x) (area .size .width) (record { left = 0; right = 0 })
 
-module _ (area inner : Rectangle) (c d : CornerRadii) where
-  abbrev whole : Range
-  whole = wholeRun area
-
-  module _ (y : ℤ) (dy inner-dy : ℕ) (at : Placed (area .«top_left» .y) (area .size .height) y (At dy))
-      (inner-at : Placed (inner .«top_left» .y) (inner .size .height) y (At inner-dy))
-      (s : Straight c (area .size) dy) (t : Straight d (inner .size) inner-dy) where
-    no-insets : rowInsets c (area .size .width) (area .size .height) dy ≡ record { left = 0; right = 0 }
-    no-insets i =
-        let u = s .past-upper in
-        let l = s .before-lower in
-        let h = area .size .height in
-        let w = area .size .width in
-        record {
-          left = sym (side-straight (c .«top_left») (c .«bottom_left») h w dy (omega arith) (omega arith)) i;
-          right = sym (side-straight (c .«top_right») (c .«bottom_right») h w dy (omega arith) (omega arith)) i;
-        }
-
-    fill-is : fillBetween (inner .«top_left» .x) (inner .size .width) whole 0 ≡ fillRun (boxWith inner d) y whole
-    fill-is =
-        fill-between d (inner .size) inner-dy 0 (between-straight d (inner .size) inner-dy t) (inner .«top_left» .x) whole
-        ∙ fill-relative (boxWith inner d) y whole inner-dy inner-at
-
-    pub straight-row-is : Runs (aroundFill whole (fillBetween (inner .«top_left» .x) (inner .size .width) whole 0))
-        ≡ boxStyledRow (boxWith area c) (boxWith inner d) y
-    unfolding boxStyledRow
-    straight-row-is =
-        ap (λ (r : Range). Runs (aroundFill whole r)) fill-is
-        ∙ ap (λ (k : Insets). styledBy (Run (runBetween (area .«top_left» .x) (area .size .width) k))
-        (fillRun (boxWith inner d) y)) (sym no-insets)
-        ∙ ap (λ (r : Row). styledBy r (fillRun (boxWith inner d) y)) (row-placed (boxWith area c) y dy at)
+-- the row by it, as that of the boxes of both areas (`straight-row` of styled_box)
+pub straight-row-is : (area inner : Rectangle) (c d : CornerRadii) (y : ℤ) (dy inner-dy : ℕ)
+    → Placed (area .«top_left» .y) (area .size .height) y (At dy) → Placed (inner .«top_left» .y) (inner .size .height) y (At inner-dy)
+    → Straight c (area .size) dy → Straight d (inner .size) inner-dy
+    → Runs (aroundFill (wholeRun area) (fillBetween (inner .«top_left» .x) (inner .size .width) (wholeRun area) 0))
+    ≡ boxStyledRow (boxWith area c) (boxWith inner d) y
+straight-row-is area inner c d y dy inner-dy at inner-at s t =
+    sym (straight-row (boxWith area c) (boxWith inner d) y dy inner-dy at inner-at s t)
 
 -- ---- how far corners reach
 -- radii no larger than others reach no further

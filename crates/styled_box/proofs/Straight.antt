@@ -30,10 +30,10 @@ use Rattle.styled_box.specs.Ready.{Alike}
 
 module _ (a f : RoundedRectangle) where
   -- the stroke area's run, and the row
-  abbrev whole : Range
+  abbrev pub whole : Range
   whole = runBetween (left a) (width a) (record { left = 0; right = 0 })
 
-  abbrev straightRow : StyledRow
+  abbrev pub straightRow : StyledRow
   straightRow = Runs (aroundFill whole (fillBetween (left f) (width f) whole 0))
 
   module _ (y : ℤ) (dy fill-dy : ℕ) (at : Placed (top a) (height a) y (At dy)) (fill-at : Placed (top f) (height f) y (At fill-dy))
@@ -51,7 +51,7 @@ module _ (a f : RoundedRectangle) where
         (fill-between (f .corners) (f .rectangle .size) fill-dy 0 (between-straight (f .corners) (f .rectangle .size) fill-dy t) (left f) whole
         ∙ fill-relative f y whole fill-dy fill-at)
 
-    straight-row : boxStyledRow a f y ≡ straightRow
+    pub straight-row : boxStyledRow a f y ≡ straightRow
     unfolding boxStyledRow
     straight-row =
         ap (λ (r : Row). styledBy r (fillRun f y)) (sym (row-placed a y dy at))
