@@ -12,7 +12,7 @@
 use crate::{
     numbers::{figure_numbers, style_numbers},
     original::Original,
-    query::{Answers, Figure, Kind, Style},
+    records::{Answers, Figure, Kind, Style},
     wunqaber::{self as library, FIGURE_LENGTH, NO_ROW_LEFT, SHEET_LENGTH, STYLE_LENGTH},
 };
 use std::{

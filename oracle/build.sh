@@ -7,7 +7,7 @@
 #   SOURCE  the folder that holds src/primitives; else $EG_SOURCE; else ../shared/docs/src, taken
 #           from the root of the repository (the folder above this one)
 #   BUILD   where to build; else $ORACLE_BUILD; else the folder `build` beside this file
-#   LIBRARY=FILE         the library that hosts link (libexports.a), for `oracle scale`
+#   LIBRARY=FILE         the library that hosts link (libexports.a), for `oracle scale` and `oracle stored`
 #   OVERFLOW_CHECKS=off  for a wrapping build, for speed measurements only: it is NO oracle
 set -eu
 here=$(cd "$(dirname "$0")" && pwd)
@@ -77,24 +77,31 @@ mod original;
 mod reference;
 #[path = "$here/findings.rs"]
 mod findings;
-#[path = "$here/compare.rs"]
-mod compare;
-#[path = "$here/query.rs"]
-mod query;
-#[cfg(library)]
+#[path = "$here/records.rs"]
+mod records;
 #[path = "$here/../hosts/wunqaber.rs"]
 mod wunqaber;
-#[cfg(library)]
 #[path = "$here/numbers.rs"]
 mod numbers;
+#[path = "$here/lines.rs"]
+mod lines;
+#[path = "$here/asked.rs"]
+mod asked;
+#[path = "$here/compare.rs"]
+mod compare;
 #[cfg(library)]
 #[path = "$here/held.rs"]
 mod held;
 #[cfg(library)]
 #[path = "$here/scale.rs"]
 mod scale;
+#[cfg(library)]
+#[path = "$here/stored.rs"]
+mod stored;
+#[path = "$here/modes.rs"]
+mod modes;
 fn main() {
-    query::main()
+    modes::main()
 }
 END
 set --

@@ -1,11 +1,15 @@
-//! `oracle compare [SEED [EFFORT]]`: the original against the reference, query by query.
+//! `oracle compare [SEED [EFFORT]]`: the original against the reference, call by call.
 //! Exhaustive over small figures, random up to the limits. EFFORT 100 is the standard run; it
 //! scales the random parts; with 0 only the small exhaustive parts run.
 
 use crate::{
+    asked::{
+        shrunk,
+        Ask::{self, *},
+    },
     findings,
     original::Original,
-    query::{attempt, first_lent, panic_place, reply, Answers, Figure, Kind, Side, Style},
+    records::{attempt, first_lent, Answers, Figure, Kind, Style},
     reference::{self, area, fill_area, stroke_area, styled_row, Area, Book, Call, Reference},
 };
 use std::{collections::BTreeMap, fmt::Debug, time::Instant};
@@ -22,7 +26,7 @@ pub struct Tally {
 struct Class {
     count: u64,
     size: i64,
-    text: String,
+    smallest: (Figure, Ask),
 }
 
 #[derive(Default)]
@@ -73,18 +77,14 @@ impl Report {
         list.truncate(5);
     }
 
-    pub fn panicked(&mut self, query: &'static str, f: &Figure, extra: i64, place: String, text: impl Fn() -> String) {
+    pub fn panicked(&mut self, query: &'static str, f: &Figure, ask: Ask, place: String) {
         self.tallies.entry(query).or_default().panics += 1;
-        let size = size_of(f) + 64 * extra;
-        let class = self.panics.entry((query, name(f), place)).or_insert(Class {
-            count: 0,
-            size: i64::MAX,
-            text: String::new(),
-        });
+        let size = size_of(f) + 64 * ask.size();
+        let smallest = (*f, ask);
+        let class = self.panics.entry((query, name(f), place)).or_insert(Class { count: 0, size, smallest });
         class.count += 1;
         if size < class.size {
-            class.size = size;
-            class.text = text();
+            *class = Class { size, smallest, ..*class };
         }
     }
 
@@ -93,18 +93,17 @@ impl Report {
         &mut self,
         query: &'static str,
         f: &Figure,
-        extra: i64,
+        ask: Ask,
         original: Result<T, String>,
         reference: T,
-        text: impl Fn() -> String,
     ) {
         match original {
-            Err(place) => self.panicked(query, f, extra, place, text),
+            Err(place) => self.panicked(query, f, ask, place),
             Ok(v) if v == reference => self.equal(query, 1),
             Ok(v) => {
                 let mut t = format!("{v:?} / {reference:?}");
                 t.truncate(200);
-                self.differs(query, f, extra, format!("{}: original / reference {t}", text()));
+                self.differs(query, f, ask.size(), format!("{}: original / reference {t}", ask.line(f)));
             }
         }
     }
@@ -121,26 +120,25 @@ impl Report {
         }
     }
 
-    // ---- the queries ----
+    // ---- what is asked ----
 
     /// Every row of the plain figure, and two above and below it.
     fn rows(&mut self, f: &Figure) {
         let a = area(f, 0);
         let original = attempt(|| Original.rows(f));
         let foretold = findings::rows(&a);
-        self.forecast("rows of a figure", foretold == original.is_err(), || format!("rows {}", f.text()));
+        let last = Ask::Row(f.y + f.h - 1);
+        self.forecast("rows of a figure", foretold == original.is_err(), || last.line(f));
         if f.kind == Kind::Crate {
             let said = findings::box_rows(&a, false);
-            self.forecast("rows of a box, the sentence as it stands", said == original.is_err(), || {
-                format!("rows {}", f.text())
-            });
+            self.forecast("rows of a box, the sentence as it stands", said == original.is_err(), || last.line(f));
         }
         let rows = match original {
-            Err(place) => return self.panicked("row", f, 0, place, || format!("row {} {}", f.text(), f.y + f.h - 1)),
+            Err(place) => return self.panicked("row", f, last, place),
             Ok(rows) => rows,
         };
         if rows.iter().enumerate().any(|(i, r)| r.0 != f.y + i as i64) {
-            self.differs("row", f, 0, format!("rows {} come in another order", f.text()));
+            self.differs("row", f, 0, format!("{}: rows come in another order", last.line(f)));
         }
         let mut equal = 0;
         for y in f.y - 2..f.y + f.h + 2 {
@@ -149,7 +147,7 @@ impl Report {
             if original == reference {
                 equal += 1;
             } else {
-                let t = format!("row {} {y}: original / reference {original:?} / {reference:?}", f.text());
+                let t = format!("{}: original / reference {original:?} / {reference:?}", Ask::Row(y).line(f));
                 self.differs("row", f, 0, t);
             }
         }
@@ -159,9 +157,9 @@ impl Report {
     fn contains(&mut self, f: &Figure, a: &Area, px: i64, py: i64) {
         let original = attempt(|| Original.contains(f, px, py));
         let right = foretold_contains(f, a, px, py) == original.is_err();
-        let text = || format!("contains {} {px} {py}", f.text());
-        self.forecast("contains", right, text);
-        self.check("contains", f, px.abs() + py.abs(), original, a.contains(px, py), text);
+        let ask = Ask::Contains(px, py);
+        self.forecast("contains", right, || ask.line(f));
+        self.check("contains", f, ask, original, a.contains(px, py));
     }
 
     fn contains_all(&mut self, f: &Figure, margin: i64) {
@@ -177,46 +175,40 @@ impl Report {
         let original = attempt(|| Original.points(f));
         if f.kind == Kind::Ellipse {
             let right = findings::rows(&area(f, 0)) == original.is_err();
-            self.forecast("points of an ellipse", right, || format!("points {}", f.text()));
+            self.forecast("points of an ellipse", right, || Ask::Points.line(f));
         } else if original.is_err() {
             let right = findings::rows(&area(f, 0));
-            self.forecast("points of a box fail only where its rows do", right, || format!("points {}", f.text()));
+            self.forecast("points of a box fail only where its rows do", right, || Ask::Points.line(f));
         }
-        let reference = Reference.points(f);
-        self.check("points", f, 0, original, reference, || format!("points {}", f.text()));
+        self.check("points", f, Ask::Points, original, Reference.points(f));
     }
 
     fn offset(&mut self, f: &Figure, k: i64) {
-        let original = attempt(|| Original.offset(f, k));
-        let text = || format!("offset {} {k}", f.text());
-        self.check("offset", f, k.abs(), original, Reference.offset(f, k), text);
+        self.check("offset", f, Ask::Offset(k), attempt(|| Original.offset(f, k)), Reference.offset(f, k));
     }
 
     fn confine(&mut self, f: &Figure) {
-        let original = attempt(|| Original.confine(f));
-        self.check("confine", f, 0, original, Reference.confine(f), || format!("confine {}", f.text()));
+        self.check("confine", f, Ask::Confine, attempt(|| Original.confine(f)), Reference.confine(f));
     }
 
     /// Every styled row, two above and below, and the styled bounding box.
     fn styled(&mut self, f: &Figure, s: &Style) {
-        let with = |q: &str| format!("{q} {} {} {}", f.text(), s.width, s.align);
-        self.check("bbox", f, s.width, attempt(|| Original.bbox(f, s)), Reference.bbox(f, s), || with("bbox"));
+        self.check("bbox", f, Ask::StyledBox(*s), attempt(|| Original.bbox(f, s)), Reference.bbox(f, s));
 
         let (stroke, fill) = (stroke_area(f, s), fill_area(f, s));
         let original = attempt(|| Original.srows(f, s));
         let (sure, may) = findings::styled(&stroke, &fill);
         let right = if original.is_err() { may } else { !sure };
-        self.forecast("styled rows (between surely and at most)", right, || with("srows"));
         let top = stroke.top_left().1;
         let bottom = top + stroke.sides().1;
+        let last = Ask::StyledRow(*s, bottom - 1);
+        self.forecast("styled rows (between surely and at most)", right, || last.line(f));
         let rows = match original {
-            Err(place) => {
-                return self.panicked("srow", f, s.width, place, || format!("{} {}", with("srow"), bottom - 1))
-            }
+            Err(place) => return self.panicked("srow", f, last, place),
             Ok(rows) => rows,
         };
         if rows.iter().enumerate().any(|(i, r)| r.0 != top + i as i64) {
-            self.differs("srow", f, s.width, format!("{}: rows in another order", with("srows")));
+            self.differs("srow", f, s.width, format!("{}: rows in another order", last.line(f)));
         }
         let mut equal = 0;
         for y in top - 2..bottom + 2 {
@@ -225,8 +217,8 @@ impl Report {
             if original == reference {
                 equal += 1;
             } else {
-                let t = format!("{} {y}: original / reference {original:?} / {reference:?}", with("srow"));
-                self.differs("srow", f, s.width, t);
+                let line = Ask::StyledRow(*s, y).line(f);
+                self.differs("srow", f, s.width, format!("{line}: original / reference {original:?} / {reference:?}"));
             }
         }
         self.equal("srow", equal);
@@ -239,11 +231,7 @@ impl Report {
             paint(&mut bytes);
             bytes
         };
-        let colour = |c: Option<u8>| c.map_or(-1, |c| c as i64);
-        let text = || {
-            let (a, b) = (colour(s.stroke), colour(s.fill));
-            format!("paint {} {a} {b} {} {} {w} {h}", f.text(), s.width, s.align)
-        };
+        let ask = Ask::Paint(*s, w, h);
         let original = attempt(|| canvas(&|b| Original.paint(f, s, w, h, b)));
         let drawn = attempt(|| canvas(&|b| Original.draw(f, s, w, h, b)));
         if let (Ok(p), Ok(d)) = (&original, &drawn) {
@@ -253,12 +241,21 @@ impl Report {
                 self.draw_other += 1;
                 let size = size_of(f) + s.width;
                 if self.draw_smallest.as_ref().map_or(true, |(least, _)| size < *least) {
-                    self.draw_smallest = Some((size, text()));
+                    self.draw_smallest = Some((size, ask.line(f)));
                 }
             }
         }
         let reference = canvas(&|b| Reference.paint(f, s, w, h, b));
-        self.check("paint", f, s.width, original, reference, text);
+        self.check("paint", f, ask, original, reference);
+    }
+
+    /// The canvas after a list of calls. Its figures are small, and the original finishes on each.
+    fn canvas(&mut self, query: &'static str, calls: &[Call], original: Result<Vec<u8>, String>, reference: &[u8]) {
+        match original {
+            Ok(bytes) if bytes == reference => self.equal(query, 1),
+            Ok(_) => self.differs(query, &NONE, calls.len() as i64, format!("the canvas after {calls:?}")),
+            Err(place) => self.differs(query, &NONE, calls.len() as i64, format!("{place}: {calls:?}")),
+        }
     }
 
     /// A W3C box is not in the original. Its rule is held against another wording of it, and its
@@ -275,39 +272,36 @@ impl Report {
         let least = |r: i64| edges.iter().filter(|(s, _)| *s > 0).map(|(s, l)| r * l / s).min().unwrap_or(r);
         let other = if edges.iter().any(|(s, l)| s > l) { f.radii.map(|(a, b)| (least(a), least(b))) } else { f.radii };
         let fits = sums(&confined).iter().all(|(s, l)| s <= l);
-        let text = || format!("confine {}", f.text());
-        self.check("w3c rule", &f, 0, Ok((other, true)), (confined, fits), text);
+        self.check("w3c rule", &f, Ask::Confine, Ok((other, true)), (confined, fits));
 
         // offset by k: the area of a stroke or fill
         let grown = Reference.offset(&f, k);
         let same = Figure { kind: Kind::Crate, ..grown };
         let untouched = attempt(|| Original.confine(&same));
-        self.check("w3c rule", &f, k.abs(), untouched, Some(grown.radii), || format!("offset {} {k}", f.text()));
+        self.check("w3c rule", &f, Ask::Offset(k), untouched, Some(grown.radii));
         if !fully {
             return;
         }
         let a = area(&f, k);
         match attempt(|| Original.rows(&same)) {
-            Err(place) => self.panicked("w3c row", &same, 0, place, || format!("row {} {}", same.text(), same.y + same.h - 1)),
+            Err(place) => self.panicked("w3c row", &same, Ask::Row(same.y + same.h - 1), place),
             Ok(rows) => {
                 let reference: Vec<_> = a.rows().map(|y| (y, a.row(y).unwrap().0, a.row(y).unwrap().1)).collect();
                 if rows == reference {
                     self.equal("w3c row", rows.len() as u64);
                 } else {
-                    self.differs("w3c row", &f, k.abs(), format!("rows {} offset {k}", f.text()));
+                    self.differs("w3c row", &f, k.abs(), format!("{}: rows of what it gives", Ask::Offset(k).line(&f)));
                 }
             }
         }
         if k == 0 {
             let original = attempt(|| Original.points(&same));
-            let text = || format!("points {}", same.text());
-            self.check("w3c points", &same, 0, original, Reference.points(&f), text);
+            self.check("w3c points", &same, Ask::Points, original, Reference.points(&f));
         }
         for (px, py) in [(0, 0), (1, 0), (0, 1), (grown.w - 1, 0), (grown.w - 1, grown.h - 1), (0, grown.h - 1), (grown.w / 3, grown.h / 7)] {
             let (px, py) = (grown.x + px, grown.y + py);
             let original = attempt(|| Original.contains(&same, px, py));
-            let text = || format!("contains {} {px} {py}", same.text());
-            self.check("w3c contains", &same, 0, original, a.contains(px, py), text);
+            self.check("w3c contains", &same, Ask::Contains(px, py), original, a.contains(px, py));
         }
     }
 
@@ -349,38 +343,12 @@ impl Report {
         println!("panics by query, figure and place, with the smallest input met and what it shrinks to:");
         for ((query, kind, place), class) in &self.panics {
             println!("  {query}, {kind}, {place}: {}", class.count);
-            println!("    met {}", class.text);
-            println!("    shrunk {}", shrink(&class.text, place));
+            let (f, ask) = &class.smallest;
+            println!("    met {}", ask.line(f));
+            let shrunk = shrunk(f, ask, place).map_or("(does not fail alone)".to_string(), |(f, ask)| ask.line(&f));
+            println!("    shrunk {shrunk}");
         }
     }
-}
-
-/// Makes single numbers of a query line smaller as long as the original panics at the same place.
-fn shrink(line: &str, place: &str) -> String {
-    let mut words: Vec<String> = line.split(' ').map(|w| w.to_string()).collect();
-    let fails = |words: &[String]| panic_place(&words.join(" ")).as_deref() == Some(place);
-    if !fails(&words) {
-        return format!("(does not fail as a text query) {line}");
-    }
-    let mut again = true;
-    while again {
-        again = false;
-        for i in 0..words.len() {
-            let Ok(v) = words[i].parse::<i64>() else { continue };
-            // towards 0: all of it, a half, a quarter, ... one
-            let mut by = v;
-            while by != 0 {
-                let kept = core::mem::replace(&mut words[i], (v - by).to_string());
-                if fails(&words) {
-                    again = true;
-                    break;
-                }
-                words[i] = kept;
-                by /= 2;
-            }
-        }
-    }
-    words.join(" ")
 }
 
 /// What rust-findings.md says of `contains`.
@@ -661,11 +629,14 @@ impl Script {
 
 // ---- the parts ----
 
-pub fn ellipse(x: i64, y: i64, w: i64, h: i64) -> Figure {
+/// Where there is no figure to be named.
+const NONE: Figure = ellipse(0, 0, 0, 0);
+
+pub const fn ellipse(x: i64, y: i64, w: i64, h: i64) -> Figure {
     Figure { kind: Kind::Ellipse, x, y, w, h, radii: [(0, 0); 4] }
 }
 
-pub fn crate_box(x: i64, y: i64, w: i64, h: i64, radii: [(i64, i64); 4]) -> Figure {
+pub const fn crate_box(x: i64, y: i64, w: i64, h: i64, radii: [(i64, i64); 4]) -> Figure {
     Figure { kind: Kind::Crate, x, y, w, h, radii }
 }
 
@@ -722,15 +693,15 @@ fn all_ellipse_sizes(r: &mut Report) {
             let f = ellipse(-7, 11, w, h);
             let original = attempt(|| Original.first_row(&f).map(|(_, a, b)| (a, b)));
             let foretold = findings::ellipse_rows(w, h);
-            r.forecast("first row of every ellipse size", foretold == original.is_err(), || f.text());
+            let ask = Ask::Row(f.y);
+            r.forecast("first row of every ellipse size", foretold == original.is_err(), || ask.line(&f));
             if original.is_err() {
                 failing += 1;
                 if least.map_or(true, |(a, b)| w + h < a + b) {
                     least = Some((w, h));
                 }
             }
-            let y = f.y;
-            r.check("first row", &f, 0, original, area(&f, 0).row(y), || format!("row {} {y}", f.text()));
+            r.check("first row", &f, ask, original, area(&f, 0).row(f.y));
         }
     }
     println!("ellipse sizes whose first row fails: {failing} of 1050625, smallest w + h: {least:?}");
@@ -745,15 +716,15 @@ fn all_corners(r: &mut Report) {
             let f = crate_box(3, -5, a, b, [(a, b), (0, 0), (0, 0), (0, 0)]);
             let original = attempt(|| Original.first_row(&f).map(|(_, a, b)| (a, b)));
             let foretold = findings::rows(&area(&f, 0));
-            r.forecast("first row of every top-left corner", foretold == original.is_err(), || f.text());
+            let ask = Ask::Row(f.y);
+            r.forecast("first row of every top-left corner", foretold == original.is_err(), || ask.line(&f));
             if original.is_err() {
                 failing += 1;
                 if least.map_or(true, |(c, d)| a + b < c + d) {
                     least = Some((a, b));
                 }
             }
-            let y = f.y;
-            r.check("first row", &f, 0, original, area(&f, 0).row(y), || format!("row {} {y}", f.text()));
+            r.check("first row", &f, ask, original, area(&f, 0).row(f.y));
         }
     }
     println!("top-left corners whose first row fails: {failing} of 1050625, smallest a + b: {least:?}");
@@ -822,12 +793,11 @@ fn random_small(r: &mut Report, rng: &mut Rng, count: u64) {
         r.styled(&f, &s);
         r.w3c(&f, rng.within(-4, 4), true);
         if n % 4 == 1 {
-            // the single row, as the text queries ask for it
+            // the single row, as a host asks for it
             let y = f.y + rng.within(-3, f.h + 3);
-            let text = || format!("row {} {y}", f.text());
-            r.check("row asked", &f, 0, attempt(|| Original.row(&f, y)), Reference.row(&f, y), text);
-            let text = || format!("srow {} {} {} {y}", f.text(), s.width, s.align);
-            r.check("srow asked", &f, 0, attempt(|| Original.srow(&f, &s, y)), Reference.srow(&f, &s, y), text);
+            r.check("row asked", &f, Ask::Row(y), attempt(|| Original.row(&f, y)), Reference.row(&f, y));
+            let original = attempt(|| Original.srow(&f, &s, y));
+            r.check("srow asked", &f, Ask::StyledRow(s, y), original, Reference.srow(&f, &s, y));
         }
         if n % 4 == 0 {
             r.points(&f);
@@ -901,7 +871,6 @@ fn random_radii(r: &mut Report, rng: &mut Rng, count: u64) {
 
 /// Lists of add and paint calls: sheet against book, and the canvas against the original.
 fn scripts(r: &mut Report, rng: &mut Rng, count: u64) {
-    let none = ellipse(0, 0, 0, 0);
     let mut accepted = 0u64;
     let mut refused: BTreeMap<u32, u64> = BTreeMap::new();
     for n in 0..count {
@@ -914,7 +883,7 @@ fn scripts(r: &mut Report, rng: &mut Rng, count: u64) {
         }
         let (w, h, with_w3c, lent) = (script.w, script.h, script.with_w3c, script.lent.clone());
         let compared = |r: &mut Report, calls: &[Call], done: bool| match reference::script(w, h, &lent, calls) {
-            Err(what) => r.differs("script", &none, calls.len() as i64, format!("{what}: {calls:?}")),
+            Err(what) => r.differs("script", &NONE, calls.len() as i64, format!("{what}: {calls:?}")),
             Ok((answers, canvas)) => {
                 r.equal("script", answers.len() as u64 + 1);
                 if with_w3c {
@@ -922,7 +891,7 @@ fn scripts(r: &mut Report, rng: &mut Rng, count: u64) {
                 }
                 // the same list with the original's styled rows
                 let by = attempt(|| reference::book_script(w, h, &lent, calls, &Original).1);
-                r.check("script rows", &none, calls.len() as i64, by, canvas.clone(), || format!("{calls:?}"));
+                r.canvas("script rows", calls, by, &canvas);
                 if done {
                     // finished: the original's `pixels`, figure after figure
                     let mut book = Book::open();
@@ -936,14 +905,14 @@ fn scripts(r: &mut Report, rng: &mut Rng, count: u64) {
                         }
                         bytes
                     });
-                    r.check("script end", &none, calls.len() as i64, by, canvas, || format!("{calls:?}"));
+                    r.canvas("script end", calls, by, &canvas);
                 }
             }
         };
         compared(r, &script.calls, false);
         while let Some(answer) = script.paint_earliest() {
             if answer != 0 {
-                r.differs("script", &none, 0, format!("the earliest gets {answer}: {:?}", script.calls));
+                r.differs("script", &NONE, 0, format!("the earliest gets {answer}: {:?}", script.calls));
                 break;
             }
         }
@@ -952,75 +921,102 @@ fn scripts(r: &mut Report, rng: &mut Rng, count: u64) {
     println!("script calls before the finish: {accepted} accepted, refused by number {refused:?}");
 }
 
-/// The checked drawings of document 01 and the inputs that rust-findings.md names: the query, the
-/// original's answer, the reference's.
-const FIXED: &[(&str, &str, &str)] = &[
+use Said::*;
+
+/// What both sides say to a fixed question; `Panics`: the original does not finish; `Lacks`: it has no such figure.
+pub enum Said {
+    Same(&'static [i32]),
+    Nothing,
+    Panics(&'static [i32]),
+    Lacks(&'static [i32]),
+}
+
+const fn corner(a: i64, b: i64) -> [(i64, i64); 4] {
+    [(a, b), (0, 0), (0, 0), (0, 0)]
+}
+
+const fn unpainted(width: i64, align: i64) -> Style {
+    Style { stroke: None, fill: None, width, align }
+}
+
+/// The checked drawings of document 01 and the inputs that rust-findings.md names.
+#[rustfmt::skip]
+pub const FIXED: &[(Figure, Ask, Said)] = &[
     // b, c, d, e
-    ("row e 0 0 2 7 0", "0 2", "0 2"),
-    ("row e 0 0 2 7 6", "0 2", "0 2"),
-    ("row e 0 0 2 8 0", "none", "none"),
-    ("row e 0 0 2 8 4", "none", "none"),
-    ("row e 0 0 4 31 30", "1 3", "1 3"),
-    ("row e 0 0 4 32 16", "none", "none"),
+    (ellipse(0, 0, 2, 7), Row(0), Same(&[0, 2])),
+    (ellipse(0, 0, 2, 7), Row(6), Same(&[0, 2])),
+    (ellipse(0, 0, 2, 8), Row(0), Nothing),
+    (ellipse(0, 0, 2, 8), Row(4), Nothing),
+    (ellipse(0, 0, 4, 31), Row(30), Same(&[1, 3])),
+    (ellipse(0, 0, 4, 32), Row(16), Nothing),
     // f, g
-    ("confine c 0 0 10 100 9 60 9 60 9 60 9 60", "7 50 7 50 7 50 7 50", "7 50 7 50 7 50 7 50"),
-    ("row c 0 0 10 100 9 60 9 60 9 60 9 60 0", "6 4", "6 4"),
-    ("points c 0 0 10 100 9 60 9 60 9 60 9 60", "0 1", "0 1"),
-    ("confine w 0 0 10 100 9 60 9 60 9 60 9 60", "n/a", "5 33 5 33 5 33 5 33"),
+    (crate_box(0, 0, 10, 100, [(9, 60); 4]), Confine, Same(&[7, 50, 7, 50, 7, 50, 7, 50])),
+    (crate_box(0, 0, 10, 100, [(9, 60); 4]), Row(0), Same(&[6, 4])),
+    (crate_box(0, 0, 10, 100, [(9, 60); 4]), Points, Same(&[])),
+    (Figure { kind: Kind::W3c, ..crate_box(0, 0, 10, 100, [(9, 60); 4]) }, Confine, Lacks(&[5, 33, 5, 33, 5, 33, 5, 33])),
     // h, i
-    ("srow c 0 0 10 40 1 20 1 20 1 20 1 20 0 1 0", "0 1 1 9 9 10", "0 1 1 9 9 10"),
-    ("srow c 0 0 4 10 0 0 0 0 0 0 0 0 2 0 5", "0 0 0 4 4 4", "0 0 0 4 4 4"),
-    ("srow c 0 0 4 10 0 0 0 0 0 0 0 0 2 0 1", "0 4 4 4 4 4", "0 4 4 4 4 4"),
+    (crate_box(0, 0, 10, 40, [(1, 20); 4]), StyledRow(unpainted(0, 1), 0), Same(&[0, 1, 1, 9, 9, 10])),
+    (crate_box(0, 0, 4, 10, corner(0, 0)), StyledRow(unpainted(2, 0), 5), Same(&[0, 0, 0, 4, 4, 4])),
+    (crate_box(0, 0, 4, 10, corner(0, 0)), StyledRow(unpainted(2, 0), 1), Same(&[0, 4, 4, 4, 4, 4])),
     // j
-    ("bbox e 0 0 0 0 2 2", "-1 -1 4 4", "-1 -1 4 4"),
-    ("bbox e 0 0 5 5 2 2", "-2 -2 9 9", "-2 -2 9 9"),
-    ("offset c 0 0 5 5 0 0 0 0 0 0 0 0 2", "-2 -2 9 9 2 2 2 2 2 2 2 2", "-2 -2 9 9 2 2 2 2 2 2 2 2"),
+    (ellipse(0, 0, 0, 0), StyledBox(unpainted(2, 2)), Same(&[-1, -1, 4, 4])),
+    (ellipse(0, 0, 5, 5), StyledBox(unpainted(2, 2)), Same(&[-2, -2, 9, 9])),
+    (crate_box(0, 0, 5, 5, corner(0, 0)), Offset(2), Same(&[1, -2, -2, 9, 9, 2, 2, 2, 2, 2, 2, 2, 2])),
     // k: Center width 1 leaves the stroke area, and takes 1 from each side of the fill area
-    ("bbox e 0 0 5 5 1 1", "0 0 5 5", "0 0 5 5"),
-    ("srow c 0 0 5 5 0 0 0 0 0 0 0 0 1 1 2", "0 1 1 4 4 5", "0 1 1 4 4 5"),
+    (ellipse(0, 0, 5, 5), StyledBox(unpainted(1, 1)), Same(&[0, 0, 5, 5])),
+    (crate_box(0, 0, 5, 5, corner(0, 0)), StyledRow(unpainted(1, 1), 2), Same(&[0, 1, 1, 4, 4, 5])),
     // oval
-    ("paintfull e 0 0 4 4 -1 9 0 1 4 4", "00090900090909090909090900090900", "00090900090909090909090900090900"),
+    (ellipse(0, 0, 4, 4), Paint(Style { fill: Some(9), ..unpainted(0, 1) }, 4, 4), Same(&[0, 9, 9, 0, 9, 9, 9, 9, 9, 9, 9, 9, 0, 9, 9, 0])),
     // rust-findings.md
-    ("row e 0 0 256 257 0", "panic", "117 139"),
-    ("row e 0 0 207 225 0", "panic", "94 113"),
-    ("row e 0 0 215 216 0", "97 118", "97 118"),
-    ("row e 0 0 216 217 0", "panic", "98 118"),
-    ("contains e 0 0 5 6 5464 0", "panic", "0"),
-    ("contains e 0 0 5 6 5463 0", "0", "0"),
-    ("row e 0 0 256 181 0", "115 141", "115 141"),
-    ("row e 0 0 256 182 0", "panic", "115 141"),
-    ("row e 0 0 1024 45 0", "405 619", "405 619"),
-    ("row e 0 0 1024 46 0", "panic", "406 618"),
-    ("contains c 0 0 118 139 118 139 0 0 0 0 0 0 117 138", "panic", "1"),
-    ("row c 0 0 104 112 104 112 0 0 0 0 0 0 0", "panic", "94 104"),
-    ("row c 0 0 122 136 1 136 0 0 0 0 0 0 0", "panic", "0 122"),
-    ("srow c 21 21 256 251 914 914 0 0 1021 1024 0 0 12 2 100", "panic", "61 74 74 264 264 274"),
+    (ellipse(0, 0, 256, 257), Row(0), Panics(&[117, 139])),
+    (ellipse(0, 0, 207, 225), Row(0), Panics(&[94, 113])),
+    (ellipse(0, 0, 215, 216), Row(0), Same(&[97, 118])),
+    (ellipse(0, 0, 216, 217), Row(0), Panics(&[98, 118])),
+    (ellipse(0, 0, 5, 6), Contains(5464, 0), Panics(&[0])),
+    (ellipse(0, 0, 5, 6), Contains(5463, 0), Same(&[0])),
+    (ellipse(0, 0, 256, 181), Row(0), Same(&[115, 141])),
+    (ellipse(0, 0, 256, 182), Row(0), Panics(&[115, 141])),
+    (ellipse(0, 0, 1024, 45), Row(0), Same(&[405, 619])),
+    (ellipse(0, 0, 1024, 46), Row(0), Panics(&[406, 618])),
+    (crate_box(0, 0, 118, 139, corner(118, 139)), Contains(117, 138), Panics(&[1])),
+    (crate_box(0, 0, 104, 112, corner(104, 112)), Row(0), Panics(&[94, 104])),
+    (crate_box(0, 0, 122, 136, corner(1, 136)), Row(0), Panics(&[0, 122])),
+    (crate_box(21, 21, 256, 251, [(914, 914), (0, 0), (1021, 1024), (0, 0)]), StyledRow(unpainted(12, 2), 100), Panics(&[61, 74, 74, 264, 264, 274])),
     // a box without columns has none to test, though its corner is (105, 120)
-    ("confine c 0 0 0 120 903 1024 0 0 0 0 0 0", "105 120 0 0 0 0 0 0", "105 120 0 0 0 0 0 0"),
-    ("row c 0 0 0 120 903 1024 0 0 0 0 0 0 0", "0 0", "0 0"),
+    (crate_box(0, 0, 0, 120, corner(903, 1024)), Confine, Same(&[105, 120, 0, 0, 0, 0, 0, 0])),
+    (crate_box(0, 0, 0, 120, corner(903, 1024)), Row(0), Same(&[0, 0])),
+];
+
+/// Boxes whose rows the sentence on box rows foretells a panic for, and there is none: no column, no row.
+pub const NOTHING_TO_TEST: [Figure; 2] = [
+    crate_box(0, 0, 0, 120, corner(903, 1024)),
+    crate_box(0, 0, 154, 0, [(4, 793), (1006, 0), (154, 0), (0, 0)]),
 ];
 
 fn fixed(r: &mut Report) {
-    let none = ellipse(0, 0, 0, 0);
-    for (line, original, reference) in FIXED {
-        for (side, wanted, name) in [(Side::Original, original, "original"), (Side::Reference, reference, "reference")] {
-            let got = reply(line, side);
-            if got == **wanted {
+    for (f, ask, said) in FIXED {
+        let (by_original, reference) = match said {
+            Same(values) => (true, Some(values.to_vec())),
+            Nothing => (true, None),
+            Panics(values) | Lacks(values) => (false, Some(values.to_vec())),
+        };
+        let original = attempt(|| ask.of(f, &Original));
+        let as_said = if by_original { original.as_ref() == Ok(&reference) } else { original.is_err() };
+        for (side, right) in [("original", as_said), ("reference", ask.of(f, &Reference) == reference)] {
+            if right {
                 r.equal("fixed", 1);
             } else {
-                r.differs("fixed", &none, 0, format!("{line}: {name} {got}, wanted {wanted}"));
+                r.differs("fixed", f, 0, format!("{}: the {side} says something else", ask.line(f)));
             }
         }
     }
-    // where the sentence on box rows foretells a panic and there is none: no column, no row
-    r.rows(&crate_box(0, 0, 0, 120, [(903, 1024), (0, 0), (0, 0), (0, 0)]));
-    r.rows(&crate_box(0, 0, 154, 0, [(4, 793), (1006, 0), (154, 0), (0, 0)]));
+    NOTHING_TO_TEST.iter().for_each(|f| r.rows(f));
     // a
     for (w, t) in [0, 1, 3, 8, 14, 25].into_iter().enumerate() {
         if reference::threshold(w as i64) == t {
             r.equal("fixed", 1);
         } else {
-            r.differs("fixed", &none, 0, format!("case a, side {w}"));
+            r.differs("fixed", &NONE, 0, format!("case a, side {w}"));
         }
     }
 }

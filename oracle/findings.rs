@@ -1,7 +1,7 @@
 //! The sentences of docs/rust-findings.md about where the Rust does not finish, as predicates, so
 //! that the comparison can hold each of them against what the original really does.
 
-use crate::{query::Kind, reference::Area};
+use crate::{records::Kind, reference::Area};
 
 const T: i64 = 1 << 32;
 

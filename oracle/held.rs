@@ -3,17 +3,23 @@
 //! ORIGINAL where it finishes, else by the reference, which also has what the original lacks (W3C boxes,
 //! sheets, lists of calls, P5). Answers, values and every number and byte of every buffer are compared, with
 //! some right behind the part that is lent for values; after a refusal none may differ. The first difference is printed
-//! whole and ends the program with status 1.
+//! whole, with the call as a line that `replay` reads, and ends the program with status 1.
 
 use crate::{
+    asked::Ask::{self, *},
     compare::Report,
+    lines::{
+        self,
+        Argument::{self, Bytes, Number, Numbers},
+    },
     numbers::{
         figure_numbers, given_figure, opened, place_of, radii_numbers, read_calls, read_figure, read_sheet, read_style,
         style_numbers,
     },
     original::Original,
-    query::{attempt, first_lent, lowest, Answers, Figure, Kind, Style},
+    records::{attempt, first_lent, lowest, Answers, Figure, Kind, Style},
     reference::{self, asked_refusal, canvas_refusal, figure_refusal, offset_refusal, style_refusal, Reference, Sheet},
+    stored::Chosen,
     wunqaber::{self as library, CALL_LENGTH, FIGURE_LENGTH, NOTHING, NO_RECORD, SHEET_LENGTH},
 };
 use std::{collections::BTreeMap, fmt::Debug, process::exit};
@@ -42,10 +48,15 @@ pub struct Held {
     refused: BTreeMap<u32, u64>,
     /// where the original does not finish
     panics: Report,
+    /// calls for `replay`, if any are to be stored
+    pub chosen: Option<Chosen>,
 }
 
 /// Stands in a buffer before a call; nothing writes it.
-const MARK: i32 = 0x5a5a_5a5a;
+pub const MARK: i32 = 0x5a5a_5a5a;
+pub const BYTE_MARK: u8 = 0x5a;
+/// A buffer for values, as it is lent.
+pub const LENT: [i32; 24] = [MARK; 24];
 
 fn too_short(needed: usize, room: usize) -> Option<u32> {
     (room < needed).then_some(library::BUFFER_LENGTH)
@@ -56,7 +67,24 @@ fn wrong_length(w: u32, h: u32, length: usize) -> Option<u32> {
 }
 
 impl Held {
-    /// Answer and buffers of one call, as they must be and as they are.
+    /// A call: its answer and buffers, as they must be and as they are. `asked` has its arguments, and `after` what its
+    /// lists must hold then.
+    fn call<'a, B: PartialEq + Debug>(
+        &mut self,
+        call: &'static str,
+        by: Result<By, u32>,
+        wanted: B,
+        found: (u32, B),
+        asked: impl Fn() -> Vec<Argument<'a>>,
+        after: impl Fn() -> Vec<Argument<'a>>,
+    ) {
+        self.hold(call, by, wanted, found, || lines::query(call, &asked()));
+        if let Some(chosen) = &mut self.chosen {
+            chosen.offer(call, by, &asked(), &after());
+        }
+    }
+
+    /// Answer and buffers, as they must be and as they are.
     pub fn hold<B: PartialEq + Debug>(
         &mut self,
         call: &'static str,
@@ -67,7 +95,7 @@ impl Held {
     ) {
         let number = by.err().unwrap_or(library::DONE);
         if found.0 != number || found.1 != wanted {
-            println!("DIFFERENT {call}: {}", asked());
+            println!("DIFFERENT: {}", asked());
             let expected = format!("answer {number}, buffers {wanted:?}");
             let found = format!("answer {}, buffers {:?}", found.0, found.1);
             println!("expected: {expected}");
@@ -96,36 +124,27 @@ impl Held {
         room: usize,
         wanted: Wanted<V>,
         make: impl FnOnce(&mut [i32]) -> u32,
-        asked: impl Fn() -> String,
+        given: &[Argument],
     ) {
-        let mut out = [MARK; 24];
+        let mut out = LENT;
         let answer = make(&mut out[..room]);
-        let mut all = [MARK; 24];
-        let wanted = wanted.and_then(|(values, by)| {
-            refused_or(&[too_short(values.as_ref().len(), room)])?;
-            Ok((values, by))
-        });
-        if let Ok((values, _)) = &wanted {
-            all[..values.as_ref().len()].copy_from_slice(values.as_ref());
-        }
-        let by = wanted.map(|(_, by)| by);
-        self.hold(call, by, all, (answer, out), || format!("{call} {}, out of {room}", asked()));
+        let (by, all) = given_room(wanted, room);
+        let with = |out| [given, &[Numbers(out)]].concat();
+        self.call(call, by, &all, (answer, &out), || with(&LENT[..room]), || with(&all[..room]));
     }
 
     /// The original's value if it has one, else the reference's.
     pub fn by<T>(
         &mut self,
-        query: &'static str,
         f: &Figure,
-        extra: i64,
+        ask: Ask,
         original: impl FnOnce() -> T,
         reference: impl FnOnce() -> T,
-        text: impl Fn() -> String,
     ) -> (T, By) {
         if f.kind != Kind::W3c {
             match attempt(original) {
                 Ok(value) => return (value, By::Original),
-                Err(place) => self.panics.panicked(query, f, extra, place, text),
+                Err(place) => self.panics.panicked(ask.name(), f, ask, place),
             }
         }
         (reference(), By::Reference)
@@ -137,25 +156,23 @@ impl Held {
         let (px, py) = (x as i64, y as i64);
         let wanted = read_figure(n).ok_or(NO_RECORD).and_then(|f| {
             refused_or(&[figure_refusal(&f), asked_refusal(px), asked_refusal(py)])?;
-            let text = || format!("contains {} {px} {py}", f.text());
-            let extra = px.abs() + py.abs();
             let original = || Original.contains(&f, px, py);
-            let (inside, by) = self.by("contains", &f, extra, original, || Reference.contains(&f, px, py), text);
+            let (inside, by) = self.by(&f, Contains(px, py), original, || Reference.contains(&f, px, py));
             Ok(([inside as i32], by))
         });
-        self.values("contains", room, wanted, |out| library::contains(n, x, y, out), || format!("{n:?} {x} {y}"));
+        let asked = [Numbers(n), Number(px), Number(py)];
+        self.values("contains", room, wanted, |out| library::contains(n, x, y, out), &asked);
     }
 
     pub fn row(&mut self, n: &[i32], y: i32, room: usize) {
+        let at = y as i64;
         let wanted = read_figure(n).ok_or(NO_RECORD).and_then(|f| {
-            refused_or(&[figure_refusal(&f), asked_refusal(y as i64)])?;
-            let text = || format!("row {} {y}", f.text());
-            let original = || Original.row(&f, y as i64);
-            let (run, by) = self.by("row", &f, 0, original, || Reference.row(&f, y as i64), text);
+            refused_or(&[figure_refusal(&f), asked_refusal(at)])?;
+            let (run, by) = self.by(&f, Row(at), || Original.row(&f, at), || Reference.row(&f, at));
             let (start, end) = run.ok_or(NOTHING)?;
             Ok(([start as i32, end as i32], by))
         });
-        self.values("row", room, wanted, |out| library::row(n, y, out), || format!("{n:?} {y}"));
+        self.values("row", room, wanted, |out| library::row(n, y, out), &[Numbers(n), Number(at)]);
     }
 
     /// A list so much longer than the pairs, or shorter.
@@ -164,8 +181,7 @@ impl Held {
         let mut length = spare.max(0) as usize;
         let by = read_figure(n).ok_or(NO_RECORD).and_then(|f| {
             refused_or(&[figure_refusal(&f)])?;
-            let text = || format!("points {}", f.text());
-            let (list, by) = self.by("points", &f, 0, || Original.points(&f), || Reference.points(&f), text);
+            let (list, by) = self.by(&f, Points, || Original.points(&f), || Reference.points(&f));
             length = (list.len() as i64 + spare).max(0) as usize;
             refused_or(&[too_short(list.len(), length), too_short(1, room)])?;
             pairs = list;
@@ -173,109 +189,108 @@ impl Held {
         });
         let mut list = vec![MARK; length + 4];
         let mut out = [MARK; 4];
-        let mut all = vec![MARK; length + 4];
-        let mut count = [MARK; 4];
+        let lent = list.clone();
+        let (mut all, mut count) = (list.clone(), out);
         let answer = library::points(n, &mut list[..length], &mut out[..room]);
         if by.is_ok() {
             all[..pairs.len()].copy_from_slice(&pairs);
             count[0] = pairs.len() as i32 / 2;
         }
-        let asked = || format!("{n:?}, list of {length}, out of {room}");
-        self.hold("points", by, (all, count), (answer, (list, out)), asked);
+        let asked = || vec![Numbers(n), Numbers(&lent[..length]), Numbers(&LENT[..room])];
+        let after = || vec![Numbers(n), Numbers(&all[..length]), Numbers(&count[..room])];
+        self.call("points", by, (&all, count), (answer, (&list, out)), asked, after);
     }
 
     pub fn offset(&mut self, n: &[i32], k: i32, room: usize) {
+        let by_k = k as i64;
         let wanted = read_figure(n).ok_or(NO_RECORD).and_then(|f| {
-            refused_or(&[figure_refusal(&f), offset_refusal(k as i64)])?;
-            let text = || format!("offset {} {k}", f.text());
-            let original = || Original.offset(&f, k as i64);
-            let (figure, by) = self.by("offset", &f, 0, original, || Reference.offset(&f, k as i64), text);
+            refused_or(&[figure_refusal(&f), offset_refusal(by_k)])?;
+            let original = || Original.offset(&f, by_k);
+            let (figure, by) = self.by(&f, Offset(by_k), original, || Reference.offset(&f, by_k));
             Ok((given_figure(&figure), by))
         });
-        self.values("offset", room, wanted, |out| library::offset(n, k, out), || format!("{n:?} {k}"));
+        self.values("offset", room, wanted, |out| library::offset(n, k, out), &[Numbers(n), Number(by_k)]);
     }
 
     pub fn confined_radii(&mut self, n: &[i32], room: usize) {
         let wanted = read_figure(n).ok_or(NO_RECORD).and_then(|f| {
             refused_or(&[figure_refusal(&f)])?;
-            let text = || format!("confine {}", f.text());
-            let (radii, by) = self.by("confine", &f, 0, || Original.confine(&f), || Reference.confine(&f), text);
+            let (radii, by) = self.by(&f, Confine, || Original.confine(&f), || Reference.confine(&f));
             Ok((radii_numbers(&radii.ok_or(NOTHING)?), by))
         });
-        self.values("confined_radii", room, wanted, |out| library::confined_radii(n, out), || format!("{n:?}"));
+        self.values("confined_radii", room, wanted, |out| library::confined_radii(n, out), &[Numbers(n)]);
     }
 
     pub fn ellipse_with_center(&mut self, x: i32, y: i32, width: u32, height: u32, room: usize) {
         let (cx, cy, w, h) = (x as i64, y as i64, width as i64, height as i64);
         let f = reference::with_center(cx, cy, w, h);
-        let wanted = refused_or(&[figure_refusal(&f)]).map(|()| {
-            let text = || format!("with_center {cx} {cy} {w} {h}");
-            let (f, by) = self.by("with_center", &f, 0, || Original.with_center(cx, cy, w, h), || f, text);
-            (given_figure(&f), by)
-        });
+        let wanted = refused_or(&[figure_refusal(&f)])
+            .map(|()| (given_figure(&Original.with_center(cx, cy, w, h)), By::Original));
         let make = |out: &mut [i32]| library::ellipse_with_center(x, y, width, height, out);
-        self.values("ellipse_with_center", room, wanted, make, || format!("{x} {y} {width} {height}"));
+        self.values("ellipse_with_center", room, wanted, make, &[cx, cy, w, h].map(Number));
     }
 
     pub fn styled_row(&mut self, n: &[i32], s: &[i32], y: i32, room: usize) {
+        let at = y as i64;
         let wanted = read_figure(n).zip(read_style(s)).ok_or(NO_RECORD).and_then(|(f, s)| {
-            refused_or(&[figure_refusal(&f), asked_refusal(y as i64), style_refusal(&s)])?;
-            let text = || format!("srow {} {} {} {y}", f.text(), s.width, s.align);
-            let original = || Original.srow(&f, &s, y as i64);
-            let (runs, by) = self.by("srow", &f, s.width, original, || Reference.srow(&f, &s, y as i64), text);
+            refused_or(&[figure_refusal(&f), asked_refusal(at), style_refusal(&s)])?;
+            let original = || Original.srow(&f, &s, at);
+            let (runs, by) = self.by(&f, StyledRow(s, at), original, || Reference.srow(&f, &s, at));
             Ok((runs.ok_or(NOTHING)?.map(|v| v as i32), by))
         });
         let make = |out: &mut [i32]| library::styled_row(n, s, y, out);
-        self.values("styled_row", room, wanted, make, || format!("{n:?} {s:?} {y}"));
+        self.values("styled_row", room, wanted, make, &[Numbers(n), Numbers(s), Number(at)]);
     }
 
     pub fn styled_bounding_box(&mut self, n: &[i32], s: &[i32], room: usize) {
         let wanted = read_figure(n).zip(read_style(s)).ok_or(NO_RECORD).and_then(|(f, s)| {
             refused_or(&[figure_refusal(&f), style_refusal(&s)])?;
-            let text = || format!("bbox {} {} {}", f.text(), s.width, s.align);
             let original = || Original.bbox(&f, &s);
-            let ((x, y, w, h), by) = self.by("bbox", &f, s.width, original, || Reference.bbox(&f, &s), text);
+            let ((x, y, w, h), by) = self.by(&f, StyledBox(s), original, || Reference.bbox(&f, &s));
             Ok(([x, y, w, h].map(|v| v as i32), by))
         });
         let make = |out: &mut [i32]| library::styled_bounding_box(n, s, out);
-        self.values("styled_bounding_box", room, wanted, make, || format!("{n:?} {s:?}"));
+        self.values("styled_bounding_box", room, wanted, make, &[Numbers(n), Numbers(s)]);
     }
 
     pub fn paint_figure(&mut self, n: &[i32], s: &[i32], width: u32, height: u32, length: usize) {
-        let (w, h) = (width as i64, height as i64);
-        let lent = first_lent(length as i64 + 8, 1, Some(101));
-        let mut all = lent.clone();
+        self.paint_on(n, s, width, height, &first_lent(length as i64 + 8, 1, Some(101)));
+    }
+
+    /// On a canvas that is lent without its last 8 bytes.
+    pub fn paint_on(&mut self, n: &[i32], s: &[i32], width: u32, height: u32, lent: &[u8]) {
+        let (w, h, length) = (width as i64, height as i64, lent.len() - 8);
+        let mut all = lent.to_vec();
         let by = read_figure(n).zip(read_style(s)).ok_or(NO_RECORD).and_then(|(f, s)| {
             let lent_refusals = [canvas_refusal(w, h), wrong_length(width, height, length)];
             refused_or(&[figure_refusal(&f), style_refusal(&s), lowest(&lent_refusals)])?;
-            let [stroke, fill, ..] = style_numbers(&s);
-            let text = || format!("paint {} {stroke} {fill} {} {} {w} {h}", f.text(), s.width, s.align);
             let on = |by: &dyn Answers| {
-                let mut bytes = lent.clone();
+                let mut bytes = lent.to_vec();
                 by.paint(&f, &s, w, h, &mut bytes[..length]);
                 bytes
             };
-            let (bytes, by) = self.by("paint", &f, s.width, || on(&Original), || on(&Reference), text);
+            let (bytes, by) = self.by(&f, Paint(s, w, h), || on(&Original), || on(&Reference));
             all = bytes;
             Ok(by)
         });
-        let mut canvas = lent;
+        let mut canvas = lent.to_vec();
         let answer = library::paint_figure(n, s, width, height, &mut canvas[..length]);
-        let asked = || format!("{n:?} {s:?} {width} {height}, canvas of {length} (byte i is 101 + 37 i)");
-        self.hold("paint_figure", by, all, (answer, canvas), asked);
+        let asked = || vec![Numbers(n), Numbers(s), Number(w), Number(h), Bytes(&lent[..length])];
+        self.call("paint_figure", by, &all, (answer, &canvas), asked, || vec![Numbers(n), Numbers(s), Bytes(&all[..length])]);
     }
 
     /// A sheet opened in so many numbers, as the call left them.
     pub fn sheet_open(&mut self, width: u32, height: u32, length: usize) -> Vec<i32> {
         let by = refused_or(&[canvas_refusal(width as i64, height as i64), too_short(SHEET_LENGTH, length)]);
         let mut sheet = vec![MARK; length + 4];
-        let mut all = sheet.clone();
+        let (lent, mut all) = (sheet.clone(), sheet.clone());
         let answer = library::sheet_open(width, height, &mut sheet[..length]);
         if by.is_ok() {
             all[..SHEET_LENGTH].copy_from_slice(&opened(width, height));
         }
-        let asked = || format!("{width} {height}, sheet of {length}");
-        self.hold("sheet_open", by.map(|()| By::Reference), &all, (answer, &sheet), asked);
+        let by = by.map(|()| By::Reference);
+        let asked = || vec![Number(width as i64), Number(height as i64), Numbers(&lent[..length])];
+        self.call("sheet_open", by, &all, (answer, &sheet), asked, || vec![Numbers(&all[..length])]);
         sheet.truncate(length);
         sheet
     }
@@ -303,7 +318,8 @@ impl Held {
             Ok(By::Reference)
         });
         let answer = library::sheet_add(sheet, n, s);
-        self.hold("sheet_add", by, &all[..], (answer, &sheet[..]), || format!("{before:?} {n:?} {s:?}"));
+        let asked = || vec![Numbers(&before), Numbers(n), Numbers(s)];
+        self.call("sheet_add", by, &all[..], (answer, &sheet[..]), asked, || vec![Numbers(&all), Numbers(n), Numbers(s)]);
         answer
     }
 
@@ -321,8 +337,9 @@ impl Held {
             Ok(By::Reference)
         });
         let answer = library::sheet_paint(sheet, layer, canvas);
-        let asked = || format!("{before:?} {layer} {lent:?}");
-        self.hold("sheet_paint", by, (&all[..], &bytes[..]), (answer, (&sheet[..], &canvas[..])), asked);
+        let asked = || vec![Numbers(&before), Number(layer as i64), Bytes(&lent)];
+        let after = || vec![Numbers(&all), Bytes(&bytes)];
+        self.call("sheet_paint", by, (&all[..], &bytes[..]), (answer, (&sheet[..], &canvas[..])), asked, after);
         answer
     }
 
@@ -340,8 +357,10 @@ impl Held {
             By::Reference
         });
         let answer = library::run_calls(width, height, n, &mut canvas, &mut answers[..room]);
-        let asked = || format!("{width} {height} {n:?} {lent:?}, answers of {room}");
-        self.hold("run_calls", by, (bytes, all), (answer, (canvas, answers)), asked);
+        let [marks, all, answers] = [vec![MARK as u32; room], all, answers].map(as_signed);
+        let asked = || vec![Number(w), Number(h), Numbers(n), Bytes(lent), Numbers(&marks)];
+        let after = || vec![Numbers(n), Numbers(&all[..room]), Bytes(&bytes)];
+        self.call("run_calls", by, (&bytes, &all), (answer, (&canvas, &answers)), asked, after);
     }
 
     /// A buffer so much longer than the file, or shorter.
@@ -355,16 +374,19 @@ impl Held {
             too_short(file.len(), length),
             too_short(1, room),
         ]);
-        let mut buffer = vec![0x5a; length + 4];
+        let mut buffer = vec![BYTE_MARK; length + 4];
         let mut out = [MARK; 4];
+        let lent = buffer.clone();
         let (mut all, mut count) = (buffer.clone(), out);
         let answer = library::write_p5(width, height, canvas, &mut buffer[..length], &mut out[..room]);
         if by.is_ok() {
             all[..file.len()].copy_from_slice(&file);
             count[0] = file.len() as i32;
         }
-        let asked = || format!("{width} {height} {canvas:?}, file of {length}, out of {room}");
-        self.hold("write_p5", by.map(|()| By::Reference), (all, count), (answer, (buffer, out)), asked);
+        let (w, h) = (Number(width as i64), Number(height as i64));
+        let asked = || vec![w, h, Bytes(canvas), Bytes(&lent[..length]), Numbers(&LENT[..room])];
+        let after = || vec![Numbers(&count[..room]), Bytes(canvas), Bytes(&all[..length])];
+        self.call("write_p5", by.map(|()| By::Reference), (&all, count), (answer, (&buffer, out)), asked, after);
     }
 
     // ---- what is printed ----
@@ -392,7 +414,23 @@ impl Held {
     }
 }
 
+fn as_signed(list: Vec<u32>) -> Vec<i32> {
+    list.into_iter().map(|v| v as i32).collect()
+}
+
+/// What must be answered by a call that gives numbers, and the whole buffer then, where so many numbers of it are lent.
+pub fn given_room<V: AsRef<[i32]>>(wanted: Wanted<V>, room: usize) -> (Result<By, u32>, [i32; 24]) {
+    let mut all = LENT;
+    let by = wanted.and_then(|(values, by)| {
+        let values = values.as_ref();
+        refused_or(&[too_short(values.len(), room)])?;
+        all[..values.len()].copy_from_slice(values);
+        Ok(by)
+    });
+    (by, all)
+}
+
 /// Refused by the lowest, or not.
-fn refused_or(refusals: &[Option<u32>]) -> Result<(), u32> {
+pub fn refused_or(refusals: &[Option<u32>]) -> Result<(), u32> {
     lowest(refusals).map_or(Ok(()), Err)
 }

@@ -1,7 +1,7 @@
 //! Records as the numbers that the library takes (include/wunqaber.h), and numbers read as records.
 
 use crate::{
-    query::{Figure, Kind, Style},
+    records::{Figure, Kind, Style},
     reference::Call,
     wunqaber::{
         ABSENT, CALL_LENGTH, CRATE_BOX, ELLIPSE, FIGURE_LENGTH, LAYER_LENGTH, SHEET_LENGTH, STYLE_LENGTH, W3C_BOX,

@@ -1,4 +1,4 @@
-//! The queries, answered by the ORIGINAL source. Nothing is computed here: numbers are turned into
+//! The calls, answered by the ORIGINAL source. Nothing is computed here: numbers are turned into
 //! the original's own types, the original is called, and what it gives is turned into numbers.
 
 use crate::{
@@ -9,7 +9,7 @@ use crate::{
         ContainsPoint, CornerRadii, Ellipse, OffsetOutline, PointsIter, PrimitiveStyle,
         PrimitiveStyleBuilder, Rectangle, RoundedRectangle, StrokeAlignment,
     },
-    query::{Answers, Figure, Kind, Style},
+    records::{Answers, Figure, Kind, Plain, Style},
 };
 
 /// A colour byte.
@@ -236,6 +236,32 @@ impl Original {
 }
 
 impl Answers for Original {
+    /// The stand-in's `Rectangle` with the original's `offset`, the original's widths, and the `Range` of Rust.
+    fn plain(&self, call: &Plain) -> Vec<i64> {
+        let made = |[x, y, w, h]: [i64; 4]| (Point::new(signed(x), signed(y)), Size::new(length(w), length(h)));
+        let given = |r: [i64; 4]| Rectangle::new(made(r).0, made(r).1);
+        let sides = |r: &Rectangle| {
+            let (x, y, w, h) = rectangle(r);
+            vec![x, y, w, h]
+        };
+        let ends = |r: core::ops::Range<i32>| vec![r.start as i64, r.end as i64];
+        match *call {
+            Plain::Center(r) => vec![given(r).center().x as i64, given(r).center().y as i64],
+            Plain::WithCenter(r) => sides(&Rectangle::with_center(made(r).0, made(r).1)),
+            Plain::Rows(r) => ends(given(r).rows()),
+            Plain::Columns(r) => ends(given(r).columns()),
+            Plain::Offset(r, k) => sides(&OffsetOutline::offset(&given(r), signed(k))),
+            Plain::Range(start, end, v) => {
+                let range = signed(start)..signed(end);
+                vec![range.contains(&signed(v)) as i64, range.is_empty() as i64]
+            }
+            Plain::Widths(width, align) => {
+                let s = style(&Style { stroke: None, fill: None, width, align });
+                vec![s.outside_stroke_width() as i64, s.inside_stroke_width() as i64]
+            }
+        }
+    }
+
     fn contains(&self, f: &Figure, px: i64, py: i64) -> bool {
         let p = Point::new(signed(px), signed(py));
         match shape(f) {

@@ -2,7 +2,7 @@
 //! has overflow checks on as well). Written from the paper, not from the Rust. Sentences of the
 //! paper are quoted at the code that says them.
 
-use crate::query::{Answers, Figure, Kind, Style};
+use crate::records::{Answers, Figure, Kind, Plain, Style};
 
 /// "The records": limits and the numbers that refuse.
 pub const MAX_SIDE: i64 = 1024;
@@ -50,6 +50,18 @@ pub fn offset_refusal(k: i64) -> Option<u32> {
 /// Number 6: "W or H outside 1..1024".
 pub fn canvas_refusal(w: i64, h: i64) -> Option<u32> {
     (!(1..=1024).contains(&w) || !(1..=1024).contains(&h)).then_some(6)
+}
+
+/// The lowest number that applies to a call that C does not have; that of `with_center` goes by what is made.
+pub fn plain_refusal(call: &Plain) -> Option<u32> {
+    let of = |[x, y, w, h]: [i64; 4]| figure_refusal(&Figure { kind: Kind::Ellipse, x, y, w, h, radii: [(0, 0); 4] });
+    match *call {
+        Plain::Center(r) | Plain::Rows(r) | Plain::Columns(r) => of(r),
+        Plain::WithCenter([cx, cy, w, h]) => figure_refusal(&with_center(cx, cy, w, h)),
+        Plain::Offset(r, k) => of(r).or(offset_refusal(k)),
+        Plain::Range(..) => None,
+        Plain::Widths(width, align) => style_refusal(&Style { stroke: None, fill: None, width, align }),
+    }
 }
 
 #[derive(Clone, Copy, PartialEq, Eq, Debug)]
@@ -421,6 +433,24 @@ fn overpaint_at(bytes: &mut [u8], w: i64, h: i64, y: i64, runs: &[i64; 6], s: &S
 pub struct Reference;
 
 impl Answers for Reference {
+    fn plain(&self, call: &Plain) -> Vec<i64> {
+        let sides = |r: Rect| vec![r.x, r.y, r.w, r.h];
+        match *call {
+            // "the centre is top-left plus floor(max(side − 1, 0) / 2) per axis"
+            Plain::Center([x, y, w, h]) => vec![x + centre_term(w), y + centre_term(h)],
+            Plain::WithCenter([cx, cy, w, h]) => sides(rect_of(&with_center(cx, cy, w, h))),
+            // "rows are y..y + height, columns x..x + width, also when the other side is 0"
+            Plain::Rows([_, y, _, h]) => vec![y, y + h],
+            Plain::Columns([x, _, w, _]) => vec![x, x + w],
+            Plain::Offset([x, y, w, h], k) => sides(offset_rect(Rect { x, y, w, h }, k)),
+            Plain::Range(start, end, v) => vec![(start <= v && v < end) as i64, (start >= end) as i64],
+            Plain::Widths(width, align) => {
+                let s = Style { stroke: None, fill: None, width, align };
+                vec![outside_width(&s), inside_width(&s)]
+            }
+        }
+    }
+
     fn contains(&self, f: &Figure, px: i64, py: i64) -> bool {
         area(f, 0).contains(px, py)
     }

@@ -4,12 +4,17 @@
 //! round is begun.
 
 use crate::{
+    asked::Ask,
     compare::{self, crate_box, ellipse, painted, styles, Rng, Script},
     findings,
     held::{By, Held},
+    lines::{
+        numbers,
+        Argument::{Number, Numbers},
+    },
     numbers::{call_numbers, figure_numbers, opened, place_of, style_numbers},
     original::Original,
-    query::{first_lent, Answers, Figure, Kind, Style},
+    records::{first_lent, Answers, Figure, Kind, Style},
     reference::{self, area, stroke_area, Book, Call, Reference},
     wunqaber::{self as library, FIGURE_LENGTH, NOTHING, SHEET_LENGTH},
 };
@@ -23,12 +28,11 @@ impl Held {
         let n = figure_numbers(f);
         let a = area(f, 0);
         let reference = || a.rows().map(|y| a.row(y).map(|(start, end)| (y, start, end)).unwrap()).collect();
-        let text = || format!("row {} {}", f.text(), f.y + f.h - 1);
-        let (rows, by): (Vec<_>, By) = self.by("row", f, 0, || Original.rows(f), reference, text);
+        let (rows, by): (Vec<_>, By) = self.by(f, Ask::Row(f.y + f.h - 1), || Original.rows(f), reference);
         for y in f.y - 1..=f.y + f.h {
             let row = rows.get((y - f.y) as usize).filter(|_| y >= f.y);
             let wanted = row.map(|(_, start, end)| ([*start as i32, *end as i32], by)).ok_or(NOTHING);
-            self.values("row", 3, wanted, |out| library::row(&n, y as i32, out), || format!("{n:?} {y}"));
+            self.values("row", 3, wanted, |out| library::row(&n, y as i32, out), &[Numbers(&n), Number(y)]);
         }
     }
 
@@ -52,19 +56,19 @@ impl Held {
             let runs = |y| reference::styled_row(&stroke, &fill, y).map(|runs| (y, runs)).unwrap();
             stroke.rows().map(runs).collect()
         };
-        let text = || format!("srow {} {} {} {}", f.text(), s.width, s.align, bottom - 1);
-        let (rows, by): (Vec<_>, By) = self.by("srow", f, s.width, || Original.srows(f, s), reference, text);
+        let last = Ask::StyledRow(*s, bottom - 1);
+        let (rows, by): (Vec<_>, By) = self.by(f, last, || Original.srows(f, s), reference);
         for y in top - 1..=bottom {
             let row = rows.get((y - top) as usize).filter(|_| y >= top);
             let wanted = row.map(|(_, runs)| (runs.map(|v| v as i32), by)).ok_or(NOTHING);
             let make = |out: &mut [i32]| library::styled_row(&n, &sn, y as i32, out);
-            self.values("styled_row", 7, wanted, make, || format!("{n:?} {sn:?} {y}"));
+            self.values("styled_row", 7, wanted, make, &[Numbers(&n), Numbers(&sn), Number(y)]);
         }
     }
 
     /// The first row. The original is not asked where it is known to fail (findings.rs, which `compare`
     /// holds against it for every one of these figures).
-    fn first_row(&mut self, f: &Figure) {
+    pub fn first_row(&mut self, f: &Figure) {
         let n = figure_numbers(f);
         let a = area(f, 0);
         let (row, by) = match findings::rows(&a) {
@@ -72,7 +76,7 @@ impl Held {
             false => (Original.first_row(f).map(|(_, start, end)| (start, end)), By::Original),
         };
         let wanted = row.map(|(start, end)| ([start as i32, end as i32], by)).ok_or(NOTHING);
-        self.values("row", 2, wanted, |out| library::row(&n, f.y as i32, out), || format!("{n:?} {}", f.y));
+        self.values("row", 2, wanted, |out| library::row(&n, f.y as i32, out), &[Numbers(&n), Number(f.y)]);
     }
 
     fn paint(&mut self, f: &Figure, s: &Style, w: i64, h: i64) {
@@ -81,7 +85,7 @@ impl Held {
 
     /// All that is asked of a small figure: rows, tests, points, radii, every offset −8..8, every style,
     /// paints.
-    fn small_figure(&mut self, f: &Figure) {
+    pub fn small_figure(&mut self, f: &Figure) {
         let n = figure_numbers(f);
         self.rows(f);
         self.contains_all(f, 2);
@@ -110,7 +114,7 @@ impl Held {
     }
 
     /// A box by the crate's rule and by the W3C's, with the at-th offset and style.
-    fn both_rules(&mut self, f: &Figure, at: usize, styles: &[Style]) {
+    pub fn both_rules(&mut self, f: &Figure, at: usize, styles: &[Style]) {
         for kind in [Kind::Crate, Kind::W3c] {
             self.quick_figure(&Figure { kind, ..*f }, at as i32 % 9 - 4, &styles[at % styles.len()]);
         }
@@ -166,9 +170,7 @@ impl Held {
                 by.paint(f, s, w, h, &mut whole);
                 whole
             };
-            let [stroke, fill, ..] = style_numbers(s);
-            let text = || format!("paint {} {stroke} {fill} {} {} {w} {h}", f.text(), s.width, s.align);
-            let (whole, by) = self.by("paint", f, s.width, || on(&Original), || on(&Reference), text);
+            let (whole, by) = self.by(f, Ask::Paint(*s, w, h), || on(&Original), || on(&Reference));
             if by == By::Reference {
                 all_by = by;
             }
@@ -341,8 +343,8 @@ fn any_buffers(r: &mut Held, rng: &mut Rng) {
     }
 }
 
-/// A sheet with 16 layers, some rows of them painted, and each of its numbers changed to each limit.
-fn each_number_of_a_sheet(r: &mut Held, rng: &mut Rng) {
+/// A sheet with 16 layers, some rows of them painted, and each of its numbers, or every so many-th, changed to each limit.
+pub fn each_number_of_a_sheet(r: &mut Held, rng: &mut Rng, step: usize) {
     let mut sheet = opened(20, 20).to_vec();
     let mut canvas = first_lent(20, 20, Some(3));
     for i in 0..16 {
@@ -359,7 +361,7 @@ fn each_number_of_a_sheet(r: &mut Held, rng: &mut Rng) {
     }
     for count in [16, 7] {
         sheet[2] = count;
-        for at in 0..SHEET_LENGTH {
+        for at in (0..SHEET_LENGTH).step_by(step) {
             for limit in LIMITS {
                 let mut changed = sheet.clone();
                 changed[at] = limit as i32;
@@ -415,7 +417,7 @@ fn large_sheet(r: &mut Held, rng: &mut Rng) {
             let answer = r.sheet_paint(&mut sheet, layer as u32, &mut canvas);
             let noted = book.call(&Call::Paint(layer));
             r.hold("sheet calls by book", Ok(By::Reference), noted, (library::DONE, answer), || {
-                format!("layer {layer} of {sheet:?}")
+                format!("the book's answer to layer {layer} painted on {}", numbers(&sheet))
             });
         }
     }
@@ -423,7 +425,7 @@ fn large_sheet(r: &mut Held, rng: &mut Rng) {
 }
 
 /// One round of the random parts.
-fn round(r: &mut Held, rng: &mut Rng, at: u64) {
+pub fn round(r: &mut Held, rng: &mut Rng, at: u64) {
     for n in 0..150 {
         let (f, s) = (rng.small_box(), rng.small_style(4));
         for f in [f, Figure { kind: Kind::W3c, ..f }] {
@@ -511,7 +513,7 @@ pub fn run(seed: u64, effort: u64, seconds: u64) {
             }
         }
     });
-    part("a sheet, each of its numbers at each limit", &mut |r| each_number_of_a_sheet(r, &mut rng));
+    part("a sheet, each of its numbers at each limit", &mut |r| each_number_of_a_sheet(r, &mut rng, 1));
     let mut rounds = 0;
     let first_round = Instant::now();
     part("random rounds", &mut |r| {

@@ -32,7 +32,7 @@ LIBRARY=$library OVERFLOW_CHECKS=off sh "$root/oracle/build.sh" "$source" "$work
 
 # The oracle's program, with the driver in place of its queries.
 sed -e "s|^fn main() {|#[path = \"$root/oracle/bench.rs\"]\nmod bench;\nfn main() {|" \
-    -e 's/query::main()/bench::main()/' "$work/build/oracle.rs" > "$work/build/bench.rs"
+    -e 's/modes::main()/bench::main()/' "$work/build/oracle.rs" > "$work/build/bench.rs"
 rustc --edition 2021 -C opt-level=3 -C overflow-checks=off -C codegen-units=1 \
     -A dead_code -A unused_imports -A unexpected_cfgs -A private_interfaces \
     --crate-type bin --crate-name bench \

@@ -1,3 +1,0 @@
--- A canvas filled byte by byte.
--- Assumes nothing.
-pub mod Filling

@@ -1,3 +1,0 @@
--- Answers made of texts that are put.
--- Assumes nothing.
-pub mod Answering

@@ -1,2 +1,0 @@
-pub mod Adler
-pub mod Text

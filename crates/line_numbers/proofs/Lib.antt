@@ -1,4 +1,0 @@
--- Walks over the digits of a word and over a line.
--- Assumes nothing.
-pub mod Digits
-pub mod Lines

@@ -1,3 +1,0 @@
--- Walks over the calls of a query.
--- Assumes nothing.
-pub mod Runs
