@@ -1,6 +1,7 @@
 #!/bin/sh
 # The library that hosts link: the page of `cafe` drawn from C and from Rust, every call of the header once accepted and once for
-# each refusal, and the comparison at scale with the original Rust and the reference.
+# each refusal, the comparison at scale with the original Rust and the reference, and whether the stored calls of `replay` are the
+# ones that the comparison makes.
 #
 #   sh tests/hosts.sh [LIBRARY]      LIBRARY, or $WUNQABER_LIBRARY: a library built before; else tests/library.sh builds it
 #
@@ -85,3 +86,13 @@ elif [ "$status" != 0 ]; then
 fi
 sed -n '/^seed/p; /^equal/,/^refused/p' "$work/scale"
 echo "hosts.sh: $(tail -n 1 "$work/scale")"
+
+mkdir "$work/stored"
+"$work/build/oracle" stored "$work/stored" > "$work/log" || {
+    tail -n 4 "$work/log" >&2
+    fail 'the stored calls could not be made'
+}
+for file in stdin stdout; do
+    cmp "$work/stored/$file" "$root/crates/replay/$file" >&2 || fail "crates/replay/$file is not what \`sh oracle/stored.sh\` makes"
+done
+echo "hosts.sh: the $(wc -l < "$work/stored/stdin") stored lines are the ones that the comparison makes"

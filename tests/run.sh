@@ -1,5 +1,7 @@
 #!/bin/sh
-# All tests. The gate, `rt ci`, comes last: its last line says how many passed.
+# All tests. The gate, `rt ci`, comes first: it proves every crate, tries every must-fail edit and runs every program. Over what it
+# proved the static library is built; hosts in C and Rust, the comparison at scale and the speed table's self-check go by that.
+# Each part ends the script where it fails. The last line is that of `rt ci`, and is there only if all parts passed.
 set -eu
 cd "$(dirname "$0")/.."
 
@@ -20,8 +22,61 @@ if [ -z "${TMPDIR:-}" ] && [ -d "$memory" ] && [ -w "$memory" ]; then
     rm -f "$trial"
 fi
 
-sh tests/netpbm.sh
-sh tests/hosts.sh
-library=$PWD/target/staticlib/libexports.a
-[ ! -f "$library" ] || WUNQABER_LIBRARY=$library sh tests/speed.sh --check
-exec rt ci
+work=$(mktemp -d)
+trap 'rm -rf "$work"' EXIT
+fail() {
+    echo "run.sh: $1" >&2
+    exit 1
+}
+began=$(date +%s)
+# Says what a part took.
+took() { # the part, the second in which it began
+    echo "run.sh: $1: $(($(date +%s) - $2)) s"
+}
+# Runs a test beside others: what it says goes to a file, and its status too.
+beside() { # its name
+    { sh "tests/$@" > "$work/$1.out" 2>&1 && echo 0 || echo 1; } > "$work/$1.status" &
+}
+# What a test said that ran beside others, once it has ended; ends the script if it failed.
+said() { # its name
+    cat "$work/$1.out"
+    [ "$(cat "$work/$1.status")" = 0 ] || fail "tests/$1 failed"
+}
+
+# netpbm's tools, installed where they are missing, read stored files: nothing that is proved here.
+beside netpbm.sh
+
+# What the gate says is shown as it comes, but for its last line, which is held back until the rest has passed.
+{
+    status=0
+    rt ci 2>&1 || status=$?
+    echo "$status" > "$work/status"
+} | tee "$work/log" | awk 'NR > 1 { print held; fflush() } { held = $0 }'
+last=$(tail -n 1 "$work/log")
+[ "$(cat "$work/status")" = 0 ] || fail "rt ci: $last"
+took 'rt ci' "$began"
+
+# The library is compiled for x86-64 alone.
+if [ "$(uname -m)" = x86_64 ]; then
+    built=$(date +%s)
+    sh tests/library.sh > "$work/library" 2>&1 || {
+        tail -n 20 "$work/library" >&2
+        fail 'the static library is not built'
+    }
+    WUNQABER_LIBRARY=$PWD/target/staticlib/libexports.a
+    export WUNQABER_LIBRARY
+    took 'static library' "$built"
+
+    compared=$(date +%s)
+    beside speed.sh --check
+    sh tests/hosts.sh
+    wait
+    said speed.sh
+    took 'hosts, comparison and self-check' "$compared"
+else
+    echo 'run.sh: skipped, the library is compiled for x86-64 alone: hosts, comparison and self-check'
+fi
+wait
+said netpbm.sh
+took 'all tests' "$began"
+echo "$last"
