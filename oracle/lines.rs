@@ -13,7 +13,7 @@ pub enum Argument<'a> {
 use Argument::{Bytes, Number, Numbers};
 
 /// The longest line that is read, and how many numbers and bytes the lists of a line may have, in their order.
-const LONGEST: usize = 8191;
+pub const LONGEST: usize = 8191;
 const NUMBERS_ROOM: [usize; 3] = [2048, 2048, 128];
 const BYTES_ROOM: [usize; 2] = [12288, 12352];
 const ANSWERS_ROOM: usize = 128;

@@ -55,6 +55,7 @@ const OTHER_WORDS: &[(&str, &str)] = &[
     ("contains -1 0 [1 4294967295 0 1+0*2 0*8] [0]", "0 [1 -1 0 1*2 0*8] [1]"),
     ("contains 4294967295 0 [1 -1 0 1+0*2 0*8] [0]", "0 [1 -1 0 1*2 0*8] [1]"),
     ("confined_radii [1 0*2 9*2 1+1*8] [4294967290+3*9]", "0 [1 0*2 9*2 1 2 3 4 5 6 7 8] [0 1 2 3*2 4 5 6 18]"),
+    ("run_calls 8 7 [] [5*200] {0*56}", "0 [5*200] #3670017"),
     ("write_p5 2 2 [0] {250+4*3 255*1} {1+0*15}", "0 [15] #132711162 #444925117"),
 ];
 
@@ -81,8 +82,10 @@ const NO_CALLS: &[(&str, &str)] = &[
     ("row 0 [0*3 4*2 0*8 ] [0*2]", NOT_TAKEN),
     ("row 0 [0*3 4*2 0*8] [0*2", NOT_TAKEN),
     ("row 0 [0*3 4*2 0*8] [0*0]", NOT_TAKEN),
+    ("row 0 [0*3 4*2 0*8 5*0 [0*2]", NOT_TAKEN),
     ("row 0 [0*3 4*2 x*8] [0*2]", NOT_TAKEN),
     ("row 0 [0*3 4*2 0*] [0*2]", NOT_TAKEN),
+    ("row 0 [0*3 4*2 0*8] [1+2 7]", NOT_TAKEN),
     ("row 0 [0*3 4*2 0+*8] [0*2]", NOT_TAKEN),
     ("row 0 [0*3 4*2 -*8] [0*2]", NOT_TAKEN),
     ("row 0 [0*2147483648] [0*2]", NOT_TAKEN),
@@ -268,15 +271,18 @@ fn ask(r: &mut Held, f: &Figure, ask: &Ask) {
     }
 }
 
-/// The at-th of the calls on a figure and a style.
+/// How many calls there are on a figure, with a style or without.
+const FIGURE_CALLS: usize = 9;
+
+/// The at-th of them.
 fn any_call(r: &mut Held, at: usize, n: &[i32], s: &[i32]) {
-    match at % 8 {
+    match at % FIGURE_CALLS {
         0 => r.contains(n, -2, 3, 1),
         1 => r.row(n, 3, 2),
         2 => r.points(n, 0, 1),
         3 => r.offset(n, 1, FIGURE_LENGTH),
         4 => r.confined_radii(n, 8),
-        _ => styled_call(r, at, n, s),
+        styled => styled_call(r, styled, n, s),
     }
 }
 
@@ -352,7 +358,7 @@ fn limits(r: &mut Held) {
     }
     let n = figure_numbers(&one_of_each()[1]);
     let longer = [&n[..], &[0]].concat();
-    for call in 0..8 {
+    for call in 0..FIGURE_CALLS {
         for n in [&n[..12], &longer, &[]] {
             any_call(r, call, n, &style);
         }
@@ -730,6 +736,8 @@ fn write(chosen: &Chosen, folder: &str) {
         lines.push(remark(what));
         lines.extend(table.iter().map(|(line, answer)| (line.to_string(), answer.to_string())));
     }
+    let long = "row 0".to_string() + &"0".repeat(lines::LONGEST);
+    lines.push((long, format!("error: a line of more than {} bytes", lines::LONGEST)));
     let file = |name: &str, side: fn(&Line) -> &String| {
         let text: String = lines.iter().map(|line| side(line).clone() + "\n").collect();
         println!("{folder}/{name}: {} lines, {} bytes", lines.len(), text.len());

@@ -5,7 +5,7 @@
 #   sh oracle/stored.sh --check [SOURCE [BUILD]]    only whether the stored files are the ones that would be made
 #
 #   LIBRARY=FILE   the library that hosts link; else target/staticlib/libexports.a
-#   STORED=FOLDER  where the stored files are; else crates/replay
+#   STORED=FOLDER  with --check: where the stored files are; else crates/replay
 #
 # The answers are the ORIGINAL Rust's own where it finishes, else the reference's (written from the definitions). None comes from
 # the library or from `replay`: both are held against them, and any difference ends this with 1.
@@ -46,7 +46,7 @@ if [ -n "$check" ]; then
     echo "stored.sh: the $(wc -l < "$work/stdin") stored lines are the ones that would be made"
     exit 0
 fi
-cp "$work/stdin" "$work/stdout" "$stored/"
+cp "$work/stdin" "$work/stdout" "$root/crates/replay/"
 cd "$root"
 rt check replay > "$work/log" 2>&1 || {
     tail -n 5 "$work/log" >&2

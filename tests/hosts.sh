@@ -6,7 +6,7 @@
 #   sh tests/hosts.sh [LIBRARY]      LIBRARY, or $WUNQABER_LIBRARY: a library built before; else tests/library.sh builds it
 #
 # Without rustc the C programs are run all the same, and a line says what is skipped. Without the original's source (oracle/build.sh
-# says where it is looked for) the comparison alone is skipped.
+# says where it is looked for) the comparison and the stored calls alone are skipped.
 set -eu
 root=$(cd "$(dirname "$0")/.." && pwd)
 library=${1:-${WUNQABER_LIBRARY:-}}
@@ -65,14 +65,14 @@ else
 fi
 
 if ! command -v rustc > /dev/null; then
-    echo 'hosts.sh: skipped, there is no rustc: the page from Rust and the comparison at scale'
+    echo 'hosts.sh: skipped, there is no rustc: the page from Rust, the comparison at scale and the stored calls'
     exit 0
 fi
 quietly 'hosts/page.rs is not compiled' rustc --edition 2021 -D warnings -O -C "link-arg=$library" -o "$work/page_rs" "$root/hosts/page.rs"
 page_is_right page_rs
 
 if [ ! -f "$source/src/primitives/mod.rs" ]; then
-    echo 'hosts.sh: skipped, there is no source of the original: the comparison at scale'
+    echo 'hosts.sh: skipped, there is no source of the original: the comparison at scale and the stored calls'
     exit 0
 fi
 LIBRARY=$library quietly 'the oracle is not built' sh "$root/oracle/build.sh" "$source" "$work/build"
@@ -88,7 +88,7 @@ sed -n '/^seed/p; /^equal/,/^refused/p' "$work/scale"
 echo "hosts.sh: $(tail -n 1 "$work/scale")"
 
 mkdir "$work/stored"
-"$work/build/oracle" stored "$work/stored" > "$work/log" || {
+timeout "$limit" "$work/build/oracle" stored "$work/stored" > "$work/log" || {
     tail -n 4 "$work/log" >&2
     fail 'the stored calls could not be made'
 }

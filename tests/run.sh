@@ -23,7 +23,8 @@ if [ -z "${TMPDIR:-}" ] && [ -d "$memory" ] && [ -w "$memory" ]; then
 fi
 
 work=$(mktemp -d)
-trap 'rm -rf "$work"' EXIT
+# A test that still runs beside others ends before its files go.
+trap 'wait; rm -rf "$work"' EXIT
 fail() {
     echo "run.sh: $1" >&2
     exit 1
@@ -51,10 +52,16 @@ beside netpbm.sh
     status=0
     rt ci 2>&1 || status=$?
     echo "$status" > "$work/status"
-} | tee "$work/log" | awk 'NR > 1 { print held; fflush() } { held = $0 }'
+} | tee "$work/log" | sed -u '$d'
 last=$(tail -n 1 "$work/log")
-[ "$(cat "$work/status")" = 0 ] || fail "rt ci: $last"
+[ "$(cat "$work/status")" = 0 ] || fail "rt ci ended with status $(cat "$work/status"), and with the line: $last"
+case $last in
+    *[0-9]' passed, 0 failed') ;;
+    *) fail "rt ci ended with the line: $last" ;;
+esac
 took 'rt ci' "$began"
+wait
+said netpbm.sh
 
 # The library is compiled for x86-64 alone.
 if [ "$(uname -m)" = x86_64 ]; then
@@ -76,7 +83,5 @@ if [ "$(uname -m)" = x86_64 ]; then
 else
     echo 'run.sh: skipped, the library is compiled for x86-64 alone: hosts, comparison and self-check'
 fi
-wait
-said netpbm.sh
 took 'all tests' "$began"
 echo "$last"

@@ -30,7 +30,7 @@ if [ -z "$library" ]; then
 fi
 LIBRARY=$library OVERFLOW_CHECKS=off sh "$root/oracle/build.sh" "$source" "$work/build" > "$work/log"
 
-# The oracle's program, with the driver in place of its queries.
+# The oracle's program, with the driver in place of its modes.
 sed -e "s|^fn main() {|#[path = \"$root/oracle/bench.rs\"]\nmod bench;\nfn main() {|" \
     -e 's/modes::main()/bench::main()/' "$work/build/oracle.rs" > "$work/build/bench.rs"
 rustc --edition 2021 -C opt-level=3 -C overflow-checks=off -C codegen-units=1 \

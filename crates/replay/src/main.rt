@@ -2,9 +2,9 @@
 // answered and left in the lists that it was lent. oracle/README.md has the format of a line, and how
 // the stored ones, stdin and stdout beside this folder, are made.
 //
-// Every function is proved safe and to end, and promises no more: what the calls answer is promised
-// where they are made, and what this program writes is compared with the stored lines. A line has
-// 8,192 bytes of room, and what it lends 41,856 (answer.rt).
+// Every function is proved safe and to end, and promises at most where it stays: what the calls answer
+// is promised where they are made, and what this program writes is compared with the stored lines. A line has
+// 8,192 bytes of room, and what it lends 42,176 (answer.rt, and the answers of `run_calls`).
 mod answer;
 
 use libc::STDIN_FILENO;

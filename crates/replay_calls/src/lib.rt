@@ -55,7 +55,8 @@ fn integer(n: &[u32], i: usize) -> i32 {
     held(unsigned(n, i))
 }
 
-// Makes a call with the numbers n and the lists of a line: a, b and c of numbers, p and q of bytes.
+// Makes a call with the numbers n and the lists of a line: a, b and c of numbers, p and q of bytes. i0
+// and i1 are the first two numbers with a sign, u0 and u1 without.
 pub fn make(
     call: usize,
     n: &[u32],
@@ -65,25 +66,25 @@ pub fn make(
     p: &mut [u8],
     q: &mut [u8],
 ) -> u32 {
-    let x = integer(n, 0);
-    let y = integer(n, 1);
-    let width = unsigned(n, 0);
-    let height = unsigned(n, 1);
+    let i0 = integer(n, 0);
+    let i1 = integer(n, 1);
+    let u0 = unsigned(n, 0);
+    let u1 = unsigned(n, 1);
     match call {
-        0 => host_figures::contains(a, x, y, b),
-        1 => host_figures::row(a, x, b),
+        0 => host_figures::contains(a, i0, i1, b),
+        1 => host_figures::row(a, i0, b),
         2 => host_points::points(a, b, c),
-        3 => host_figures::offset(a, x, b),
+        3 => host_figures::offset(a, i0, b),
         4 => host_figures::confined_radii(a, b),
-        5 => host_figures::ellipse_with_center(x, y, unsigned(n, 2), unsigned(n, 3), a),
-        6 => host_styled::styled_row(a, b, x, c),
+        5 => host_figures::ellipse_with_center(i0, i1, unsigned(n, 2), unsigned(n, 3), a),
+        6 => host_styled::styled_row(a, b, i0, c),
         7 => host_styled::styled_bounding_box(a, b, c),
-        8 => host_paint::paint_figure(a, b, width, height, p),
-        9 => host_sheets::open(width, height, a),
+        8 => host_paint::paint_figure(a, b, u0, u1, p),
+        9 => host_sheets::open(u0, u1, a),
         10 => host_sheets::add(a, b, c),
-        11 => host_sheets::paint(a, width, p),
-        12 => run_calls(width, height, a, p, b),
-        13 => host_netpbm::write_p5(width, height, p, q, a),
+        11 => host_sheets::paint(a, u0, p),
+        12 => run_calls(u0, u1, a, p, b),
+        13 => host_netpbm::write_p5(u0, u1, p, q, a),
         _ => on_rectangle(call, n, a),
     }
 }
@@ -119,7 +120,7 @@ fn copy_back(answers: &[u32], list: &mut [i32]) {
 
 // The smaller of two.
 fn at_most(n: usize, most: usize) -> usize
-    ensures { λ r. ⌜ r ≤ most ⌝ }
+    ensures { λ r. ⌜ (r ≤ n) × (r ≤ most) ⌝ }
 {
     if n < most { n } else { most }
 }
@@ -148,7 +149,14 @@ fn run_within(
     answers: &mut [u32],
 ) -> u32 {
     let count = at_most(list.len(), answers.len());
-    run_with(width, height, calls, canvas, list, &mut answers[..count])
+    run_with(
+        width,
+        height,
+        calls,
+        canvas,
+        &mut list[..count],
+        &mut answers[..count],
+    )
 }
 
 fn run_calls(width: u32, height: u32, calls: &[i32], canvas: &mut [u8], list: &mut [i32]) -> u32 {

@@ -1,6 +1,7 @@
 // Names of calls looked up in a table: a line for each call, with its name and three digits, how many
 // numbers, lists of numbers and lists of bytes it takes.
 use crate::words::after;
+use crate::words::digit;
 ghost use Prim.Native.Nat.{_≤_, _<_};
 ghost use lib.ListN.{length};
 
@@ -16,18 +17,11 @@ pub enum Found {
     Nothing,
 }
 
-fn digit(b: u8) -> usize {
-    if b < b'0' {
-        return 0;
-    }
-    (b - b'0') as usize
-}
-
 // The digit so many places after a place of the table.
 fn digit_after(table: &[u8], from: usize, places: usize) -> usize {
     let at = std::num::wrapping_add_usize(from, places);
     if at < table.len() {
-        return digit(table[at]);
+        return digit(table[at]) as usize;
     }
     0
 }

@@ -9,7 +9,7 @@ const MOST: u64 = 4294967295;
 const FURTHEST: u32 = 2147483648;
 
 // A number of 32 bits, a negative one as its two's complement.
-pub struct Number {
+struct Number {
     pub bits: u32,
     pub at: usize,
 }
@@ -17,7 +17,7 @@ pub struct Number {
 const NO_NUMBER: Number = Number { bits: 0, at: 0 };
 
 // The numbers of a list's entry that are left, and the first of them.
-pub struct Run {
+struct Run {
     pub value: u32,
     pub step: u32,
     pub left: u32,
@@ -49,7 +49,7 @@ pub fn after(text: &[u8], at: usize, b: u8) -> usize {
 }
 
 // The value of a decimal digit, and 10 for any other byte.
-fn digit(b: u8) -> u64 {
+pub fn digit(b: u8) -> u64 {
     if b < b'0' {
         return 10;
     }
@@ -87,7 +87,7 @@ fn decimal(line: &[u8], from: usize) -> Number {
 }
 
 // A number, with a minus sign before it if it is negative.
-pub fn read_number(line: &[u8], from: usize) -> Number {
+fn read_number(line: &[u8], from: usize) -> Number {
     let digits = after(line, from, b'-');
     if digits == 0 {
         return decimal(line, from);
@@ -114,11 +114,29 @@ fn read_after(line: &[u8], from: usize, sign: u8, otherwise: u32) -> Number {
     decimal(line, digits)
 }
 
-// An entry of a list: V, V*K or V+S*K.
+// No more numbers, and the place where reading goes on.
+fn no_run(at: usize) -> Run {
+    Run {
+        value: 0,
+        step: 0,
+        left: 0,
+        at: at,
+    }
+}
+
+// An entry of a list: V, V*K or V+S*K, where K is at least 1. A step without a count is none.
 fn read_run(line: &[u8], from: usize) -> Run {
     let first = read_number(line, from);
     let step = read_after(line, first.at, b'+', 0);
     let count = read_after(line, step.at, b'*', 1);
+    if count.bits == 0 {
+        return no_run(0);
+    }
+    if step.at != first.at {
+        if count.at == step.at {
+            return no_run(0);
+        }
+    }
     Run {
         value: first.bits,
         step: step.bits,
@@ -143,16 +161,6 @@ fn next_run(line: &[u8], run: Run, close: u8) -> Run {
         return read_run(line, next);
     }
     no_run(after(line, run.at, close))
-}
-
-// No more numbers, and the place where reading goes on.
-fn no_run(at: usize) -> Run {
-    Run {
-        value: 0,
-        step: 0,
-        left: 0,
-        at: at,
-    }
 }
 
 // The first run of a list, whose bracket stands after a space at a place. Without the bracket there is

@@ -1,9 +1,6 @@
 -- `replay::skip_line` ends, since its turns count down.
 -- Assumes nothing.
-use mathlib.Core.Path.{_≡_}
-use Prim.Native.Nat.{_+_, _*_, _-_, _≤_, _<_}
-use lib.ListN.{length}
-use native.Mathlib.Omega.{arith}
+use Prim.Native.Nat.{_≤_}
 use borrow.Author.Needs.{needs}
 use Rattle.replay.proofs.skip_line.Statement.{statement}
 use Rattle.replay.proofs.skip_line.Tie as tie

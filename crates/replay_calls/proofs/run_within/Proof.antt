@@ -1,4 +1,4 @@
--- `replay_calls::run_within` stays within the list: `at_most` says so.
+-- `replay_calls::run_within` stays within both lists: `at_most` says so.
 -- Assumes nothing.
 use mathlib.Core.Path.{sym}
 use lib.Seq.{length-take-le}
@@ -15,6 +15,12 @@ slice-relend-prefix-run-with c = search needs
 
 slice-aggregate-run-with : tie.Need-slice-aggregate-run-with
 slice-aggregate-run-with c = sym (length-take-le _ _ (omega arith))
+
+slice-relend-prefix-run-with-2 : tie.Need-slice-relend-prefix-run-with-2
+slice-relend-prefix-run-with-2 c = search needs
+
+slice-aggregate-run-with-2 : tie.Need-slice-aggregate-run-with-2
+slice-aggregate-run-with-2 c = sym (length-take-le _ _ (omega arith))
 
 run-with-requires : tie.Need-run-with-requires
 run-with-requires c κs = search needs
@@ -38,6 +44,8 @@ run-within-spec =
     at-most-requires
     slice-relend-prefix-run-with
     slice-aggregate-run-with
+    slice-relend-prefix-run-with-2
+    slice-aggregate-run-with-2
     run-with-requires
     same-length
     same-length-2

@@ -1,9 +1,7 @@
 -- `replay::answer::name_end` ends and stays within the line.
 -- Assumes nothing.
-use mathlib.Core.Path.{_≡_}
-use Prim.Native.Nat.{_+_, _*_, _-_, _≤_, _<_}
+use Prim.Native.Nat.{_-_, _≤_}
 use lib.ListN.{length}
-use native.Mathlib.Omega.{arith}
 use borrow.Author.Needs.{needs}
 use Rattle.replay.proofs.answer.name_end.Statement.{statement}
 use Rattle.replay.proofs.answer.name_end.Tie as tie

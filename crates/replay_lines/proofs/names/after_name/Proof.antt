@@ -1,9 +1,7 @@
 -- `replay_lines::names::after_name` ends and stays within the name.
 -- Assumes nothing.
-use mathlib.Core.Path.{_≡_}
-use Prim.Native.Nat.{_+_, _*_, _-_, _≤_, _<_}
+use Prim.Native.Nat.{_-_, _≤_}
 use lib.ListN.{length}
-use native.Mathlib.Omega.{arith}
 use borrow.Author.Needs.{needs}
 use Rattle.replay_lines.proofs.names.after_name.Statement.{statement}
 use Rattle.replay_lines.proofs.names.after_name.Tie as tie

@@ -1,9 +1,7 @@
 -- `replay_lines::names::find` ends, since each turn goes on to a later line; it has passed no more lines than bytes.
 -- Assumes nothing.
-use mathlib.Core.Path.{_≡_}
-use Prim.Native.Nat.{_+_, _*_, _-_, _≤_, _<_}
+use Prim.Native.Nat.{_-_, _≤_}
 use lib.ListN.{length}
-use native.Mathlib.Omega.{arith}
 use borrow.Author.Needs.{needs}
 use Rattle.replay_lines.proofs.names.find.Statement.{statement}
 use Rattle.replay_lines.proofs.names.find.Tie as tie

@@ -1,9 +1,7 @@
 -- `replay_lines::names::next_line` ends after the place where it began, and stays within the table.
 -- Assumes nothing.
-use mathlib.Core.Path.{_≡_}
-use Prim.Native.Nat.{_+_, _*_, _-_, _≤_, _<_}
+use Prim.Native.Nat.{_-_, _≤_}
 use lib.ListN.{length}
-use native.Mathlib.Omega.{arith}
 use borrow.Author.Needs.{needs}
 use Rattle.replay_lines.proofs.names.next_line.Statement.{statement}
 use Rattle.replay_lines.proofs.names.next_line.Tie as tie

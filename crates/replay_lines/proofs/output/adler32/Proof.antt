@@ -1,9 +1,7 @@
 -- `replay_lines::output::adler32` ends and stays within the bytes; its sums are reduced before each step.
 -- Assumes nothing.
-use mathlib.Core.Path.{_≡_}
-use Prim.Native.Nat.{_+_, _*_, _-_, _≤_, _<_}
+use Prim.Native.Nat.{_-_, _≤_}
 use lib.ListN.{length}
-use native.Mathlib.Omega.{arith}
 use borrow.Author.Needs.{needs}
 use Rattle.replay_lines.proofs.output.adler32.Statement.{statement}
 use Rattle.replay_lines.proofs.output.adler32.Tie as tie

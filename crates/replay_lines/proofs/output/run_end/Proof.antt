@@ -1,9 +1,7 @@
 -- `replay_lines::output::run_end` ends after the place where it began, and stays within the list.
 -- Assumes nothing.
-use mathlib.Core.Path.{_≡_}
-use Prim.Native.Nat.{_+_, _*_, _-_, _≤_, _<_}
+use Prim.Native.Nat.{_-_, _≤_, _<_}
 use lib.ListN.{length}
-use native.Mathlib.Omega.{arith}
 use borrow.Author.Needs.{needs}
 use Rattle.replay_lines.proofs.output.run_end.Statement.{statement}
 use Rattle.replay_lines.proofs.output.run_end.Tie as tie

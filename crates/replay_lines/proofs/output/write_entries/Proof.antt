@@ -1,9 +1,7 @@
 -- `replay_lines::output::write_entries` ends, since each run has a number at least, and stays within the list.
 -- Assumes nothing.
-use mathlib.Core.Path.{_≡_}
-use Prim.Native.Nat.{_+_, _*_, _-_, _≤_, _<_}
+use Prim.Native.Nat.{_-_, _≤_}
 use lib.ListN.{length}
-use native.Mathlib.Omega.{arith}
 use borrow.Author.Needs.{needs}
 use Rattle.replay_lines.proofs.output.write_entries.Statement.{statement}
 use Rattle.replay_lines.proofs.output.write_entries.Tie as tie

@@ -1,9 +1,7 @@
 -- `replay_lines::words::decimal` ends and stays within the line; before a digit that would take it beyond 32 bits it returns.
 -- Assumes nothing.
-use mathlib.Core.Path.{_≡_}
-use Prim.Native.Nat.{_+_, _*_, _-_, _≤_, _<_, max}
+use Prim.Native.Nat.{_-_, _≤_, max}
 use lib.ListN.{length}
-use native.Mathlib.Omega.{arith}
 use borrow.Author.Needs.{needs}
 use Rattle.replay_lines.proofs.words.decimal.Statement.{statement}
 use Rattle.replay_lines.proofs.words.decimal.Tie as tie
