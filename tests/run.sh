@@ -47,19 +47,34 @@ said() { # its name
 # netpbm's tools, installed where they are missing, read stored files: nothing that is proved here.
 beside netpbm.sh
 
-# What the gate says is shown as it comes, but for its last line, which is held back until the rest has passed.
+# Shows what the gate says as it comes, but for its last line, which is held back until the rest has passed; and notes when the first
+# edit was tried.
+show() {
+    any=
+    while IFS= read -r line; do
+        [ -z "$any" ] || printf '%s\n' "$held"
+        any=yes
+        held=$line
+        case $line in
+            'rt: must-fail '*) [ -f "$work/edits" ] || date +%s > "$work/edits" ;;
+        esac
+    done
+}
 {
     status=0
     rt ci 2>&1 || status=$?
     echo "$status" > "$work/status"
-} | tee "$work/log" | sed -u '$d'
+} | tee "$work/log" | show
 last=$(tail -n 1 "$work/log")
 [ "$(cat "$work/status")" = 0 ] || fail "rt ci ended with status $(cat "$work/status"), and with the line: $last"
 case $last in
     *[0-9]' passed, 0 failed') ;;
     *) fail "rt ci ended with the line: $last" ;;
 esac
-took 'rt ci' "$began"
+if [ -f "$work/edits" ]; then
+    echo "run.sh: proving: $(($(cat "$work/edits") - began)) s"
+    took 'edits and programs' "$(cat "$work/edits")"
+fi
 wait
 said netpbm.sh
 
