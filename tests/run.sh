@@ -8,10 +8,6 @@ cd "$(dirname "$0")/.."
 # The library that is tested is built here.
 unset WUNQABER_LIBRARY
 
-# `rt` starts so many checks at a time and waits for all of them before it starts the next ones; with twice as many as there are
-# cores, short ones do not leave a core idle.
-export RT_JOBS="${RT_JOBS:-$((2 * $(nproc 2> /dev/null || echo 1)))}"
-
 # The prover writes some five thousand small files for each check and removes them again. In memory this takes a second less for each
 # crate and each edit; a folder there must have room and let programs run.
 memory=/dev/shm
@@ -85,7 +81,7 @@ said netpbm.sh
 # The library is compiled for x86-64 alone.
 if [ "$(uname -m)" = x86_64 ]; then
     built=$(date +%s)
-    sh tests/library.sh > "$work/library" 2>&1 || {
+    rt staticlib exports > "$work/library" 2>&1 || {
         tail -n 20 "$work/library" >&2
         fail 'the static library is not built'
     }
