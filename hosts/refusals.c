@@ -73,7 +73,7 @@ static const check checks[] = {
     {ROW, RADIUS, 1025, 2},
     {ROW, X, 4097, 3},
     {ROW, ASKED, -8193, 4},
-    {ROW, OUT_LENGTH, 1, 13},
+    {ROW, OUT_LENGTH, 2, 13},
     {ROW, KIND, -1, 100},
     {ROW, FIGURE_LENGTH, 0, 100},
     {ROW, ASKED, 4, 101},
@@ -113,7 +113,7 @@ static const check checks[] = {
     {STYLED_ROW, X, -4097, 3},
     {STYLED_ROW, ASKED, 8193, 4},
     {STYLED_ROW, STROKE_WIDTH, 257, 5},
-    {STYLED_ROW, OUT_LENGTH, 5, 13},
+    {STYLED_ROW, OUT_LENGTH, 6, 13},
     {STYLED_ROW, KIND, 3, 100},
     {STYLED_ROW, STROKE, 256, 100},
     {STYLED_ROW, FILL, -2, 100},
@@ -324,12 +324,12 @@ static uint32_t make(enum call call, const arguments *a, buffers *b)
 /* What each call writes into the buffers where it is accepted. */
 static void written(enum call call, buffers *b)
 {
-    static const int32_t row[] = {0, 4};
+    static const int32_t row[] = {1, 0, 4};
     static const int32_t points[] = {1, 0, 2, 0, 0, 1, 1, 1, 2, 1, 3, 1, 0, 2, 1, 2, 2, 2, 3, 2, 1, 3, 2, 3};
     static const int32_t offset[] = {WUNQABER_ELLIPSE, -1, -1, 6, 6};
     static const int32_t radii[] = {7, 50, 7, 50, 7, 50, 7, 50};
     static const int32_t about[] = {WUNQABER_ELLIPSE, 4, 4, 4, 3};
-    static const int32_t styled[] = {0, 0, 0, 4, 4, 4};
+    static const int32_t styled[] = {1, 0, 0, 0, 4, 4, 4};
     static const int32_t bounds[] = {0, 0, 4, 4};
     static const char header[] = "P5\n4 4\n255\n";
     static const uint8_t pixels[] = {1, 2, 4, 5, 6, 7, 8, 9, 10, 11, 13, 14};

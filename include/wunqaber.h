@@ -79,7 +79,7 @@ extern "C" {
 uint32_t wunqaber_contains(const int32_t *figure, size_t figure_length, int32_t x, int32_t y,
                            int32_t *out, size_t out_length);
 
-/* start, end: the run of row y; or 101. Refused by 1, 2, 3, 4, 13. */
+/* y, start, end: row y and its run; or 101. Refused by 1, 2, 3, 4, 13. */
 uint32_t wunqaber_row(const int32_t *figure, size_t figure_length, int32_t y,
                       int32_t *out, size_t out_length);
 
@@ -100,7 +100,7 @@ uint32_t wunqaber_confined_radii(const int32_t *figure, size_t figure_length,
 uint32_t wunqaber_ellipse_with_center(int32_t x, int32_t y, uint32_t width, uint32_t height,
                                       int32_t *out, size_t out_length);
 
-/* start, end of the left stroke, the fill and the right stroke; or 101. Refused by 1, 2, 3, 4, 5, 13. */
+/* y, then start, end of the left stroke, the fill and the right stroke; or 101. Refused by 1, 2, 3, 4, 5, 13. */
 uint32_t wunqaber_styled_row(const int32_t *figure, size_t figure_length,
                              const int32_t *style, size_t style_length, int32_t y,
                              int32_t *out, size_t out_length);

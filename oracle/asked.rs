@@ -3,7 +3,7 @@
 
 use crate::{
     lines::{self, Argument::*},
-    numbers::{figure_numbers, given_figure, radii_numbers, style_numbers},
+    numbers::{figure_numbers, given_figure, radii_numbers, style_numbers, styled_numbers},
     original::Original,
     records::{attempt, Answers, Figure, Kind, Style},
     reference::{canvas_refusal, Reference},
@@ -29,11 +29,11 @@ impl Ask {
     pub fn of(&self, f: &Figure, by: &dyn Answers) -> Option<Vec<i32>> {
         Some(match self {
             Contains(x, y) => vec![by.contains(f, *x, *y) as i32],
-            Row(y) => by.row(f, *y).map(|(start, end)| vec![start as i32, end as i32])?,
+            Row(y) => by.row(f, *y).map(|(start, end)| vec![*y as i32, start as i32, end as i32])?,
             Points => by.points(f),
             Offset(k) => given_figure(&by.offset(f, *k)),
             Confine => radii_numbers(&by.confine(f)?).to_vec(),
-            StyledRow(s, y) => by.srow(f, s, *y)?.map(|v| v as i32).to_vec(),
+            StyledRow(s, y) => styled_numbers(*y, &by.srow(f, s, *y)?).to_vec(),
             StyledBox(s) => {
                 let (x, y, w, h) = by.bbox(f, s);
                 [x, y, w, h].map(|v| v as i32).to_vec()
@@ -77,13 +77,13 @@ impl Ask {
         let room = |length: usize| Numbers(&out[..length]);
         match self {
             Contains(x, y) => lines::query("contains", &[figure, Number(*x), Number(*y), room(1)]),
-            Row(y) => lines::query("row", &[figure, Number(*y), room(2)]),
+            Row(y) => lines::query("row", &[figure, Number(*y), room(3)]),
             Points => lines::query("points", &[figure, Numbers(&vec![0; Reference.points(f).len()]), room(1)]),
             Offset(k) => {
                 lines::query("offset", &[figure, Number(*k), room(if f.kind == Kind::Ellipse { 5 } else { 13 })])
             }
             Confine => lines::query("confined_radii", &[figure, room(8)]),
-            StyledRow(s, y) => lines::query("styled_row", &[figure, Numbers(&style_numbers(s)), Number(*y), room(6)]),
+            StyledRow(s, y) => lines::query("styled_row", &[figure, Numbers(&style_numbers(s)), Number(*y), room(7)]),
             StyledBox(s) => lines::query("styled_bounding_box", &[figure, Numbers(&style_numbers(s)), room(4)]),
             Paint(s, w, h) => {
                 let canvas = vec![0; (w * h) as usize];

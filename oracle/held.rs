@@ -14,7 +14,7 @@ use crate::{
     },
     numbers::{
         figure_numbers, given_figure, opened, place_of, radii_numbers, read_calls, read_figure, read_sheet, read_style,
-        style_numbers,
+        style_numbers, styled_numbers,
     },
     original::Original,
     records::{attempt, first_lent, lowest, Answers, Figure, Kind, Style},
@@ -170,7 +170,7 @@ impl Held {
             refused_or(&[figure_refusal(&f), asked_refusal(at)])?;
             let (run, by) = self.by(&f, Row(at), || Original.row(&f, at), || Reference.row(&f, at));
             let (start, end) = run.ok_or(NOTHING)?;
-            Ok(([start as i32, end as i32], by))
+            Ok(([y, start as i32, end as i32], by))
         });
         self.values("row", room, wanted, |out| library::row(n, y, out), &[Numbers(n), Number(at)]);
     }
@@ -236,7 +236,7 @@ impl Held {
             refused_or(&[figure_refusal(&f), asked_refusal(at), style_refusal(&s)])?;
             let original = || Original.srow(&f, &s, at);
             let (runs, by) = self.by(&f, StyledRow(s, at), original, || Reference.srow(&f, &s, at));
-            Ok((runs.ok_or(NOTHING)?.map(|v| v as i32), by))
+            Ok((styled_numbers(at, &runs.ok_or(NOTHING)?), by))
         });
         let make = |out: &mut [i32]| library::styled_row(n, s, y, out);
         self.values("styled_row", room, wanted, make, &[Numbers(n), Numbers(s), Number(at)]);

@@ -36,6 +36,15 @@ pub fn style_numbers(s: &Style) -> [i32; STYLE_LENGTH] {
     [paint(s.stroke), paint(s.fill), s.width as i32, s.align as i32]
 }
 
+/// A styled row: its y, and the ends of its three runs.
+pub fn styled_numbers(y: i64, runs: &[i64; 6]) -> [i32; 7] {
+    let mut n = [y as i32; 7];
+    for (to, from) in n[1..].iter_mut().zip(runs) {
+        *to = *from as i32;
+    }
+    n
+}
+
 pub fn call_numbers(call: &Call, unread: i32) -> [i32; CALL_LENGTH] {
     let mut n = [unread; CALL_LENGTH];
     match call {

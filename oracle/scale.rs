@@ -12,7 +12,7 @@ use crate::{
         numbers,
         Argument::{Number, Numbers},
     },
-    numbers::{call_numbers, figure_numbers, opened, place_of, style_numbers},
+    numbers::{call_numbers, figure_numbers, opened, place_of, style_numbers, styled_numbers},
     original::Original,
     records::{first_lent, Answers, Figure, Kind, Style},
     reference::{self, area, stroke_area, Book, Call, Reference},
@@ -31,8 +31,8 @@ impl Held {
         let (rows, by): (Vec<_>, By) = self.by(f, Ask::Row(f.y + f.h - 1), || Original.rows(f), reference);
         for y in f.y - 1..=f.y + f.h {
             let row = rows.get((y - f.y) as usize).filter(|_| y >= f.y);
-            let wanted = row.map(|(_, start, end)| ([*start as i32, *end as i32], by)).ok_or(NOTHING);
-            self.values("row", 3, wanted, |out| library::row(&n, y as i32, out), &[Numbers(&n), Number(y)]);
+            let wanted = row.map(|(at, start, end)| ([*at as i32, *start as i32, *end as i32], by)).ok_or(NOTHING);
+            self.values("row", 4, wanted, |out| library::row(&n, y as i32, out), &[Numbers(&n), Number(y)]);
         }
     }
 
@@ -60,9 +60,9 @@ impl Held {
         let (rows, by): (Vec<_>, By) = self.by(f, last, || Original.srows(f, s), reference);
         for y in top - 1..=bottom {
             let row = rows.get((y - top) as usize).filter(|_| y >= top);
-            let wanted = row.map(|(_, runs)| (runs.map(|v| v as i32), by)).ok_or(NOTHING);
+            let wanted = row.map(|(at, runs)| (styled_numbers(*at, runs), by)).ok_or(NOTHING);
             let make = |out: &mut [i32]| library::styled_row(&n, &sn, y as i32, out);
-            self.values("styled_row", 7, wanted, make, &[Numbers(&n), Numbers(&sn), Number(y)]);
+            self.values("styled_row", 8, wanted, make, &[Numbers(&n), Numbers(&sn), Number(y)]);
         }
     }
 
@@ -72,11 +72,11 @@ impl Held {
         let n = figure_numbers(f);
         let a = area(f, 0);
         let (row, by) = match findings::rows(&a) {
-            true => (a.row(f.y), By::Reference),
-            false => (Original.first_row(f).map(|(_, start, end)| (start, end)), By::Original),
+            true => (a.row(f.y).map(|(start, end)| (f.y, start, end)), By::Reference),
+            false => (Original.first_row(f), By::Original),
         };
-        let wanted = row.map(|(start, end)| ([start as i32, end as i32], by)).ok_or(NOTHING);
-        self.values("row", 2, wanted, |out| library::row(&n, f.y as i32, out), &[Numbers(&n), Number(f.y)]);
+        let wanted = row.map(|(at, start, end)| ([at as i32, start as i32, end as i32], by)).ok_or(NOTHING);
+        self.values("row", 3, wanted, |out| library::row(&n, f.y as i32, out), &[Numbers(&n), Number(f.y)]);
     }
 
     fn paint(&mut self, f: &Figure, s: &Style, w: i64, h: i64) {
@@ -274,12 +274,12 @@ fn any_numbers(r: &mut Held, rng: &mut Rng) {
     };
     let (x, y, k) = (near(rng, 1), near(rng, 2), odd(rng));
     r.contains(&n, x, y, some_room(rng, 1));
-    r.row(&n, y, some_room(rng, 2));
+    r.row(&n, y, some_room(rng, 3));
     r.offset(&n, k, some_room(rng, 13));
     r.offset(&n, rng.within(-256, 256) as i32, some_room(rng, 5));
     r.confined_radii(&n, some_room(rng, 8));
     r.ellipse_with_center(x, y, side(rng), side(rng), some_room(rng, 5));
-    r.styled_row(&n, &s, y, some_room(rng, 6));
+    r.styled_row(&n, &s, y, some_room(rng, 7));
     r.styled_bounding_box(&n, &s, some_room(rng, 4));
 }
 

@@ -24,12 +24,12 @@ use std::{collections::BTreeMap, fs, process::exit};
 #[rustfmt::skip]
 const CALLS: &[(&str, &str, &[u32], usize)] = &[
     ("contains", "whether a point is inside: x, y, figure, out", &[0, 1, 2, 3, 4, 13, 100], 7),
-    ("row", "the run of a row: y, figure, out", &[0, 1, 2, 3, 4, 13, 100, 101], 7),
+    ("row", "the y and the run of a row: y, figure, out", &[0, 1, 2, 3, 4, 13, 100, 101], 7),
     ("points", "all points as pairs: figure, list, out", &[0, 1, 2, 3, 13, 100], 4),
     ("offset", "the figure offset by k: k, figure, out", &[0, 1, 2, 3, 5, 13, 100], 7),
     ("confined_radii", "the radii as confined to the box: figure, out", &[0, 1, 2, 3, 13, 100, 101], 7),
     ("ellipse_with_center", "the ellipse about a centre: x, y, width, height, out", &[0, 1, 3, 13], 16),
-    ("styled_row", "left stroke, fill and right stroke of a row: y, figure, style, out", &[0, 1, 2, 3, 4, 5, 13, 100, 101], 7),
+    ("styled_row", "the y, left stroke, fill and right stroke of a row: y, figure, style, out", &[0, 1, 2, 3, 4, 5, 13, 100, 101], 7),
     ("styled_bounding_box", "what a styled figure keeps to: figure, style, out", &[0, 1, 2, 3, 5, 13, 100], 7),
     ("paint_figure", "a figure painted: width, height, figure, style, canvas", &[0, 1, 2, 3, 5, 6, 8, 100], 10),
     ("sheet_open", "a sheet without layers: width, height, sheet", &[0, 6, 13], 8),
@@ -48,8 +48,8 @@ const CALLS: &[(&str, &str, &[u32], usize)] = &[
 
 /// Calls in other words than lines.rs has, and what is answered, worked out by hand.
 const OTHER_WORDS: &[(&str, &str)] = &[
-    ("row 0 [0 0 0 4 4 0+0*8] [5+1*3]", "0 [0*3 4*2 0*8] [1 3 7]"),
-    ("row 0 [0*1 0*2 4*2 0*8] [1*1 2+3*1]", "0 [0*3 4*2 0*8] [1 3]"),
+    ("row 0 [0 0 0 4 4 0+0*8] [5+1*4]", "0 [0*3 4*2 0*8] [0 1 3 8]"),
+    ("row 0 [0*1 0*2 4*2 0*8] [1*1 2+3*2]", "0 [0*3 4*2 0*8] [0 1 3]"),
     ("row 0 [0*3 4*2 0*8] []", "13 [0*3 4*2 0*8]"),
     ("row 0 [] []", "100"),
     ("contains -1 0 [1 4294967295 0 1+0*2 0*8] [0]", "0 [1 -1 0 1*2 0*8] [1]"),
@@ -260,11 +260,11 @@ fn ask(r: &mut Held, f: &Figure, ask: &Ask) {
     let n = figure_numbers(f);
     match *ask {
         Ask::Contains(x, y) => r.contains(&n, x as i32, y as i32, 1),
-        Ask::Row(y) => r.row(&n, y as i32, 2),
+        Ask::Row(y) => r.row(&n, y as i32, 3),
         Ask::Points => r.points(&n, 0, 1),
         Ask::Offset(k) => r.offset(&n, k as i32, FIGURE_LENGTH),
         Ask::Confine => r.confined_radii(&n, 8),
-        Ask::StyledRow(s, y) => r.styled_row(&n, &style_numbers(&s), y as i32, 6),
+        Ask::StyledRow(s, y) => r.styled_row(&n, &style_numbers(&s), y as i32, 7),
         Ask::StyledBox(s) => r.styled_bounding_box(&n, &style_numbers(&s), 4),
         // on zeros, and 8 bytes that are not lent
         Ask::Paint(s, w, h) => r.paint_on(&n, &style_numbers(&s), w as u32, h as u32, &vec![0; (w * h + 8) as usize]),
@@ -278,7 +278,7 @@ const FIGURE_CALLS: usize = 9;
 fn any_call(r: &mut Held, at: usize, n: &[i32], s: &[i32]) {
     match at % FIGURE_CALLS {
         0 => r.contains(n, -2, 3, 1),
-        1 => r.row(n, 3, 2),
+        1 => r.row(n, 3, 3),
         2 => r.points(n, 0, 1),
         3 => r.offset(n, 1, FIGURE_LENGTH),
         4 => r.confined_radii(n, 8),
@@ -289,7 +289,7 @@ fn any_call(r: &mut Held, at: usize, n: &[i32], s: &[i32]) {
 fn styled_call(r: &mut Held, at: usize, n: &[i32], s: &[i32]) {
     match at % 4 {
         0 => r.paint_figure(n, s, 5, 7, 35),
-        1 => r.styled_row(n, s, 3, 6),
+        1 => r.styled_row(n, s, 3, 7),
         2 => r.styled_bounding_box(n, s, 4),
         _ => {
             r.sheet_add(&mut blank(6, 5), n, s);
@@ -349,8 +349,8 @@ fn limits(r: &mut Held) {
         for v in asked {
             r.contains(&n, v, 3, 1);
             r.contains(&n, 0, v, 1);
-            r.row(&n, v, 2);
-            r.styled_row(&n, &style, v, 6);
+            r.row(&n, v, 3);
+            r.styled_row(&n, &style, v, 7);
         }
         for k in [-257, -256, -3, 0, 256, 257, i32::MIN, i32::MAX] {
             r.offset(&n, k, FIGURE_LENGTH);
@@ -380,11 +380,11 @@ fn rooms(r: &mut Held) {
         for more in 0..4 {
             let room = |needed: usize| if more == 3 { 0 } else { needed - 1 + more };
             r.contains(&n, -2, 3, room(1));
-            r.row(&n, 3, room(2));
-            r.row(&n, 99, room(2));
+            r.row(&n, 3, room(3));
+            r.row(&n, 99, room(3));
             r.offset(&n, -1, room(offset));
             r.confined_radii(&n, room(8));
-            r.styled_row(&n, &style, 3, room(6));
+            r.styled_row(&n, &style, 3, room(7));
             r.styled_bounding_box(&n, &style, room(4));
             r.ellipse_with_center(-2, 3, f.w as u32 + more as u32, 6, room(5));
         }

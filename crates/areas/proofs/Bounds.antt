@@ -5,7 +5,7 @@ use Rattle.figure.specs.declared.Figure.{Figure}
 use Rattle.figure.specs.declared.Figure.the-variants.{Ellipse, CrateBox, W3cBox}
 use Rattle.figure.specs.Bounds.{OwnFigure}
 use Rattle.figure.proofs.Within.{own-area, area-bounded}
-use Rattle.areas.specs.Areas.{ownRectangle}
+use Rattle.figure.specs.Figure.{ownRectangle}
 
 pub own-rectangle-bounded : (f : Figure) → OwnFigure f → Bounded (ownRectangle f)
 own-rectangle-bounded (Ellipse r) own = area-bounded r (own-area r own)

@@ -1,9 +1,7 @@
 -- Document 01: stroke area and fill area (end of 'Rectangle and offset').
 -- Assumes nothing.
 use lib.IntN.{pos, negℤ}
-use Rattle.rectangle.specs.declared.Rectangle.{Rectangle}
 use Rattle.figure.specs.declared.Figure.{Figure}
-use Rattle.figure.specs.declared.Figure.the-variants.{Ellipse, CrateBox, W3cBox}
 use Rattle.figure.specs.Figure.{offset}
 use Rattle.style.specs.declared.Style.{Style}
 use Rattle.style.specs.Style.{outsideStrokeWidth, insideStrokeWidth}
@@ -15,9 +13,3 @@ strokeArea f style = offset f (pos (outsideStrokeWidth style))
 -- the fill area: the figure offset by minus the inside width
 abbrev pub fillArea : Figure → Style → Figure
 fillArea f style = offset f (negℤ (pos (insideStrokeWidth style)))
-
--- the rectangle of a figure as it is given
-abbrev pub ownRectangle : Figure → Rectangle
-ownRectangle (Ellipse r) = r
-ownRectangle (CrateBox b) = b .rectangle
-ownRectangle (W3cBox b) = b .rectangle

@@ -8,7 +8,7 @@ ghost use mathlib.Core.Path.{_≡_};
 ghost use Prim.Native.Nat.{_≤_};
 ghost use Rattle.figure.specs.Bounds.{wideOffset, OwnFigure, BoundedShape};
 ghost use Rattle.figure.specs.Figure.{shape};
-ghost use Rattle.areas.specs.Areas.{strokeArea, fillArea, ownRectangle};
+ghost use Rattle.areas.specs.Areas.{strokeArea, fillArea};
 
 // The shape of the stroke area.
 pub fn stroke_shape(figure: Figure, style: Style) -> Shape
@@ -29,15 +29,4 @@ pub fn fill_shape(figure: Figure, style: Style) -> Shape
 {
     let inside = signed::from_u32(style.inside_stroke_width());
     figure.offset_by(signed::sub(0, inside)).shape()
-}
-
-// The rectangle of a figure as it is given.
-pub fn own_rectangle(figure: Figure) -> Rectangle
-    ensures { λ r. ⌜ r ≡ ownRectangle figure ⌝ }
-{
-    match figure {
-        Figure::Ellipse(rectangle) => rectangle,
-        Figure::CrateBox(b) => b.rectangle,
-        Figure::W3cBox(b) => b.rectangle,
-    }
 }

@@ -14,7 +14,6 @@ use Rattle.geometry.specs.Limits.{maxRadius}
 use Rattle.geometry.specs.Bounds.{PointNear, SizeUpTo}
 use Rattle.rectangle.specs.Bounds.{Bounded}
 use Rattle.refusal.specs.Refusal.{orElse}
-use Rattle.rectangle.specs.Calls.{rectangleCheck}
 use Rattle.geometry.specs.Checks.{sizeCheck, positionCheck}
 use Rattle.rectangle.specs.Rectangle.{withCenter, offset as Rectangle·offset}
 use Rattle.rectangle.proofs.Offset.{offset-size-up-to, offset-position-near}
@@ -26,7 +25,7 @@ use Rattle.corner_radii.proofs.Bounds.{confine-up-to, w3c-up-to, offset-up-to, 
 use Rattle.corner_radii.proofs.Checks.{radii-passed}
 use Rattle.rounded_rectangle.specs.declared.RoundedRectangle.{RoundedRectangle}
 use Rattle.rounded_rectangle.specs.Relative.{BoundedBox}
-use Rattle.box_rules.specs.BoxRules.{confined, confinedW3c, offsetBox, boxCheck}
+use Rattle.box_rules.specs.BoxRules.{confined, confinedW3c, offsetBox}
 use Rattle.box_rules.specs.Bounds.{widePosition, wideOwnSide, wideOffset, OwnRectangle, OwnBox, AreaRectangle, AreaBox}
 
 -- ---- wider bounds
@@ -41,27 +40,20 @@ pub size-wider : {m n : ℕ} {s : Size} → m ≤ n → SizeUpTo m s → SizeUpT
 size-wider l a = record { width = let h = a .width in omega arith; height = let h = a .height in omega arith }
 
 -- ---- what passes its check
-own-by-checks : (r : Rectangle) → sizeCheck (r .size) ≡ Passed → positionCheck (r .«top_left») ≡ Passed → OwnRectangle r
-own-by-checks r size at =
+pub own-rectangle-passed : (r : Rectangle) → sizeCheck (r .size) ≡ Passed → positionCheck (r .«top_left») ≡ Passed → OwnRectangle r
+own-rectangle-passed r size at =
     record {
       at = point-wider (omega arith) (position-passed (r .«top_left») at);
       size = size-wider (omega arith) (size-passed (r .size) size);
     }
 
-pub own-box-passed : (b : RoundedRectangle) → boxCheck b ≡ Passed → OwnBox b
-unfolding boxCheck
-own-box-passed b e =
-    let sizes = passed-first (orElse (sizeCheck (b .rectangle .size)) (radiiCheck (b .corners))) (positionCheck (b .rectangle .«top_left»)) e in
-    let at = passed-next (orElse (sizeCheck (b .rectangle .size)) (radiiCheck (b .corners))) (positionCheck (b .rectangle .«top_left»)) e in
+pub own-box-passed : (b : RoundedRectangle) → sizeCheck (b .rectangle .size) ≡ Passed → radiiCheck (b .corners) ≡ Passed
+    → positionCheck (b .rectangle .«top_left») ≡ Passed → OwnBox b
+own-box-passed b size corners at =
     record {
-      rectangle = own-by-checks (b .rectangle) (passed-first (sizeCheck (b .rectangle .size)) (radiiCheck (b .corners)) sizes) at;
-      corners = radii-up-to-wider maxRadius wideOwnSide (b .corners) (omega arith) (radii-passed (b .corners) (passed-next (sizeCheck (b .rectangle .size)) (radiiCheck (b .corners)) sizes));
+      rectangle = own-rectangle-passed (b .rectangle) size at;
+      corners = radii-up-to-wider maxRadius wideOwnSide (b .corners) (omega arith) (radii-passed (b .corners) corners);
     }
-
-pub own-rectangle-passed : (r : Rectangle) → rectangleCheck r ≡ Passed → OwnRectangle r
-unfolding rectangleCheck
-own-rectangle-passed r e =
-    own-by-checks r (passed-first (sizeCheck (r .size)) (positionCheck (r .«top_left»)) e) (passed-next (sizeCheck (r .size)) (positionCheck (r .«top_left»)) e)
 
 -- ---- a figure's own numbers are an area's
 pub own-area : (r : Rectangle) → OwnRectangle r → AreaRectangle r

@@ -1,17 +1,9 @@
--- Document 01, 'Corners' and 'Rectangle and offset', of a whole box: its refusals, its confined radii and its offset.
+-- Document 01, 'Corners' and 'Rectangle and offset', of a whole box: its confined radii and its offset.
 -- Assumes nothing.
 use lib.IntN.{ℤ}
-use Rattle.refusal.specs.declared.Checked.{Checked}
-use Rattle.refusal.specs.Refusal.{orElse}
-use Rattle.geometry.specs.Checks.{sizeCheck, positionCheck}
 use Rattle.rectangle.specs.Rectangle.{offset as Rectangle·offset}
-use Rattle.corner_radii.specs.CornerRadii.{offset as CornerRadii·offset, confine, confineW3c, radiiCheck}
+use Rattle.corner_radii.specs.CornerRadii.{offset as CornerRadii·offset, confine, confineW3c}
 use Rattle.rounded_rectangle.specs.declared.RoundedRectangle.{RoundedRectangle}
-
--- 1 a side, 2 a radius above its limit, 3 a position of a box beyond it
-unfoldable pub boxCheck : RoundedRectangle → Checked
-boxCheck b =
-    orElse (orElse (sizeCheck (b .rectangle .size)) (radiiCheck (b .corners))) (positionCheck (b .rectangle .«top_left»))
 
 -- a box with its radii confined to its size, by the crate rule and by the W3C rule
 unfoldable pub confined : RoundedRectangle → RoundedRectangle

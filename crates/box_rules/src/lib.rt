@@ -1,12 +1,11 @@
-// What is done with a box before its rows are asked for: its check, its radii confined by either rule,
-// and its offset. After embedded-graphics 0.8.2 `rounded_rectangle/mod.rs` (`OffsetOutline`,
+// What is done with a box before its rows are asked for: its radii confined by either rule, and
+// its offset. After embedded-graphics 0.8.2 `rounded_rectangle/mod.rs` (`OffsetOutline`,
 // `confine_radii`); the W3C rule is not in the source.
-use refusal::Checked;
 use rounded_rectangle::RoundedRectangle;
 ghost use mathlib.Core.Path.{_≡_};
 ghost use Rattle.signed.specs.Signed.{Near};
 ghost use Rattle.box_rules.specs.Bounds.{wideOffset, OwnBox, AreaBox};
-ghost use Rattle.box_rules.specs.BoxRules.{confined as BoxRules·confined, confinedW3c, offsetBox, boxCheck};
+ghost use Rattle.box_rules.specs.BoxRules.{confined as BoxRules·confined, confinedW3c, offsetBox};
 
 // A box with its radii confined by the crate rule.
 pub fn confined(b: RoundedRectangle) -> RoundedRectangle
@@ -55,15 +54,4 @@ pub fn offset_w3c_box(b: RoundedRectangle, k: i32) -> RoundedRectangle
     ensures { λ r. ⌜ (r ≡ confinedW3c (offsetBox (confinedW3c b) k)) × AreaBox r ⌝ }
 {
     confined_w3c(offset_box(confined_w3c(b), k))
-}
-
-// Refusals 1, 2 and 3 of a box.
-pub fn check_box(b: RoundedRectangle) -> Checked
-    ensures { λ r. ⌜ r ≡ boxCheck b ⌝ }
-{
-    let rectangle = b.rectangle;
-    let corners = b.corners;
-    let size = geometry::check_size(rectangle.size);
-    let position = geometry::check_position(rectangle.top_left);
-    size.or_else(corners.check()).or_else(position)
 }

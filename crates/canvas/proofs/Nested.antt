@@ -12,7 +12,7 @@ use lib.Signed.{leZ, ltZ}
 use Rattle.signed.proofs.Laws.{int}
 use Rattle.range.specs.declared.Range.{Range}
 use Rattle.range.specs.Range.{contains}
-use Rattle.scanline.specs.declared.StyledScanline.{StyledScanline}
+use Rattle.scanline.specs.declared.StyledRuns.{StyledRuns}
 use Rattle.style.specs.declared.Paint.{Paint}
 use Rattle.style.specs.declared.Paint.the-variants.{Absent, Colour}
 use Rattle.style.specs.declared.Style.{Style}
@@ -73,7 +73,7 @@ beside-fill a true false q u true f g h k off = either a u k
 beside-fill a true false q u false f g h k off = absurd (false≢true (h refl))
 beside-fill a false false q u v f g h k off = absurd (false≢true (f refl))
 
-module _ (runs : StyledScanline) (fill : Paint) (nested : Nested runs fill) (x : ℤ) where
+module _ (runs : StyledRuns) (fill : Paint) (nested : Nested runs fill) (x : ℤ) where
   fill-holds : contains (runs .fill) x ≡ true → contains (runs .«stroke_right») x ≡ false
   fill-holds =
       let after = nested .right-after in
@@ -109,7 +109,7 @@ run-over-empty e paint row =
 
 -- ---- the row
 -- the whole run, the fill, and no right run
-abbrev pub mergedRuns : StyledScanline → StyledScanline
+abbrev pub mergedRuns : StyledRuns → StyledRuns
 mergedRuns runs =
     record {
       «stroke_left» = wholeRun runs;
@@ -117,7 +117,7 @@ mergedRuns runs =
       «stroke_right» = record { start = runs .«stroke_right» .end; end = runs .«stroke_right» .end };
     }
 
-module _ (style : Style) (runs : StyledScanline) (nested : Nested runs (style .fill)) (row : List ℕ) where
+module _ (style : Style) (runs : StyledRuns) (nested : Nested runs (style .fill)) (row : List ℕ) where
   abbrev under-fill : List ℕ
   under-fill = runOver (wholeRun runs) (style .stroke) row
 

@@ -11,7 +11,7 @@ use lib.Signed.{leZ, ltZ}
 use Rattle.signed.proofs.Laws.{ltZ-true, lt-leZ}
 use Rattle.range.specs.declared.Range.{Range}
 use Rattle.range.specs.Range.{contains}
-use Rattle.scanline.specs.declared.StyledScanline.{StyledScanline}
+use Rattle.scanline.specs.declared.StyledRuns.{StyledRuns}
 use Rattle.scanline.specs.declared.StyledRow.{StyledRow}
 use Rattle.scanline.specs.declared.StyledRow.the-variants.{Runs, NoRow}
 use Rattle.style.specs.declared.Paint.{Paint}
@@ -22,7 +22,7 @@ use Rattle.canvas.specs.Canvas.{overpaintRuns, overpaint}
 use Rattle.canvas_run.proofs.Runs.{run-over-length, run-over-byte}
 
 -- ---- length
-pub overpaint-runs-length : (style : Style) (runs : StyledScanline) (row : List ℕ)
+pub overpaint-runs-length : (style : Style) (runs : StyledRuns) (row : List ℕ)
     → length (overpaintRuns style runs row) ≡ length row
 unfolding overpaintRuns
 overpaint-runs-length style runs row = run-over-length _ _ _ ∙ run-over-length _ _ _ ∙ run-over-length _ _ _
@@ -32,7 +32,7 @@ overpaint-length style (Runs runs) row = overpaint-runs-length style runs row
 overpaint-length style NoRow row = refl
 
 -- ---- byte k, of any three runs: under left, then fill, then right
-pub overpaint-runs-byte : (style : Style) (runs : StyledScanline) (row : List ℕ) (k : ℕ) → k < length row
+pub overpaint-runs-byte : (style : Style) (runs : StyledRuns) (row : List ℕ) (k : ℕ) → k < length row
     → getD (overpaintRuns style runs row) k 0
     ≡ byteOver (runs .«stroke_right») (style .stroke) k
     (byteOver (runs .fill) (style .fill) k (byteOver (runs .«stroke_left») (style .stroke) k (getD row k 0)))
@@ -48,7 +48,7 @@ overpaint-runs-byte style runs row k h =
     ∙ ap (byteOver (runs .fill) (style .fill) k) (run-over-byte (runs .«stroke_left») (style .stroke) row k h))
 
 -- ---- the runs of a styled row meet: left ends where fill starts, and fill where right starts
-pub record Meet (runs : StyledScanline) : Type 0 where
+pub record Meet (runs : StyledRuns) : Type 0 where
   pub left-fill : runs .«stroke_left» .end ≡ runs .fill .start
   pub fill-right : runs .fill .end ≡ runs .«stroke_right» .start
 
@@ -66,7 +66,7 @@ meeting-runs-apart a b x e = by-tests (leZ (a .start) x) (ltZ x (a .end)) refl
 
 -- byte k of a row overpainted by runs that meet, as the paper has it: the stroke in either stroke run, the fill in the fill
 -- run, else what was there
-pub overpaint-pixel : (style : Style) (runs : StyledScanline) (row : List ℕ) (k : ℕ) → Meet runs → k < length row
+pub overpaint-pixel : (style : Style) (runs : StyledRuns) (row : List ℕ) (k : ℕ) → Meet runs → k < length row
     → getD (overpaintRuns style runs row) k 0
     ≡ cond (contains (runs .«stroke_left») (pos k) || contains (runs .«stroke_right») (pos k))
     (under (style .stroke) (getD row k 0))

@@ -6,17 +6,17 @@ use mathlib.Core.Bool.{true}
 use Prim.Native.Nat.{ℕ}
 use lib.Signed.{leZ}
 use Rattle.range.specs.declared.Range.{Range}
-use Rattle.scanline.specs.declared.StyledScanline.{StyledScanline}
+use Rattle.scanline.specs.declared.StyledRuns.{StyledRuns}
 use Rattle.style.specs.declared.Paint.{Paint}
 use Rattle.style.specs.declared.Paint.the-variants.{Colour}
 
 -- from the start of the left stroke to the end of the right one
-abbrev pub wholeRun : StyledScanline → Range
+abbrev pub wholeRun : StyledRuns → Range
 wholeRun runs = record { start = runs .«stroke_left» .start; end = runs .«stroke_right» .end }
 
 -- the fill hides what lies under it, nothing is left open between it and the strokes, the right stroke begins where it ends, and
 -- neither stroke leaves the whole run
-pub record Nested (runs : StyledScanline) (fill : Paint) : Type 0 where
+pub record Nested (runs : StyledRuns) (fill : Paint) : Type 0 where
   pub colour : ℕ
   pub fill-is : fill ≡ Colour colour
   pub left-reaches : leZ (runs .fill .start) (runs .«stroke_left» .end) ≡ true

@@ -4,7 +4,7 @@
 use canvas_run::clip;
 use canvas_run::paint_run;
 use range::Range;
-use scanline::StyledScanline;
+use scanline::StyledRuns;
 use style::Paint;
 use style::Style;
 ghost use mathlib.Core.Path.{_≡_};
@@ -22,7 +22,7 @@ const SHORT: u32 = 256;
 
 // Whether a row of this width is painted by the whole run and the fill over it: where that comes to
 // the same, and the run is short.
-fn is_nested(runs: StyledScanline, fill: Paint, width: u32) -> bool
+fn is_nested(runs: StyledRuns, fill: Paint, width: u32) -> bool
     ensures { λ r. ⌜ (r ≡ true → Nested runs fill) ⌝ }
 {
     let Paint::Colour(_) = fill else {
@@ -57,7 +57,7 @@ fn is_nested(runs: StyledScanline, fill: Paint, width: u32) -> bool
 }
 
 // Runs that paint the same: where the fill may be painted over the whole run, that and no right run.
-fn merged(runs: StyledScanline, style: Style, width: u32) -> StyledScanline
+fn merged(runs: StyledRuns, style: Style, width: u32) -> StyledRuns
     ensures { λ r. ⌜ ((row : List ℕ) → overpaintRuns style r row ≡ overpaintRuns style runs row) ⌝ }
 {
     let paint = style.fill;
@@ -67,7 +67,7 @@ fn merged(runs: StyledScanline, style: Style, width: u32) -> StyledScanline
     let left = runs.stroke_left;
     let inner = runs.fill;
     let right = runs.stroke_right;
-    StyledScanline {
+    StyledRuns {
         stroke_left: Range {
             start: left.start,
             end: right.end,
@@ -81,7 +81,7 @@ fn merged(runs: StyledScanline, style: Style, width: u32) -> StyledScanline
 }
 
 // Overpaints a row by a styled row.
-pub fn paint_row(row: &mut [u8], scanline: StyledScanline, style: Style)
+pub fn paint_row(row: &mut [u8], scanline: StyledRuns, style: Style)
     requires { ⌜ length (now row) ≤ wideSide ⌝ }
     ensures { λ _. ⌜ now (row .exit) ≡ overpaintRuns style scanline (now (row .entry)) ⌝ }
 {
@@ -95,7 +95,7 @@ pub fn paint_row(row: &mut [u8], scanline: StyledScanline, style: Style)
 
 // Overpaints row y of a canvas of this width by a styled row: the row's part of the canvas is lent
 // onward, and every byte outside it stays.
-pub fn paint_row_at(canvas: &mut [u8], width: u32, y: u32, scanline: StyledScanline, style: Style)
+pub fn paint_row_at(canvas: &mut [u8], width: u32, y: u32, scanline: StyledRuns, style: Style)
     requires { ⌜ width ≤ wideSide ⌝ }
     requires { ⌜ y * width + width ≤ length (now canvas) ⌝ }
     ensures { λ _. ⌜ now (canvas .exit) ≡ overpaintAt width y style scanline (now (canvas .entry)) ⌝ }

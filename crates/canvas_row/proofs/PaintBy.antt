@@ -12,7 +12,7 @@ use lib.Signed.{ltZ}
 use Rattle.signed.specs.Signed.{floor0}
 use Rattle.signed.proofs.Laws.{int}
 use Rattle.scanline.specs.declared.StyledRow.{StyledRow}
-use Rattle.scanline.specs.declared.StyledScanline.{StyledScanline}
+use Rattle.scanline.specs.declared.StyledRuns.{StyledRuns}
 use Rattle.scanline.specs.declared.StyledRow.the-variants.{Runs, NoRow}
 use Rattle.style.specs.declared.Style.{Style}
 use Rattle.book.specs.Canvas.{canvasRow, putRow}
@@ -64,6 +64,6 @@ module _ (rowAt : ℤ → StyledRow) (style : Style) (W H : ℕ) (canvas : List 
   paint-by-on (negsuc y) from low = absurd (omega (arith, int))
 
   module _ (y : ℤ) (from : ltZ y (pos 0) ≡ false) (low : floor0 y < H) where
-    pub paint-by-runs : (runs : StyledScanline) → rowAt y ≡ Runs runs
+    pub paint-by-runs : (runs : StyledRuns) → rowAt y ≡ Runs runs
         → paintBy rowAt style W H y canvas ≡ overpaintAt W (floor0 y) style runs canvas
     paint-by-runs runs is = paint-by-on y from low ∙ ap (λ (row : StyledRow). with row y) is

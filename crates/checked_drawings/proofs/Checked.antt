@@ -1,4 +1,4 @@
--- The checked drawings hold: each definition computes to what the paper says.
+-- The checked drawings hold: each definition computes to what the paper says; and so do our own.
 -- Assumes nothing.
 use mathlib.Core.Path.{_≡_, refl}
 use mathlib.Core.List.{map}
@@ -18,7 +18,13 @@ use Rattle.box_fill.specs.BoxFill.{fillRun}
 use Rattle.shape_row.specs.StyledRow.{boxStyledRow, styledRowOfShapes}
 use Rattle.style.specs.Style.{outsideStrokeWidth, insideStrokeWidth}
 use Rattle.checked_drawings.specs.Cases.{countRows, cases}
+use Rattle.checked_drawings.specs.OwnCases.{ownCases}
 
 pub checked-drawings : map (λ c. c .drawn) cases ≡ map (λ c. c .said) cases
 unfolding countRows entries Ellipse·row offsetRadius offsetCorner CornerRadii·offset contains offsetBox center withCenter offsetSide offset firstColumn lastColumn runPoints pointsFrom center2x fromCenter2x threshold inside insideAbout scanline hasRows rowCount scaledCorner scaled reduced overlap furtherOver tighter someOver confine confineW3c insideTopLeft insideTopRight insideBottomRight insideBottomLeft runStart runEnd row confined confinedW3c pointsOfShape ellipseStyledRow fillRun boxStyledRow styledRowOfShapes outsideStrokeWidth insideStrokeWidth
 checked-drawings = refl
+
+-- drawings of our own
+pub own-drawings : map (λ c. c .drawn) ownCases ≡ map (λ c. c .said) ownCases
+unfolding entries Ellipse·row offsetRadius offsetCorner CornerRadii·offset contains offsetBox center withCenter offsetSide offset firstColumn lastColumn runPoints pointsFrom center2x fromCenter2x threshold inside insideAbout scanline hasRows rowCount scaledCorner scaled reduced overlap furtherOver tighter someOver confine confineW3c insideTopLeft insideTopRight insideBottomRight insideBottomLeft runStart runEnd row confined confinedW3c pointsOfShape ellipseStyledRow fillRun boxStyledRow styledRowOfShapes outsideStrokeWidth insideStrokeWidth
+own-drawings = refl

@@ -6,9 +6,9 @@ use Prim.Native.Nat.{_+_}
 use lib.IntN.{ℤ}
 use Rattle.geometry.specs.declared.Size.{Size}
 use Rattle.refusal.specs.declared.Checked.{Checked}
-use Rattle.refusal.specs.Refusal.{orElse}
--- 2, at one corner: its width or its height above the limit
-unfoldable pub use Rattle.radius.specs.Radius.{radiusCheck}
+use Rattle.refusal.specs.declared.Refusal.the-variants.{Radius}
+use Rattle.refusal.specs.Refusal.{refuseIf, orElse, above}
+use Rattle.geometry.specs.Limits.{maxRadius}
 use Rattle.edge.specs.declared.Edge.{Edge}
 use Rattle.edge.specs.declared.Edges.{Edges}
 use Rattle.edge.specs.Edge.{over, mostOver, tightest, someOver}
@@ -30,6 +30,10 @@ abbrev pub equalRadii : Size → CornerRadii
 equalRadii r = record { «top_left» = r; «top_right» = r; «bottom_right» = r; «bottom_left» = r }
 
 -- ---- 'The records'
+-- 2, at one corner: its width or its height above the limit
+unfoldable pub radiusCheck : Size → Checked
+radiusCheck r = orElse (refuseIf (above maxRadius (r .width)) Radius) (refuseIf (above maxRadius (r .height)) Radius)
+
 -- 2: some radius number above the limit
 unfoldable pub radiiCheck : CornerRadii → Checked
 radiiCheck r =

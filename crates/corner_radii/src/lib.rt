@@ -8,8 +8,9 @@ use corner::scale_corner;
 use edge::Edge;
 use edge::Edges;
 use geometry::Size;
-use radius::check_radius;
 use refusal::Checked;
+use refusal::Refusal;
+use refusal::refuse_above;
 ghost use mathlib.Core.Path.{_≡_};
 ghost use Prim.Native.Nat.{_<_};
 ghost use Rattle.signed.specs.Signed.{Near};
@@ -17,7 +18,7 @@ ghost use Rattle.geometry.specs.Bounds.{wideSide, SizeUpTo};
 ghost use Rattle.edge.specs.Bounds.{BoundedEdge, BoundedEdges};
 ghost use Rattle.corner.specs.Bounds.{wideRadius, wideStrokeSide};
 ghost use Rattle.corner_radii.specs.Bounds.{RadiiUpTo};
-ghost use Rattle.corner_radii.specs.CornerRadii.{equalRadii, radiiCheck, offset as CornerRadii·offset, edges as CornerRadii·edges, scaled, reduced, confine as CornerRadii·confine, confineW3c};
+ghost use Rattle.corner_radii.specs.CornerRadii.{equalRadii, radiusCheck, radiiCheck, offset as CornerRadii·offset, edges as CornerRadii·edges, scaled, reduced, confine as CornerRadii·confine, confineW3c};
 
 pub struct CornerRadii {
     pub top_left: Size,
@@ -26,9 +27,18 @@ pub struct CornerRadii {
     pub bottom_left: Size,
 }
 
+// Refusal 2 of one corner.
+fn check_radius(radius: Size) -> Checked
+    ensures { λ r. ⌜ r ≡ radiusCheck radius ⌝ }
+{
+    let width = refuse_above(CornerRadii::MAX_RADIUS, radius.width, Refusal::Radius);
+    let height = refuse_above(CornerRadii::MAX_RADIUS, radius.height, Refusal::Radius);
+    width.or_else(height)
+}
+
 impl CornerRadii {
     // The largest width and height of a corner radius (refusal 2).
-    pub const MAX_RADIUS: u32 = radius::MAX_RADIUS;
+    pub const MAX_RADIUS: u32 = 1024;
 
     // All corners equal.
     pub fn new(radius: Size) -> CornerRadii

@@ -6,7 +6,7 @@ use Rattle.range.specs.declared.Range.{Range}
 use Rattle.rectangle.specs.declared.Rectangle.{Rectangle}
 use Rattle.scanline.specs.declared.Row.{Row}
 use Rattle.scanline.specs.declared.Row.the-variants as row-of
-use Rattle.scanline.specs.declared.StyledScanline.{StyledScanline}
+use Rattle.scanline.specs.declared.StyledRuns.{StyledRuns}
 use Rattle.scanline.specs.declared.StyledRow.{StyledRow}
 use Rattle.scanline.specs.declared.StyledRow.the-variants.{Runs, NoRow}
 use Rattle.scanline.specs.Columns.{Column, found, none, firstColumn}
@@ -15,7 +15,7 @@ use Rattle.ellipse.specs.Ellipse.{insideAbout}
 use Rattle.ellipse_points.specs.EllipsePoints.{row}
 
 -- the stroke area's run s..e around a fill: left is s..fill start, right is fill end..e
-abbrev pub aroundFill : Range → Range → StyledScanline
+abbrev pub aroundFill : Range → Range → StyledRuns
 aroundFill run fill =
     record {
       «stroke_left» = record { start = run .start; end = fill .start };

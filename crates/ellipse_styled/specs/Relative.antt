@@ -3,7 +3,7 @@
 use mathlib.Core.Path.{_≡_}
 use Prim.Native.Nat.{ℕ}
 use lib.IntN.{ℤ, pos, _+ℤ_, _-ℤ_}
-use Rattle.scanline.specs.declared.StyledScanline.{StyledScanline}
+use Rattle.scanline.specs.declared.StyledRuns.{StyledRuns}
 use Rattle.scanline.specs.declared.Place.{Place}
 use Rattle.scanline.specs.declared.Place.the-variants.{At, Nowhere}
 use Rattle.rectangle.specs.Bounds.{Bounded}
@@ -19,7 +19,7 @@ abbrev pub fromRightEdge : ℤ → ℕ → ℕ → ℤ
 fromRightEdge left w k = left +ℤ pos w -ℤ pos k
 
 -- the three runs of a row of w columns whose stroke starts at place s and whose fill starts at a place, if anywhere
-abbrev pub runsFrom : ℤ → ℕ → ℕ → Place → StyledScanline
+abbrev pub runsFrom : ℤ → ℕ → ℕ → Place → StyledRuns
 runsFrom left w s (At c) =
     record {
       «stroke_left» = record { start = fromLeftEdge left s; end = fromLeftEdge left c };

@@ -9,7 +9,7 @@ use range::Range;
 use rectangle::Rectangle;
 use scanline::Place;
 use scanline::StyledRow;
-use scanline::StyledScanline;
+use scanline::StyledRuns;
 ghost use mathlib.Core.Path.{_≡_};
 ghost use Prim.Native.Nat.{_*_, _-_, _<_, _≤_};
 ghost use Rattle.signed.specs.Signed.{Near};
@@ -46,19 +46,19 @@ pub struct EllipseRow {
 
 // The runs of a row, and the hint for the next row's fill.
 struct HintedRuns {
-    runs: StyledScanline,
+    runs: StyledRuns,
     hint: u32,
 }
 
 // The runs of a row of `width` columns whose stroke starts at place s and whose fill starts at c.
-pub fn filled_runs(left: i32, width: u32, s: u32, c: u32) -> StyledScanline
+pub fn filled_runs(left: i32, width: u32, s: u32, c: u32) -> StyledRuns
     requires { ⌜ Near widePoint left ⌝ }
     requires { ⌜ (width ≤ wideSide) × (s ≤ width) × (c ≤ width) ⌝ }
     ensures { λ r. ⌜ r ≡ runsFrom left width s (At c) ⌝ }
 {
     let fill_start = scanline::from_first(left, c);
     let fill_end = scanline::before_end(left, width, c);
-    StyledScanline {
+    StyledRuns {
         stroke_left: Range {
             start: scanline::from_first(left, s),
             end: fill_start,
@@ -75,13 +75,13 @@ pub fn filled_runs(left: i32, width: u32, s: u32, c: u32) -> StyledScanline
 }
 
 // The runs of a row without fill: all of it is left stroke.
-pub fn hollow_runs(left: i32, width: u32, s: u32) -> StyledScanline
+pub fn hollow_runs(left: i32, width: u32, s: u32) -> StyledRuns
     requires { ⌜ Near widePoint left ⌝ }
     requires { ⌜ (width ≤ wideSide) × (s ≤ width) ⌝ }
     ensures { λ r. ⌜ r ≡ runsFrom left width s Nowhere ⌝ }
 {
     let end = scanline::before_end(left, width, s);
-    StyledScanline {
+    StyledRuns {
         stroke_left: Range {
             start: scanline::from_first(left, s),
             end: end,

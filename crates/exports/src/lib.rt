@@ -20,7 +20,7 @@ pub extern "C" fn wunqaber_contains(figure: &[i32], x: i32, y: i32, out: &mut [i
     host_figures::contains(figure, x, y, out)
 }
 
-// The run of a row. Refused by 1, 2, 3, 4 and 13.
+// A row's y and its run. Refused by 1, 2, 3, 4 and 13.
 #[no_mangle]
 pub extern "C" fn wunqaber_row(figure: &[i32], y: i32, out: &mut [i32]) -> u32
     ensures { λ r. ⌜ Tells (rowSaid (now (figure .entry)) y) (now (out .entry)) r (now (out .exit)) ⌝ }
@@ -67,7 +67,7 @@ pub extern "C" fn wunqaber_ellipse_with_center(
     host_figures::ellipse_with_center(x, y, width, height, out)
 }
 
-// The three runs of a styled row. Refused by 1, 2, 3, 4, 5 and 13.
+// A styled row's y and its three runs. Refused by 1, 2, 3, 4, 5 and 13.
 #[no_mangle]
 pub extern "C" fn wunqaber_styled_row(figure: &[i32], style: &[i32], y: i32, out: &mut [i32]) -> u32
     ensures { λ r. ⌜ Tells (styledRowSaid (now (figure .entry)) (now (style .entry)) y) (now (out .entry)) r (now (out .exit)) ⌝ }

@@ -12,6 +12,7 @@ use Rattle.rectangle.specs.declared.Rectangle.{Rectangle}
 use Rattle.refusal.specs.declared.Checked.{Checked}
 use Rattle.refusal.specs.declared.Checked.the-variants.{Passed, Refused}
 use Rattle.refusal.specs.Refusal.{orElse, refused, answered, unless}
+use Rattle.refusal.proofs.Checks.{passed-first, passed-next}
 use Rattle.rectangle.specs.Calls.{rectangleValues}
 use Rattle.geometry.specs.Checks.{sizeCheck, positionCheck}
 use Rattle.rectangle.specs.Rectangle.{withCenter}
@@ -23,12 +24,30 @@ use Rattle.figure.specs.declared.Figure.the-variants.{Ellipse, CrateBox,
 use Rattle.shape.specs.declared.Shape.the-variants as shape-of
 use Rattle.figure.specs.Figure.{confined, confinedW3c, shape}
 use Rattle.figure.specs.Bounds.{OwnFigure, BoundedFigure}
-use Rattle.figure.specs.Calls.{figureCheck, radiiValues, figureValues, confinedValues}
+use Rattle.figure.specs.Calls.{sidesCheck, cornersCheck, placeCheck, figureCheck, radiiValues, figureValues, confinedValues}
+
+-- each of the three checks has passed
+pub record FigureChecked (f : Figure) : Type 0 where
+  pub sides : sidesCheck f ≡ Passed
+  pub corners : cornersCheck f ≡ Passed
+  pub place : placeCheck f ≡ Passed
+
+pub figure-checked : (f : Figure) → figureCheck f ≡ Passed → FigureChecked f
+figure-checked f e =
+    let two = passed-first (orElse (sidesCheck f) (cornersCheck f)) (placeCheck f) e in
+    record {
+      sides = passed-first (sidesCheck f) (cornersCheck f) two;
+      corners = passed-next (sidesCheck f) (cornersCheck f) two;
+      place = passed-next (orElse (sidesCheck f) (cornersCheck f)) (placeCheck f) e;
+    }
 
 pub figure-passed : (f : Figure) → figureCheck f ≡ Passed → OwnFigure f
-figure-passed (Ellipse r) e = own-rectangle-passed r e
-figure-passed (CrateBox b) e = own-box-passed b e
-figure-passed (W3cBox b) e = own-box-passed b e
+figure-passed f e = by-kind f (figure-checked f e)
+  where
+    by-kind : (f : Figure) → FigureChecked f → OwnFigure f
+    by-kind (Ellipse r) passed = own-rectangle-passed r (passed .sides) (passed .place)
+    by-kind (CrateBox b) passed = own-box-passed b (passed .sides) (passed .corners) (passed .place)
+    by-kind (W3cBox b) passed = own-box-passed b (passed .sides) (passed .corners) (passed .place)
 
 pub own-figure-bounded : (f : Figure) → OwnFigure f → BoundedFigure f
 own-figure-bounded (Ellipse r) o = own-area r o

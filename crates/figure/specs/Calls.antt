@@ -6,15 +6,17 @@ use lib.IntN.{ℤ, pos}
 use Rattle.geometry.specs.declared.Point.{Point}
 use Rattle.geometry.specs.declared.Size.{Size}
 use Rattle.refusal.specs.declared.Checked.{Checked}
+use Rattle.refusal.specs.declared.Checked.the-variants.{Passed}
 use Rattle.refusal.specs.Refusal.{number, orElse, Outcome, refused, answered, unless}
-use Rattle.rectangle.specs.Calls.{rangeValues, rectangleValues, rectangleCheck}
+use Rattle.rectangle.specs.Calls.{rangeValues, rectangleValues}
 use Rattle.geometry.specs.Checks.{sizeCheck, positionCheck, askedCheck, pointCheck, offsetCheck}
 use Rattle.rectangle.specs.Rectangle.{withCenter}
+use Rattle.scanline.specs.declared.Scanline.{Scanline}
 use Rattle.scanline.specs.declared.Row.{Row}
 use Rattle.scanline.specs.declared.Row.the-variants as row-of
 use Rattle.corner_radii.specs.declared.CornerRadii.{CornerRadii}
+use Rattle.corner_radii.specs.CornerRadii.{radiiCheck}
 use Rattle.rounded_rectangle.specs.declared.RoundedRectangle.{RoundedRectangle}
-unfoldable pub use Rattle.box_rules.specs.BoxRules.{boxCheck}
 use Rattle.figure.specs.declared.Figure.{Figure}
 use Rattle.figure.specs.declared.Figure.the-variants.{Ellipse, CrateBox, W3cBox}
 use Rattle.figure.specs.declared.calls.ContainsAnswer.{ContainsAnswer}
@@ -25,13 +27,27 @@ use Rattle.figure.specs.declared.calls.FigureAnswer.{FigureAnswer}
 use Rattle.figure.specs.declared.calls.FigureAnswer.the-variants as figure-answer
 use Rattle.figure.specs.declared.calls.RadiiAnswer.{RadiiAnswer}
 use Rattle.figure.specs.declared.calls.RadiiAnswer.the-variants as radii-answer
-use Rattle.figure.specs.Figure.{confined, confinedW3c, offset, contains, row}
+use Rattle.figure.specs.Figure.{ownRectangle, confined, confinedW3c, offset, contains, row}
 
--- 1, 2 and 3 of a figure; an ellipse has no radii
+-- ---- What is refused of a figure ('The records', the table), number by number.
+
+-- 1: a side above the limit
+abbrev pub sidesCheck : Figure → Checked
+sidesCheck f = sizeCheck (ownRectangle f .size)
+
+-- 2: a radius above the limit; an ellipse has none
+abbrev pub cornersCheck : Figure → Checked
+cornersCheck (Ellipse r) = Passed
+cornersCheck (CrateBox b) = radiiCheck (b .corners)
+cornersCheck (W3cBox b) = radiiCheck (b .corners)
+
+-- 3: x or y beyond the limit
+abbrev pub placeCheck : Figure → Checked
+placeCheck f = positionCheck (ownRectangle f .«top_left»)
+
+-- the lowest of them that applies
 abbrev pub figureCheck : Figure → Checked
-figureCheck (Ellipse r) = rectangleCheck r
-figureCheck (CrateBox b) = boxCheck b
-figureCheck (W3cBox b) = boxCheck b
+figureCheck f = orElse (orElse (sidesCheck f) (cornersCheck f)) (placeCheck f)
 
 -- ---- what each answer says
 -- 1 for inside, 0 for outside
@@ -43,14 +59,19 @@ abbrev pub containsOutcome : ContainsAnswer → Outcome
 containsOutcome (contains-answer.Refused refusal) = refused (number refusal)
 containsOutcome (contains-answer.Answered inside) = answered (flag inside ∷ [])
 
--- a row: the run's ends as computed; no values for 'no row'
-abbrev pub rowValues : Row → List ℤ
-rowValues (row-of.Run r) = rangeValues r
-rowValues row-of.NoRow = []
+-- a row: its y, and the run's ends as computed; no values for 'no row'
+abbrev pub scanlineValues : Scanline → List ℤ
+scanlineValues s = s .y ∷ rangeValues (s .x)
 
 abbrev pub rowOutcome : RowAnswer → Outcome
 rowOutcome (row-answer.Refused refusal) = refused (number refusal)
-rowOutcome (row-answer.Answered r) = answered (rowValues r)
+rowOutcome row-answer.NoRow = answered []
+rowOutcome (row-answer.Row s) = answered (scanlineValues s)
+
+-- the values of the row at y
+abbrev pub rowValues : ℤ → Row → List ℤ
+rowValues y (row-of.Run r) = scanlineValues (record { y = y; x = r })
+rowValues y row-of.NoRow = []
 
 -- radii: width and height of each corner, clockwise from the top-left
 abbrev pub sizeValues : Size → List ℤ
@@ -82,7 +103,7 @@ containsCall f p = unless (orElse (figureCheck f) (pointCheck p)) (flag (contain
 
 -- `row`: 1, 2, 3, 4
 abbrev pub rowCall : Figure → ℤ → Outcome
-rowCall f y = unless (orElse (figureCheck f) (askedCheck y)) (rowValues (row f y))
+rowCall f y = unless (orElse (figureCheck f) (askedCheck y)) (rowValues y (row f y))
 
 -- `offset`: 1, 2, 3, 5
 abbrev pub figureOffsetCall : Figure → ℤ → Outcome

@@ -5,6 +5,7 @@ use mathlib.Core.Bool.{Bool}
 use mathlib.Core.List.{List}
 use lib.IntN.{ℤ}
 use Rattle.geometry.specs.declared.Point.{Point}
+use Rattle.rectangle.specs.declared.Rectangle.{Rectangle}
 use Rattle.rectangle.specs.Rectangle.{offset as Rectangle·offset}
 use Rattle.scanline.specs.declared.Row.{Row}
 unfoldable pub use Rattle.box_rules.specs.BoxRules.{confined, confinedW3c, offsetBox}
@@ -15,6 +16,12 @@ use Rattle.shape.specs.declared.Shape.the-variants as shape-of
 -- a shape's rectangle, test, rows and points, by its kind
 pub use Rattle.shape.specs.Shape.{rectangle, containsShape, rowOfShape}
 unfoldable pub use Rattle.shape.specs.Shape.{pointsOfShape}
+
+-- the rectangle of a figure as it is given ('The records')
+abbrev pub ownRectangle : Figure → Rectangle
+ownRectangle (Ellipse r) = r
+ownRectangle (CrateBox b) = b .rectangle
+ownRectangle (W3cBox b) = b .rectangle
 
 -- a figure offset by k: a crate box is not confined; a W3C box is confined, offset like a crate box, confined again
 abbrev pub offset : Figure → ℤ → Figure

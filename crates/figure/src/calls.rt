@@ -13,6 +13,7 @@ use rectangle::RectangleAnswer;
 use refusal::Checked;
 use refusal::Refusal;
 use scanline::Row;
+use scanline::Scanline;
 ghost use mathlib.Core.Path.{_≡_};
 ghost use Rattle.figure.specs.Calls.{containsOutcome, rowOutcome, figureOutcome, radiiOutcome, containsCall, rowCall, figureOffsetCall, confinedRadiiCall, ellipseWithCenterCall};
 
@@ -23,7 +24,8 @@ pub enum ContainsAnswer {
 
 pub enum RowAnswer {
     Refused(Refusal),
-    Answered(Row),
+    NoRow,
+    Row(Scanline),
 }
 
 pub enum FigureAnswer {
@@ -42,44 +44,51 @@ impl Figure {
     pub fn contains(self, point: Point) -> ContainsAnswer
         ensures { λ r. ⌜ containsOutcome r ≡ containsCall self point ⌝ }
     {
-        let Checked::Refused(refusal) = self.check().or_else(check_point(point)) else {
-            return ContainsAnswer::Answered(self.shape().contains(point));
+        let checked = self.check().or_else(check_point(point));
+        let Checked::Passed = checked else {
+            return ContainsAnswer::Refused(checked.refusal());
         };
-        ContainsAnswer::Refused(refusal)
+        ContainsAnswer::Answered(self.shape().contains(point))
     }
 
     // The row at y, or that there is none. Refused by 1, 2, 3 and 4.
     pub fn row(self, y: i32) -> RowAnswer
         ensures { λ r. ⌜ rowOutcome r ≡ rowCall self y ⌝ }
     {
-        let Checked::Refused(refusal) = self.check().or_else(check_row(y)) else {
-            return RowAnswer::Answered(self.shape().row(y));
+        let checked = self.check().or_else(check_row(y));
+        let Checked::Passed = checked else {
+            return RowAnswer::Refused(checked.refusal());
         };
-        RowAnswer::Refused(refusal)
+        let Row::Run(run) = self.shape().row(y) else {
+            return RowAnswer::NoRow;
+        };
+        RowAnswer::Row(Scanline { y: y, x: run })
     }
 
     // The figure offset by k. Refused by 1, 2, 3 and 5.
     pub fn offset(self, k: i32) -> FigureAnswer
         ensures { λ r. ⌜ figureOutcome r ≡ figureOffsetCall self k ⌝ }
     {
-        let Checked::Refused(refusal) = self.check().or_else(check_offset(k)) else {
-            return FigureAnswer::Answered(self.offset_by(k));
+        let checked = self.check().or_else(check_offset(k));
+        let Checked::Passed = checked else {
+            return FigureAnswer::Refused(checked.refusal());
         };
-        FigureAnswer::Refused(refusal)
+        FigureAnswer::Answered(self.offset_by(k))
     }
 
     // The radii as they are confined to the box. Refused by 1, 2 and 3.
     pub fn confined_radii(self) -> RadiiAnswer
         ensures { λ r. ⌜ radiiOutcome r ≡ confinedRadiiCall self ⌝ }
     {
-        let Checked::Refused(refusal) = self.check() else {
-            let Shape::RoundedBox(b) = self.shape() else {
-                return RadiiAnswer::NoCorners;
-            };
-            let corners = b.corners;
-            return RadiiAnswer::Radii(corners);
+        let checked = self.check();
+        let Checked::Passed = checked else {
+            return RadiiAnswer::Refused(checked.refusal());
         };
-        RadiiAnswer::Refused(refusal)
+        let Shape::RoundedBox(b) = self.shape() else {
+            return RadiiAnswer::NoCorners;
+        };
+        let corners = b.corners;
+        RadiiAnswer::Radii(corners)
     }
 
     // The ellipse of a size about a centre. Refused by 1, and by 3 for the rectangle that it makes.

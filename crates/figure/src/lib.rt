@@ -3,11 +3,12 @@
 // (`OffsetOutline`, `confine_radii`); the W3C box is not in the source. The functions of this file
 // are for callers that have made the checks; those that a host calls are in calls.rt. The shape that
 // rows and tests go by is in `shape`.
-use box_rules::check_box;
 use box_rules::confined;
 use box_rules::confined_w3c;
 use box_rules::offset_box;
 use box_rules::offset_w3c_box;
+use geometry::check_position;
+use geometry::check_size;
 use rectangle::Rectangle;
 use refusal::Checked;
 use rounded_rectangle::RoundedRectangle;
@@ -18,8 +19,8 @@ pub mod calls;
 ghost use mathlib.Core.Path.{_≡_};
 ghost use Rattle.signed.specs.Signed.{Near};
 ghost use Rattle.figure.specs.Bounds.{wideOffset, OwnFigure, BoundedFigure, BoundedShape};
-ghost use Rattle.figure.specs.Figure.{offset as Figure·offset, shape as Figure·shape};
-ghost use Rattle.figure.specs.Calls.{figureCheck};
+ghost use Rattle.figure.specs.Figure.{ownRectangle, offset as Figure·offset, shape as Figure·shape};
+ghost use Rattle.figure.specs.Calls.{cornersCheck, figureCheck};
 
 pub enum Figure {
     Ellipse(Rectangle),
@@ -28,15 +29,42 @@ pub enum Figure {
 }
 
 impl Figure {
-    // Refusals 1, 2 and 3.
+    // The rectangle of the figure as it is given.
+    pub fn own_rectangle(self) -> Rectangle
+        ensures { λ r. ⌜ r ≡ ownRectangle self ⌝ }
+    {
+        match self {
+            Figure::Ellipse(rectangle) => rectangle,
+            Figure::CrateBox(b) => b.rectangle,
+            Figure::W3cBox(b) => b.rectangle,
+        }
+    }
+
+    // Refusal 2. An ellipse has no radii.
+    fn check_corners(self) -> Checked
+        ensures { λ r. ⌜ r ≡ cornersCheck self ⌝ }
+    {
+        match self {
+            Figure::Ellipse(_) => Checked::Passed,
+            Figure::CrateBox(b) => {
+                let corners = b.corners;
+                corners.check()
+            }
+            Figure::W3cBox(b) => {
+                let corners = b.corners;
+                corners.check()
+            }
+        }
+    }
+
+    // Refusals 1, 2 and 3: sides, radii, position.
     pub fn check(self) -> Checked
         ensures { λ r. ⌜ r ≡ figureCheck self ⌝ }
     {
-        match self {
-            Figure::Ellipse(rectangle) => rectangle.check(),
-            Figure::CrateBox(b) => check_box(b),
-            Figure::W3cBox(b) => check_box(b),
-        }
+        let rectangle = self.own_rectangle();
+        let sides = check_size(rectangle.size);
+        let position = check_position(rectangle.top_left);
+        sides.or_else(self.check_corners()).or_else(position)
     }
 
     // The figure offset by k. A W3C box is confined before and after.

@@ -47,9 +47,10 @@ pub fn put_numbers(out: &mut [i32], values: &[i32]) -> u32
     ensures { λ r. ⌜ r ≡ checkNumber (roomCheck (length (now (values .entry))) (length (now (out .entry)))) ⌝ }
     ensures { λ _. ⌜ now (out .exit) ≡ keeping (roomCheck (length (now (values .entry))) (length (now (out .entry)))) (now (out .entry)) (sets (now (out .entry)) 0 (now (values .entry))) ⌝ }
 {
-    let Checked::Refused(refusal) = check_room(values.len(), out.len()) else {
-        put_from(out, 0, values);
-        return DONE;
+    let checked = check_room(values.len(), out.len());
+    let Checked::Passed = checked else {
+        return checked.refusal().number();
     };
-    refusal.number()
+    put_from(out, 0, values);
+    DONE
 }

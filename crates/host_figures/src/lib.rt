@@ -33,7 +33,7 @@ pub fn contains(figure: &[i32], x: i32, y: i32, out: &mut [i32]) -> u32
     }
 }
 
-// The run of a row. Refused by 1, 2, 3, 4 and 13.
+// A row's y and its run. Refused by 1, 2, 3, 4 and 13.
 pub fn row(figure: &[i32], y: i32, out: &mut [i32]) -> u32
     ensures { λ r. ⌜ Tells (rowSaid (now (figure .entry)) y) (now (out .entry)) r (now (out .exit)) ⌝ }
 {
@@ -42,7 +42,8 @@ pub fn row(figure: &[i32], y: i32, out: &mut [i32]) -> u32
     }
     match figure_of(figure).row(y) {
         RowAnswer::Refused(refusal) => refusal.number(),
-        RowAnswer::Answered(row) => put_row(row, out),
+        RowAnswer::NoRow => NOTHING,
+        RowAnswer::Row(row) => put_row(row, out),
     }
 }
 

@@ -20,15 +20,12 @@ pub fn write_p5(width: u32, height: u32, canvas: &[u8], file: &mut [u8], out: &m
         height: height,
     };
     let lent = size.check().or_else(size.check_length(canvas.len()));
-    let Checked::Refused(refusal) = lent.or_else(check_room(1, out.len())) else {
-        match netpbm::write_p5(width, height, canvas, file) {
-            WriteAnswer::Refused(short) => {
-                return short.number();
-            }
-            WriteAnswer::Written(n) => {
-                return put_count(n as u32, out);
-            }
-        }
+    let checked = lent.or_else(check_room(1, out.len()));
+    let Checked::Passed = checked else {
+        return checked.refusal().number();
     };
-    refusal.number()
+    match netpbm::write_p5(width, height, canvas, file) {
+        WriteAnswer::Refused(refusal) => refusal.number(),
+        WriteAnswer::Written(n) => put_count(n as u32, out),
+    }
 }

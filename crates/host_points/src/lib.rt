@@ -22,15 +22,12 @@ pub fn points(figure: &[i32], list: &mut [i32], out: &mut [i32]) -> u32
         return NO_RECORD;
     }
     let given = figure_of(figure);
-    let Checked::Refused(refusal) = given.check().or_else(check_room(1, out.len())) else {
-        match points::points(given, list) {
-            PointsAnswer::Refused(short) => {
-                return short.number();
-            }
-            PointsAnswer::Pairs(n) => {
-                return put_count(n, out);
-            }
-        }
+    let checked = given.check().or_else(check_room(1, out.len()));
+    let Checked::Passed = checked else {
+        return checked.refusal().number();
     };
-    refusal.number()
+    match points::points(given, list) {
+        PointsAnswer::Refused(refusal) => refusal.number(),
+        PointsAnswer::Pairs(n) => put_count(n, out),
+    }
 }

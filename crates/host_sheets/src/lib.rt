@@ -16,6 +16,7 @@ use record_paint::check_paint;
 use record_paint::paint_next;
 use refusal::Checked;
 use sheet::SheetAnswer;
+use sheet_calls::number_of;
 use sheet_record::LAYER_LENGTH;
 use sheet_record::SHEET_LENGTH;
 use sheet_record::is_sheet;
@@ -51,13 +52,14 @@ pub fn open(width: u32, height: u32, sheet: &mut [i32]) -> u32
         width: width,
         height: height,
     };
-    let Checked::Refused(refusal) = size.check() else {
-        let mut numbers = unused_places();
-        numbers[0] = held(width);
-        numbers[1] = held(height);
-        return put_numbers(sheet, &numbers);
+    let checked = size.check();
+    let Checked::Passed = checked else {
+        return checked.refusal().number();
     };
-    refusal.number()
+    let mut numbers = unused_places();
+    numbers[0] = held(width);
+    numbers[1] = held(height);
+    put_numbers(sheet, &numbers)
 }
 
 // A figure more on top. Refused by 1, 2, 3, 5, 7 and 9.
@@ -77,18 +79,16 @@ pub fn add(sheet: &mut [i32], figure: &[i32], style: &[i32]) -> u32
     let before = sheet_of(sheet);
     let made = before.add(figure_of(figure), style_of(style));
     let answer = made.answer;
-    match answer {
-        SheetAnswer::Refused(refusal) => refusal.number(),
-        SheetAnswer::Accepted => {
-            let after = made.sheet;
-            let places = after.layers;
-            let place = before.count as usize;
-            let added = places[place];
-            put_layer(sheet, place, figure, style, added.next_row);
-            sheet[2] = signed::from_u32(after.count);
-            DONE
-        }
-    }
+    let SheetAnswer::Accepted = answer else {
+        return number_of(answer);
+    };
+    let after = made.sheet;
+    let places = after.layers;
+    let place = before.count as usize;
+    let added = places[place];
+    put_layer(sheet, place, figure, style, added.next_row);
+    sheet[2] = signed::from_u32(after.count);
+    DONE
 }
 
 // The next row of a layer painted. Refused by 7, 8, 10, 11 and 12.
@@ -100,9 +100,10 @@ pub fn paint(sheet: &mut [i32], layer: u32, canvas: &mut [u8]) -> u32
     if !is_sheet(sheet) {
         return NO_RECORD;
     }
-    let Checked::Refused(refusal) = check_paint(sheet, layer, canvas.len()) else {
-        paint_next(sheet, layer, canvas);
-        return DONE;
+    let checked = check_paint(sheet, layer, canvas.len());
+    let Checked::Passed = checked else {
+        return checked.refusal().number();
     };
-    refusal.number()
+    paint_next(sheet, layer, canvas);
+    DONE
 }

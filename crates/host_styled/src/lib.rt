@@ -1,6 +1,7 @@
 // The calls on styled figures for a host that gives numbers: figure and style are read from them, the
 // call made, and its answer told as one number, with the values in a lent list.
 use host_answers::NO_RECORD;
+use host_answers::NOTHING;
 use host_values::put_rectangle;
 use host_values::put_styled_row;
 use record_numbers::figure_of;
@@ -12,7 +13,7 @@ use styled::StyledRowAnswer;
 ghost use Rattle.host_answers.specs.HostAnswers.{Tells};
 ghost use Rattle.host_styled.specs.Styled.{styledRowSaid, styledBoundingBoxSaid};
 
-// The three runs of a styled row. Refused by 1, 2, 3, 4, 5 and 13.
+// A styled row's y and its three runs. Refused by 1, 2, 3, 4, 5 and 13.
 pub fn styled_row(figure: &[i32], style: &[i32], y: i32, out: &mut [i32]) -> u32
     ensures { λ r. ⌜ Tells (styledRowSaid (now (figure .entry)) (now (style .entry)) y) (now (out .entry)) r (now (out .exit)) ⌝ }
 {
@@ -24,7 +25,8 @@ pub fn styled_row(figure: &[i32], style: &[i32], y: i32, out: &mut [i32]) -> u32
     }
     match styled::styled_row(figure_of(figure), style_of(style), y) {
         StyledRowAnswer::Refused(refusal) => refusal.number(),
-        StyledRowAnswer::Answered(row) => put_styled_row(row, out),
+        StyledRowAnswer::NoRow => NOTHING,
+        StyledRowAnswer::Row(row) => put_styled_row(row, out),
     }
 }
 

@@ -1,20 +1,19 @@
 // The values of the calls' answers put into a host's list.
 use corner_radii::CornerRadii;
 use figure::Figure;
-use host_answers::NOTHING;
 use host_answers::held;
 use host_answers::put_numbers;
 use rectangle::Rectangle;
 use rounded_rectangle::RoundedRectangle;
-use scanline::Row;
-use scanline::StyledRow;
+use scanline::Scanline;
+use scanline::StyledScanline;
 ghost use mathlib.Core.List.{[], _∷_, _++_};
 ghost use lib.IntN.{pos};
 ghost use Rattle.refusal.specs.Refusal.{answered};
 ghost use Rattle.host_answers.specs.HostAnswers.{Tells};
 ghost use Rattle.rectangle.specs.Calls.{rectangleValues};
-ghost use Rattle.figure.specs.Calls.{flag, rowValues, radiiValues, figureValues};
-ghost use Rattle.styled.specs.Calls.{styledRowValues};
+ghost use Rattle.figure.specs.Calls.{flag, scanlineValues, radiiValues, figureValues};
+ghost use Rattle.styled.specs.Calls.{styledScanlineValues};
 
 // A number.
 pub fn put_count(n: u32, out: &mut [i32]) -> u32
@@ -34,40 +33,32 @@ pub fn put_flag(inside: bool, out: &mut [i32]) -> u32
     put_count(0, out)
 }
 
-// The ends of a row's run.
-pub fn put_row(row: Row, out: &mut [i32]) -> u32
-    ensures { λ r. ⌜ Tells (answered (rowValues row)) (now (out .entry)) r (now (out .exit)) ⌝ }
+// A row's y and the ends of its run.
+pub fn put_row(row: Scanline, out: &mut [i32]) -> u32
+    ensures { λ r. ⌜ Tells (answered (scanlineValues row)) (now (out .entry)) r (now (out .exit)) ⌝ }
 {
-    match row {
-        Row::NoRow => NOTHING,
-        Row::Run(run) => {
-            let values = [run.start, run.end];
-            put_numbers(out, &values)
-        }
-    }
+    let run = row.x;
+    let values = [row.y, run.start, run.end];
+    put_numbers(out, &values)
 }
 
-// The ends of the three runs of a styled row.
-pub fn put_styled_row(row: StyledRow, out: &mut [i32]) -> u32
-    ensures { λ r. ⌜ Tells (answered (styledRowValues row)) (now (out .entry)) r (now (out .exit)) ⌝ }
+// A styled row's y and the ends of its three runs.
+pub fn put_styled_row(row: StyledScanline, out: &mut [i32]) -> u32
+    ensures { λ r. ⌜ Tells (answered (styledScanlineValues row)) (now (out .entry)) r (now (out .exit)) ⌝ }
 {
-    match row {
-        StyledRow::NoRow => NOTHING,
-        StyledRow::Runs(runs) => {
-            let left = runs.stroke_left;
-            let fill = runs.fill;
-            let right = runs.stroke_right;
-            let values = [
-                left.start,
-                left.end,
-                fill.start,
-                fill.end,
-                right.start,
-                right.end,
-            ];
-            put_numbers(out, &values)
-        }
-    }
+    let left = row.stroke_left;
+    let fill = row.fill;
+    let right = row.stroke_right;
+    let values = [
+        row.y,
+        left.start,
+        left.end,
+        fill.start,
+        fill.end,
+        right.start,
+        right.end,
+    ];
+    put_numbers(out, &values)
 }
 
 // x, y, width and height.

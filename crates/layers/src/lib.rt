@@ -91,25 +91,23 @@ impl Layer {
         let figure = self.figure;
         let style = self.style;
         let next = self.next_row;
-        match drawing::check(figure, style) {
-            Checked::Refused(_) => RowsFound::Broken,
-            Checked::Passed => {
-                let area = drawing::stroke_rows(figure, style);
-                let first = area.first;
-                let end = signed::add(first, signed::from_u32(area.count));
-                if next < first {
-                    return RowsFound::Broken;
-                }
-                if end < next {
-                    return RowsFound::Broken;
-                }
-                RowsFound::Kept(LayerRows {
-                    first: first,
-                    next: next,
-                    end: end,
-                })
-            }
+        let Checked::Passed = drawing::check(figure, style) else {
+            return RowsFound::Broken;
+        };
+        let area = drawing::stroke_rows(figure, style);
+        let first = area.first;
+        let end = signed::add(first, signed::from_u32(area.count));
+        if next < first {
+            return RowsFound::Broken;
         }
+        if end < next {
+            return RowsFound::Broken;
+        }
+        RowsFound::Kept(LayerRows {
+            first: first,
+            next: next,
+            end: end,
+        })
     }
 }
 

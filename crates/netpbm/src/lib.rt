@@ -43,8 +43,9 @@ pub fn write_p5(width: u32, height: u32, canvas: &[u8], file: &mut [u8]) -> Writ
     let sides = size.check();
     let pixels = size.check_length(canvas.len());
     let room = check_room(header_length(size) + canvas.len(), file.len());
-    let Checked::Refused(refusal) = sides.or_else(pixels).or_else(room) else {
-        return WriteAnswer::Written(put_p5(file, size, canvas));
+    let checked = sides.or_else(pixels).or_else(room);
+    let Checked::Passed = checked else {
+        return WriteAnswer::Refused(checked.refusal());
     };
-    WriteAnswer::Refused(refusal)
+    WriteAnswer::Written(put_p5(file, size, canvas))
 }

@@ -7,7 +7,6 @@ use lib.IntN.{ℤ, pos, negsuc}
 use lib.ListN.{replicate}
 use Rattle.refusal.specs.Refusal.{refused, answered}
 use Rattle.geometry.specs.Checks.{sizeCheck, positionCheck}
-use Rattle.rectangle.specs.Calls.{rectangleCheck}
 use Rattle.rectangle.specs.Rectangle.{center, withCenter, offsetSide, offset}
 use Rattle.scanline.specs.Columns.{firstColumn}
 use Rattle.ellipse.specs.Ellipse.{center2x, fromCenter2x, threshold, inside, insideAbout}
@@ -35,14 +34,14 @@ filled width = styledByDefault Absent (Colour 9) width
 
 oval-bytes : canvasAfter (oval (pos 0) (pos 0) 4 4) (filled 0) 4 4 (replicate 16 0)
     ≡ 0 ∷ 9 ∷ 9 ∷ 0 ∷ 9 ∷ 9 ∷ 9 ∷ 9 ∷ 9 ∷ 9 ∷ 9 ∷ 9 ∷ 0 ∷ 9 ∷ 9 ∷ 0 ∷ []
-unfolding paintCheck painted styledCheck rectangleCheck sizeCheck positionCheck styleCheck canvasSizeCheck canvasLengthCheck overpaintRows
+unfolding paintCheck painted styledCheck sizeCheck positionCheck styleCheck canvasSizeCheck canvasLengthCheck overpaintRows
     overpaintBy overpaintRuns runOverFrom styledRowOfShapes ellipseStyledRow row scanline hasRows firstColumn insideAbout inside threshold
     center2x fromCenter2x offset offsetSide withCenter center outsideStrokeWidth insideStrokeWidth defaultAlignment
 oval-bytes = refl
 
 -- its lower right quarter: rows above the canvas and columns left of it are skipped
 oval-cut : canvasAfter (oval (negsuc 1) (negsuc 1) 4 4) (filled 0) 2 2 (replicate 4 0) ≡ 9 ∷ 9 ∷ 9 ∷ 0 ∷ []
-unfolding paintCheck painted styledCheck rectangleCheck sizeCheck positionCheck styleCheck canvasSizeCheck canvasLengthCheck overpaintRows
+unfolding paintCheck painted styledCheck sizeCheck positionCheck styleCheck canvasSizeCheck canvasLengthCheck overpaintRows
     overpaintBy overpaintRuns runOverFrom styledRowOfShapes ellipseStyledRow row scanline hasRows firstColumn insideAbout inside threshold
     center2x fromCenter2x offset offsetSide withCenter center outsideStrokeWidth insideStrokeWidth defaultAlignment
 oval-cut = refl
@@ -53,5 +52,5 @@ lowest-numbers : (paintCall (oval (pos 0) (pos 0) 1025 3) (filled 257) 0 4 [] �
     × (paintCall (oval (pos 0) (pos 0) 4 4) (filled 0) 0 4 (0 ∷ []) ≡ refused 6)
     × (paintCall (oval (pos 0) (pos 0) 4 4) (filled 0) 4 4 (replicate 15 0) ≡ refused 8)
     × (paintCall (oval (pos 0) (pos 0) 4 4) (filled 0) 4 4 (replicate 16 0) ≡ answered [])
-unfolding paintCheck styledCheck rectangleCheck sizeCheck positionCheck styleCheck canvasSizeCheck canvasLengthCheck
+unfolding paintCheck styledCheck sizeCheck positionCheck styleCheck canvasSizeCheck canvasLengthCheck
 lowest-numbers = (refl, refl, refl, refl, refl)

@@ -33,9 +33,10 @@ pub fn paint_figure(
     let given = drawing::check(figure, style);
     let sides = size.check();
     let pixels = size.check_length(canvas.len());
-    let Checked::Refused(refusal) = given.or_else(sides).or_else(pixels) else {
-        paint_whole(canvas, size, figure, style);
-        return PaintAnswer::Painted;
+    let checked = given.or_else(sides).or_else(pixels);
+    let Checked::Passed = checked else {
+        return PaintAnswer::Refused(checked.refusal());
     };
-    PaintAnswer::Refused(refusal)
+    paint_whole(canvas, size, figure, style);
+    PaintAnswer::Painted
 }

@@ -20,11 +20,13 @@ use Rattle.refusal.specs.Refusal.{orElse}
 use Rattle.refusal.proofs.Checks.{passed-first, passed-next}
 use Rattle.geometry.specs.Checks.{sizeCheck, positionCheck}
 use Rattle.geometry.proofs.Checks.{size-passed, position-passed}
-use Rattle.rectangle.specs.Calls.{rectangleCheck}
 use Rattle.corner_radii.specs.Bounds.{RadiiUpTo}
 use Rattle.corner_radii.specs.CornerRadii.{radiusCheck, radiiCheck}
 use Rattle.corner_radii.proofs.Checks.{radii-passed}
-use Rattle.figure.specs.Calls.{figureCheck, boxCheck}
+use Rattle.rectangle.specs.declared.Rectangle.{Rectangle}
+use Rattle.figure.specs.Calls.{cornersCheck, figureCheck}
+use Rattle.figure.specs.Figure.{ownRectangle}
+use Rattle.figure.proofs.Within.{figure-checked}
 use Rattle.style.specs.Style.{styleCheck}
 use Rattle.style.proofs.StrokeWidths.{style-passed}
 use Rattle.book.specs.Sheet.{isAccepted}
@@ -253,7 +255,7 @@ module _ (f : ℕ → ℤ) where
       rw (le-ltb 256 (floor0 (f 15)) thin)
 
   checks-of-limits : PlaceLimits f → styledCheck (layerOf numbers .figure) (layerOf numbers .style) ≡ Passed
-  unfolding styledCheck figureOf rectangleCheck boxCheck listFrom
+  unfolding styledCheck figureOf listFrom
   checks-of-limits l = by-kind any refl (ltZ (f 0) (pos 2)) refl
     where
       by-kind : (t : Bool) → any ≡ t → (s : Bool) → ltZ (f 0) (pos 2) ≡ s
@@ -283,41 +285,27 @@ module _ (f : ℕ → ℤ) where
       by-place zero at here later = let same : k ≡ j = omega arith in ap (λ (i : ℕ). leZ (pos 0) (f i)) same ∙ here
       by-place (suc d) at here later = later (omega arith)
 
-  -- the limits of the figure, whatever its kind
-  record FigureChecked : Type 0 where
-    size : sizeCheck (sizeOf (f 3) (f 4)) ≡ Passed
-    position : positionCheck (record { x = f 1; y = f 2 }) ≡ Passed
-    radii : any ≡ false → radiiCheck (cornersOf (take 13 numbers)) ≡ Passed
+  -- the rectangle of the figure, whatever its kind
+  abbrev rectangle : Rectangle
+  rectangle = record { «top_left» = record { x = f 1; y = f 2 }; size = sizeOf (f 3) (f 4) }
 
-  figure-checked : figureCheck (layerOf numbers .figure) ≡ Passed → FigureChecked
-  unfolding figureOf rectangleCheck boxCheck listFrom
-  figure-checked passed = by-kind any refl (ltZ (f 0) (pos 2)) refl
+  figure-rectangle : ownRectangle (layerOf numbers .figure) ≡ rectangle
+  unfolding figureOf listFrom
+  figure-rectangle = by-kind any refl (ltZ (f 0) (pos 2)) refl
     where
-      size : Checked
-      size = sizeCheck (sizeOf (f 3) (f 4))
+      by-kind : (t : Bool) → any ≡ t → (s : Bool) → ltZ (f 0) (pos 2) ≡ s → ownRectangle (layerOf numbers .figure) ≡ rectangle
+      by-kind true e s d = rw e
+      by-kind false e true d = rw (e, d)
+      by-kind false e false d = rw (e, d)
 
-      position : Checked
-      position = positionCheck (record { x = f 1; y = f 2 })
-
-      radii : Checked
-      radii = radiiCheck (cornersOf (take 13 numbers))
-
-      boxed : orElse (orElse size radii) position ≡ Passed → FigureChecked
-      boxed e =
-          let sizes = passed-first (orElse size radii) position e in
-          record {
-            size = passed-first size radii sizes;
-            position = passed-next
-                (orElse size radii) position e;
-            radii = λ _. passed-next size radii sizes;
-          }
-
-      by-kind : (t : Bool) → any ≡ t → (s : Bool) → ltZ (f 0) (pos 2) ≡ s → FigureChecked
-      by-kind true e s d =
-          let checked : orElse size position ≡ Passed = rw e at passed in
-          record { size = passed-first size position checked; position = passed-next size position checked; radii = λ box. absurd (false≢true (sym box ∙ e)) }
-      by-kind false e true d = boxed (rw (e, d) at passed)
-      by-kind false e false d = boxed (rw (e, d) at passed)
+  -- its radii, where it is a box
+  figure-corners : any ≡ false → cornersCheck (layerOf numbers .figure) ≡ radiiCheck (cornersOf (take 13 numbers))
+  unfolding figureOf listFrom
+  figure-corners box = by-kind (ltZ (f 0) (pos 2)) refl
+    where
+      by-kind : (s : Bool) → ltZ (f 0) (pos 2) ≡ s → cornersCheck (layerOf numbers .figure) ≡ radiiCheck (cornersOf (take 13 numbers))
+      by-kind true d = rw (box, d)
+      by-kind false d = rw (box, d)
 
   thin-stroke : layerOf numbers .style .«stroke_width» ≤ 256 → leZ (f 15) (pos 256) ≡ true
   unfolding styleOf listFrom
@@ -353,16 +341,18 @@ module _ (f : ℕ → ℤ) where
       let c = and-true-parts (leZ (pos 0) (f 15)) alignmentWithin (b .1) in
       let fig = figureCheck (layerOf numbers .figure) in
       let sty = styleCheck (layerOf numbers .style) in
-      let checked = figure-checked (passed-first fig sty passed) in
+      let checked = figure-checked (layerOf numbers .figure) (passed-first fig sty passed) in
+      let place = sym (ap (λ (r : Rectangle). positionCheck (r .«top_left»)) figure-rectangle) ∙ checked .place in
+      let size = sym (ap (λ (r : Rectangle). sizeCheck (r .size)) figure-rectangle) ∙ checked .sides in
       let sign : (k : ℕ) → 3 ≤ k → k ≤ 12 → leZ (pos 0) (f k) ≡ true = λ k from to. sign-of 10 3 k from (omega arith)
       (figure .1) in
       record {
         kind = between (pos 0) (pos 2) (f 0) (figure .0);
-        x = near-between (f 1) (position-passed _ (checked .position) .x);
-        y = near-between (f 2) (position-passed _ (checked .position) .y);
-        width = (sign 3 (omega arith) (omega arith), small-side (f 3) (size-passed _ (checked .size) .width));
-        height = (sign 4 (omega arith) (omega arith), small-side (f 4) (size-passed _ (checked .size) .height));
-        radii = λ k from to. radius-kept k from to (sign k (omega arith) to) (checked .radii);
+        x = near-between (f 1) (position-passed _ place .x);
+        y = near-between (f 2) (position-passed _ place .y);
+        width = (sign 3 (omega arith) (omega arith), small-side (f 3) (size-passed _ size .width));
+        height = (sign 4 (omega arith) (omega arith), small-side (f 4) (size-passed _ size .height));
+        radii = λ k from to. radius-kept k from to (sign k (omega arith) to) (λ box. sym (figure-corners box) ∙ checked .corners);
         stroke = between (negsuc 0) (pos 255) (f 13) (a .0);
         fill = between (negsuc 0) (pos 255) (f 14) (b .0);
         stroke-width = (c .0, thin-stroke (style-passed (layerOf numbers .style) (passed-next fig sty passed)));

@@ -90,14 +90,16 @@ pub fn points(figure: Figure, list: &mut [i32]) -> PointsAnswer
     ensures { λ r. ⌜ pointsOutcome r ≡ pointsCall figure (now (list .entry)) ⌝ }
     ensures { λ r. ⌜ now (list .exit) ≡ listAfter figure (now (list .entry)) ⌝ }
 {
-    let Checked::Refused(refusal) = figure.check() else {
-        let shape = figure.shape();
-        let count = count_points(shape);
-        let Checked::Refused(short) = check_room(2 * (count as usize), list.len()) else {
-            put_points(shape, list);
-            return PointsAnswer::Pairs(count);
-        };
-        return PointsAnswer::Refused(short);
+    let checked = figure.check();
+    let Checked::Passed = checked else {
+        return PointsAnswer::Refused(checked.refusal());
     };
-    PointsAnswer::Refused(refusal)
+    let shape = figure.shape();
+    let count = count_points(shape);
+    let room = check_room(2 * (count as usize), list.len());
+    let Checked::Passed = room else {
+        return PointsAnswer::Refused(room.refusal());
+    };
+    put_points(shape, list);
+    PointsAnswer::Pairs(count)
 }

@@ -41,21 +41,20 @@ fn next_of(numbers: &[i32], layer: u32) -> i32
 fn check_asked(size: CanvasSize, bytes: usize, count: u32, layer: u32, asked: Asked) -> Checked
     ensures { λ r. ⌜ r ≡ askedCheck (size .width) (size .height) bytes count layer asked ⌝ }
 {
-    match size.check_length(bytes) {
-        Checked::Refused(refusal) => Checked::Refused(refusal),
-        Checked::Passed => {
-            if count <= layer {
-                return Checked::Refused(Refusal::NoLayer);
-            }
-            if !asked.left {
-                return Checked::Refused(Refusal::NoRowLeft);
-            }
-            if asked.owed {
-                return Checked::Refused(Refusal::RowOwed);
-            }
-            Checked::Passed
-        }
+    let sized = size.check_length(bytes);
+    let Checked::Passed = sized else {
+        return sized;
+    };
+    if count <= layer {
+        return Checked::Refused(Refusal::NoLayer);
     }
+    if !asked.left {
+        return Checked::Refused(Refusal::NoRowLeft);
+    }
+    if asked.owed {
+        return Checked::Refused(Refusal::RowOwed);
+    }
+    Checked::Passed
 }
 
 // Refusals 7, 8, 10, 11 and 12 of painting on a canvas that is so many bytes long.
@@ -64,21 +63,18 @@ pub fn check_paint(numbers: &[i32], layer: u32, bytes: usize) -> Checked
     ensures { λ r. ⌜ ((canvas : List ℕ) → length canvas ≡ bytes → answerOf r ≡ sheetAnswer (sheetOf (now (numbers .entry))) canvas (Call·paint layer)) ⌝ }
 {
     let size = size_of(numbers);
-    match size.check() {
-        Checked::Refused(_) => Checked::Refused(Refusal::SheetRule),
-        Checked::Passed => {
-            if !is_within(0, MAX_COUNT, numbers[2]) {
-                return Checked::Refused(Refusal::SheetRule);
-            }
-            let count = signed::floor0(numbers[2]);
-            let y = next_of(numbers, layer);
-            let PlacesTested::Kept(asked) = test_places(numbers, count as usize, layer as usize, y)
-            else {
-                return Checked::Refused(Refusal::SheetRule);
-            };
-            check_asked(size, bytes, count, layer, asked)
-        }
+    let Checked::Passed = size.check() else {
+        return Checked::Refused(Refusal::SheetRule);
+    };
+    if !is_within(0, MAX_COUNT, numbers[2]) {
+        return Checked::Refused(Refusal::SheetRule);
     }
+    let count = signed::floor0(numbers[2]);
+    let y = next_of(numbers, layer);
+    let PlacesTested::Kept(asked) = test_places(numbers, count as usize, layer as usize, y) else {
+        return Checked::Refused(Refusal::SheetRule);
+    };
+    check_asked(size, bytes, count, layer, asked)
 }
 
 // Paints the next row of a layer, where that was not refused, and moves its next row down by one.

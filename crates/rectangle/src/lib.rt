@@ -42,10 +42,11 @@ pub enum RectangleAnswer {
 fn within_limits(rectangle: Rectangle) -> RectangleAnswer
     ensures { λ r. ⌜ rectangleOutcome r ≡ unless (positionCheck (rectangle .«top_left»)) (rectangleValues rectangle) ⌝ }
 {
-    let Checked::Refused(refusal) = check_position(rectangle.top_left) else {
-        return RectangleAnswer::Answered(rectangle);
+    let checked = check_position(rectangle.top_left);
+    let Checked::Passed = checked else {
+        return RectangleAnswer::Refused(checked.refusal());
     };
-    RectangleAnswer::Refused(refusal)
+    RectangleAnswer::Answered(rectangle)
 }
 
 impl Rectangle {
@@ -60,49 +61,54 @@ impl Rectangle {
     pub fn center(self) -> PointAnswer
         ensures { λ r. ⌜ pointOutcome r ≡ centerCall self ⌝ }
     {
-        let Checked::Refused(refusal) = self.check() else {
-            return PointAnswer::Answered(bounded::center(self));
+        let checked = self.check();
+        let Checked::Passed = checked else {
+            return PointAnswer::Refused(checked.refusal());
         };
-        PointAnswer::Refused(refusal)
+        PointAnswer::Answered(bounded::center(self))
     }
 
     // Refused by 1, and by 3 for the rectangle that it makes.
     pub fn with_center(center: Point, size: Size) -> RectangleAnswer
         ensures { λ r. ⌜ rectangleOutcome r ≡ withCenterCall center size ⌝ }
     {
-        let Checked::Refused(refusal) = check_size(size).or_else(check_center(center)) else {
-            return within_limits(bounded::with_center(center, size));
+        let checked = check_size(size).or_else(check_center(center));
+        let Checked::Passed = checked else {
+            return RectangleAnswer::Refused(checked.refusal());
         };
-        RectangleAnswer::Refused(refusal)
+        within_limits(bounded::with_center(center, size))
     }
 
     // Refused by 1 and 3.
     pub fn rows(self) -> RangeAnswer
         ensures { λ r. ⌜ rangeOutcome r ≡ rowsCall self ⌝ }
     {
-        let Checked::Refused(refusal) = self.check() else {
-            return RangeAnswer::Answered(bounded::rows(self));
+        let checked = self.check();
+        let Checked::Passed = checked else {
+            return RangeAnswer::Refused(checked.refusal());
         };
-        RangeAnswer::Refused(refusal)
+        RangeAnswer::Answered(bounded::rows(self))
     }
 
     // Refused by 1 and 3.
     pub fn columns(self) -> RangeAnswer
         ensures { λ r. ⌜ rangeOutcome r ≡ columnsCall self ⌝ }
     {
-        let Checked::Refused(refusal) = self.check() else {
-            return RangeAnswer::Answered(bounded::columns(self));
+        let checked = self.check();
+        let Checked::Passed = checked else {
+            return RangeAnswer::Refused(checked.refusal());
         };
-        RangeAnswer::Refused(refusal)
+        RangeAnswer::Answered(bounded::columns(self))
     }
 
     // Refused by 1, 3 and 5.
     pub fn offset(self, k: i32) -> RectangleAnswer
         ensures { λ r. ⌜ rectangleOutcome r ≡ offsetCall self k ⌝ }
     {
-        let Checked::Refused(refusal) = self.check().or_else(check_offset(k)) else {
-            return RectangleAnswer::Answered(bounded::offset(self, k));
+        let checked = self.check().or_else(check_offset(k));
+        let Checked::Passed = checked else {
+            return RectangleAnswer::Refused(checked.refusal());
         };
-        RectangleAnswer::Refused(refusal)
+        RectangleAnswer::Answered(bounded::offset(self, k))
     }
 }

@@ -1,6 +1,7 @@
--- What a passed check says: each of the checks that it is made of has passed, so every number is within its limit.
+-- What a passed check says: each of the checks that it is made of has passed, so every number is within its limit. And what a
+-- refusal says that is returned early: it is the one that the check found.
 -- Assumes nothing.
-use mathlib.Core.Path.{_≡_, refl}
+use mathlib.Core.Path.{_≡_, refl, ap, _∙_}
 use mathlib.Core.Bool.{Bool, true, false}
 use Prim.Native.Nat.{ℕ, _≤_}
 use native.Mathlib.Omega.{arith}
@@ -9,7 +10,7 @@ use lib.IntN.{ℤ, natAbs}
 use Rattle.refusal.specs.declared.Refusal.{Refusal}
 use Rattle.refusal.specs.declared.Checked.{Checked}
 use Rattle.refusal.specs.declared.Checked.the-variants.{Passed, Refused}
-use Rattle.refusal.specs.Refusal.{refuseIf, orElse, above, beyond}
+use Rattle.refusal.specs.Refusal.{number, refusalOf, refuseIf, orElse, above, beyond}
 
 pub passed-first : (a b : Checked) → orElse a b ≡ Passed → a ≡ Passed
 passed-first (Refused refusal) b e = e
@@ -28,3 +29,12 @@ passed-above limit n refusal e = ltb-false limit n (passed-condition (above limi
 
 pub passed-beyond : (limit : ℕ) (z : ℤ) (refusal : Refusal) → refuseIf (beyond limit z) refusal ≡ Passed → natAbs z ≤ limit
 passed-beyond limit z refusal e = passed-above limit (natAbs z) refusal e
+
+-- ---- a refusal returned early
+pub refusal-found : {k : Checked} {r found : Refusal} → r ≡ refusalOf k → k ≡ Refused found → r ≡ found
+refusal-found is told = is ∙ ap refusalOf told
+
+-- and says its number, in whatever kind of answer
+pub refused-early : {A : Type 0} (says : ℕ → A) {k : Checked} {r found : Refusal} → r ≡ refusalOf k → k ≡ Refused found
+    → says (number r) ≡ says (number found)
+refused-early says is told = ap (λ (r : Refusal). says (number r)) (refusal-found is told)

@@ -26,6 +26,11 @@ number NoRowLeft = 11
 number RowOwed = 12
 number BufferLength = 13
 
+-- the refusal that a check found; of a check that passed nobody asks for it
+abbrev pub refusalOf : Checked → Refusal
+refusalOf (Refused refusal) = refusal
+refusalOf Passed = Side
+
 -- one condition of the table
 abbrev pub refuseIf : Bool → Refusal → Checked
 refuseIf true refusal = Refused refusal

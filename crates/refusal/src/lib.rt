@@ -1,7 +1,7 @@
 // The refusals of document 01's table, and the checks that lead to them. A call makes its checks in
 // the table's order, so the first that fails gives the lowest number that applies.
 ghost use mathlib.Core.Path.{_≡_};
-ghost use Rattle.refusal.specs.Refusal.{number as Refusal·number, refuseIf, orElse, above, beyond, roomCheck};
+ghost use Rattle.refusal.specs.Refusal.{number as Refusal·number, refusalOf, refuseIf, orElse, above, beyond, roomCheck};
 
 pub enum Refusal {
     // A side above the limit.
@@ -62,6 +62,16 @@ pub enum Checked {
 }
 
 impl Checked {
+    // The refusal found. A call asks for it where its check has not passed, to return it early.
+    pub fn refusal(self) -> Refusal
+        ensures { λ r. ⌜ r ≡ refusalOf self ⌝ }
+    {
+        match self {
+            Checked::Refused(refusal) => refusal,
+            Checked::Passed => Refusal::Side,
+        }
+    }
+
     // The first refusal of this check and the next.
     pub fn or_else(self, next: Checked) -> Checked
         ensures { λ r. ⌜ r ≡ orElse self next ⌝ }

@@ -12,24 +12,37 @@ ghost use Rattle.geometry.specs.Bounds.{wideSide, widePoint};
 ghost use Rattle.scanline.specs.Places.{Placed};
 ghost use Rattle.scanline.specs.Points.{runPoints, entries};
 
-// A row of a figure: its run, or none where the figure lacks the row. The Rust's `Option<Scanline>`,
-// whose y the caller has.
+// A row of a figure: its y and its run.
+pub struct Scanline {
+    pub y: i32,
+    pub x: Range,
+}
+
+// The run of a row whose y the caller has, or none where the figure lacks the row.
 pub enum Row {
     Run(Range),
     NoRow,
 }
 
-// The three runs of a styled row, after `common/styled_scanline.rs`, which holds the whole run and
-// the fill and makes the two stroke runs of them.
+// A row of a styled figure: its y and three runs, after `common/styled_scanline.rs`, which holds the
+// whole run and the fill and makes the two stroke runs of them.
 pub struct StyledScanline {
+    pub y: i32,
     pub stroke_left: Range,
     pub fill: Range,
     pub stroke_right: Range,
 }
 
-// A styled row of a figure, or none where its stroke area lacks the row.
+// The three runs without the y, which rows that are alike share.
+pub struct StyledRuns {
+    pub stroke_left: Range,
+    pub fill: Range,
+    pub stroke_right: Range,
+}
+
+// The runs of a styled row whose y the caller has, or none where the stroke area lacks the row.
 pub enum StyledRow {
-    Runs(StyledScanline),
+    Runs(StyledRuns),
     NoRow,
 }
 

@@ -17,7 +17,7 @@ use rounded_rectangle::RoundedRectangleContains;
 use scanline::Place;
 use scanline::Row;
 use scanline::StyledRow;
-use scanline::StyledScanline;
+use scanline::StyledRuns;
 ghost use mathlib.Core.Path.{_≡_};
 ghost use Prim.Native.Nat.{_*_, _-_, _<_, _≤_};
 ghost use Rattle.signed.specs.Signed.{Near};
@@ -35,10 +35,10 @@ ghost use Rattle.figure.specs.Bounds.{AreaBox, BoundedShape};
 ghost use Rattle.shape_row.specs.StyledRow.{boxStyledRow, styledRowOfShapes};
 
 // The stroke area's run around a fill.
-pub fn around_fill(run: Range, fill: Range) -> StyledScanline
+pub fn around_fill(run: Range, fill: Range) -> StyledRuns
     ensures { λ r. ⌜ r ≡ aroundFill run fill ⌝ }
 {
-    StyledScanline {
+    StyledRuns {
         stroke_left: Range {
             start: run.start,
             end: fill.start,
@@ -97,7 +97,7 @@ fn box_row(area: RoundedRectangle, fill: RoundedRectangle, y: i32) -> StyledRow
 
 // The runs of an ellipse's row of `width` columns whose stroke starts at place s, on a row at this
 // distance from the middle.
-fn ellipse_runs(left: i32, width: u32, distance: u64, s: u32, sides: Size) -> StyledScanline
+fn ellipse_runs(left: i32, width: u32, distance: u64, s: u32, sides: Size) -> StyledRuns
     requires { ⌜ Near widePoint left ⌝ }
     requires { ⌜ (width ≤ wideSide) × (2 * s < width) × (distance ≤ wideDistance) ⌝ }
     requires { ⌜ SizeUpTo wideSide sides ⌝ }

@@ -9,13 +9,11 @@ use Rattle.figure.specs.declared.Figure.the-variants.{CrateBox}
 use Rattle.style.specs.declared.Paint.the-variants.{Absent, Colour}
 use Rattle.style.specs.declared.StrokeAlignment.the-variants.{Center}
 use Rattle.geometry.specs.Checks.{sizeCheck, positionCheck}
-use Rattle.rectangle.specs.Calls.{rectangleCheck}
 use Rattle.rectangle.specs.Rectangle.{center, withCenter, offsetSide, offset}
 use Rattle.scanline.specs.Columns.{firstColumn}
 use Rattle.ellipse.specs.Ellipse.{center2x, fromCenter2x, threshold, inside}
 use Rattle.ellipse_points.specs.EllipsePoints.{scanline, hasRows, rowCount}
 use Rattle.corner_radii.specs.CornerRadii.{radiusCheck, radiiCheck}
-use Rattle.figure.specs.Calls.{boxCheck}
 use Rattle.figure.specs.Figure.{confined, offsetBox}
 use Rattle.style.specs.Style.{styleCheck, outsideStrokeWidth}
 use Rattle.canvas_size.specs.CanvasSize.{canvasSizeCheck}
@@ -59,5 +57,5 @@ pub table-examples : (openAnswer 0 4 ≡ refused 6) × (sheetAnswer (blanks 17) 
     × (sheetAnswer (openedSheet 4 4) (replicate 15 0) (paint 0) ≡ refused 8) × (sheetAnswer (blanks 16) [] (add box) ≡ refused 9)
     × (sheetAnswer (openedSheet 4 4) bytes (paint 0) ≡ refused 10) × (sheetAnswer (blanks 1) bytes (paint 0) ≡ refused 11)
     × (sheetAnswer boxes bytes (paint 1) ≡ refused 12) × (sheetAnswer boxes bytes (paint 0) ≡ accepted)
-unfolding answer keepsRules layersKeepRules layerKeepsRules noneOvertakes overtakes someLayerOwes layerOwes hasRow canvasSizeCheck styledCheck strokeRows sizeCheck positionCheck rectangleCheck center withCenter offsetSide offset boxCheck confined offsetBox styleCheck outsideStrokeWidth center2x fromCenter2x threshold inside scanline hasRows rowCount firstColumn radiusCheck radiiCheck
+unfolding answer keepsRules layersKeepRules layerKeepsRules noneOvertakes overtakes someLayerOwes layerOwes hasRow canvasSizeCheck styledCheck strokeRows sizeCheck positionCheck center withCenter offsetSide offset confined offsetBox styleCheck outsideStrokeWidth center2x fromCenter2x threshold inside scanline hasRows rowCount firstColumn radiusCheck radiiCheck
 table-examples = (refl, refl, refl, refl, refl, refl, refl, refl)

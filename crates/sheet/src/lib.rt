@@ -7,6 +7,7 @@ use figure::Figure;
 use layers::Layer;
 use refusal::Checked;
 use refusal::Refusal;
+use sheet_checks::Asked;
 use style::Style;
 ghost use mathlib.Core.Path.{_≡_};
 ghost use mathlib.Core.List.{[]};
@@ -50,15 +51,16 @@ impl Sheet {
             width: width,
             height: height,
         };
-        let Checked::Refused(refusal) = size.check() else {
+        let checked = size.check();
+        let Checked::Passed = checked else {
             return SheetOutcome {
                 sheet: sheet,
-                answer: SheetAnswer::Accepted,
+                answer: SheetAnswer::Refused(checked.refusal()),
             };
         };
         SheetOutcome {
             sheet: sheet,
-            answer: SheetAnswer::Refused(refusal),
+            answer: SheetAnswer::Accepted,
         }
     }
 
@@ -73,25 +75,25 @@ impl Sheet {
         };
         let places = self.layers;
         let room = sheet_checks::check_add(size, self.count, places);
-        let check = drawing::check(figure, style).or_else(room);
-        let Checked::Refused(refusal) = check else {
-            let area = drawing::stroke_rows(figure, style);
-            let place = self.count as usize;
-            let mut sheet = self;
-            sheet.layers[place] = Layer {
-                figure: figure,
-                style: style,
-                next_row: area.first,
-            };
-            sheet.count = self.count + 1;
+        let checked = drawing::check(figure, style).or_else(room);
+        let Checked::Passed = checked else {
             return SheetOutcome {
-                sheet: sheet,
-                answer: SheetAnswer::Accepted,
+                sheet: self,
+                answer: SheetAnswer::Refused(checked.refusal()),
             };
         };
+        let area = drawing::stroke_rows(figure, style);
+        let place = self.count as usize;
+        let mut sheet = self;
+        sheet.layers[place] = Layer {
+            figure: figure,
+            style: style,
+            next_row: area.first,
+        };
+        sheet.count = self.count + 1;
         SheetOutcome {
-            sheet: self,
-            answer: SheetAnswer::Refused(refusal),
+            sheet: sheet,
+            answer: SheetAnswer::Accepted,
         }
     }
 
@@ -106,28 +108,27 @@ impl Sheet {
             height: self.height,
         };
         let places = self.layers;
-        let check = sheet_checks::check_paint(size, self.count, places, layer, canvas.len());
-        let Checked::Refused(refusal) = check else {
-            let place = layer as usize;
-            let chosen = places[place];
-            let figure = chosen.figure;
-            let style = chosen.style;
-            let row = chosen.next_row;
-            drawing::paint_row(canvas, size, figure, style, row);
-            let mut sheet = self;
-            sheet.layers[place] = Layer {
-                figure: figure,
-                style: style,
-                next_row: signed::add(row, 1),
-            };
+        let asked = sheet_checks::asked_row(size, self.count, places, layer, canvas.len());
+        let Asked::Row(row) = asked else {
             return SheetOutcome {
-                sheet: sheet,
-                answer: SheetAnswer::Accepted,
+                sheet: self,
+                answer: SheetAnswer::Refused(asked.refusal()),
             };
         };
+        let place = layer as usize;
+        let chosen = places[place];
+        let figure = chosen.figure;
+        let style = chosen.style;
+        drawing::paint_row(canvas, size, figure, style, row);
+        let mut sheet = self;
+        sheet.layers[place] = Layer {
+            figure: figure,
+            style: style,
+            next_row: signed::add(row, 1),
+        };
         SheetOutcome {
-            sheet: self,
-            answer: SheetAnswer::Refused(refusal),
+            sheet: sheet,
+            answer: SheetAnswer::Accepted,
         }
     }
 }

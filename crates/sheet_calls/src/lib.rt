@@ -27,7 +27,7 @@ pub struct RunOutcome {
 }
 
 // The number that stands for an answer: 0 for accepted.
-fn number_of(answer: SheetAnswer) -> u32
+pub fn number_of(answer: SheetAnswer) -> u32
     ensures { λ r. ⌜ r ≡ answerNumber (said answer) ⌝ }
 {
     match answer {
@@ -99,22 +99,22 @@ pub fn run_calls(
     };
     let count = calls.len() / call_numbers::CALL_LENGTH;
     let lent = size.check().or_else(size.check_length(canvas.len()));
-    let check = lent.or_else(check_room(count, answers.len()));
-    let Checked::Refused(refusal) = check else {
-        if !call_numbers::encodes_calls(calls) {
-            return RunOutcome {
-                sheet: sheet,
-                answer: RunAnswer::NotCalls,
-            };
-        }
-        let made = make_calls(sheet, count, calls, canvas, answers);
+    let checked = lent.or_else(check_room(count, answers.len()));
+    let Checked::Passed = checked else {
         return RunOutcome {
-            sheet: made,
-            answer: RunAnswer::Ran,
+            sheet: sheet,
+            answer: RunAnswer::Refused(checked.refusal()),
         };
     };
+    if !call_numbers::encodes_calls(calls) {
+        return RunOutcome {
+            sheet: sheet,
+            answer: RunAnswer::NotCalls,
+        };
+    }
+    let made = make_calls(sheet, count, calls, canvas, answers);
     RunOutcome {
-        sheet: sheet,
-        answer: RunAnswer::Refused(refusal),
+        sheet: made,
+        answer: RunAnswer::Ran,
     }
 }

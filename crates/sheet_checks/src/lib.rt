@@ -14,21 +14,38 @@ ghost use Rattle.book.specs.Book.{_orElse_, add as Call·add, paint as Call·pa
 ghost use Rattle.book.specs.Sheet.{keepsRules, answer};
 ghost use Rattle.drawing.specs.Drawing.{StyledFigure, answerOf, drawing};
 ghost use Rattle.layers.specs.Layers.{layersOf, stateOf, layerRows};
+ghost use Rattle.sheet_checks.specs.Asked.{askedAnswer, askedRefusal, NextRow};
+
+// What a paint call on a layer finds: the row that it asks for, or a refusal.
+pub enum Asked {
+    Row(i32),
+    Refused(Refusal),
+}
+
+impl Asked {
+    // The refusal found. A call asks for it where it has no row, to return it early.
+    pub fn refusal(self) -> Refusal
+        ensures { λ r. ⌜ r ≡ askedRefusal self ⌝ }
+    {
+        match self {
+            Asked::Refused(refusal) => refusal,
+            Asked::Row(_) => Refusal::SheetRule,
+        }
+    }
+}
 
 // Tests all rules of a sheet: its size, the number of its layers, and the layers.
 pub fn test_rules(size: CanvasSize, count: u32, places: [Layer; 16]) -> RulesTested
     ensures { λ r. ⌜ r .kept ≡ keepsRules drawing (size .width) (size .height) (layersOf count places) ⌝ }
     ensures { λ r. ⌜ (r .kept ≡ true → take count (r .rows) ≡ map layerRows (take count places)) ⌝ }
 {
-    match size.check() {
-        Checked::Refused(_) => RulesTested::broken(),
-        Checked::Passed => {
-            if Layer::MAX_LAYERS < count {
-                return RulesTested::broken();
-            }
-            layers::test_rules(places, count as usize)
-        }
+    let Checked::Passed = size.check() else {
+        return RulesTested::broken();
+    };
+    if Layer::MAX_LAYERS < count {
+        return RulesTested::broken();
     }
+    layers::test_rules(places, count as usize)
 }
 
 // Refusals 7 and 9 of adding.
@@ -45,37 +62,38 @@ pub fn check_add(size: CanvasSize, count: u32, places: [Layer; 16]) -> Checked
     Checked::Passed
 }
 
-// Refusals 7, 8, 10, 11 and 12 of painting on a canvas that is so many bytes long.
-pub fn check_paint(
+// The row that a paint call on a layer asks for, which is its next row, or refusal 7, 8, 10, 11 or 12;
+// the canvas is so many bytes long.
+pub fn asked_row(
     size: CanvasSize,
     count: u32,
     places: [Layer; 16],
     layer: u32,
     bytes: usize,
-) -> Checked
-    ensures { λ r. ⌜ ((canvas : List ℕ) → length canvas ≡ bytes → answerOf r ≡ answer drawing (size .width) (size .height) (stateOf count places canvas) (Call·paint layer)) ⌝ }
+) -> Asked
+    ensures { λ r. ⌜ ((canvas : List ℕ) → length canvas ≡ bytes → askedAnswer r ≡ answer drawing (size .width) (size .height) (stateOf count places canvas) (Call·paint layer)) ⌝ }
+    ensures { λ r. ⌜ NextRow places layer r ⌝ }
 {
     let tested = test_rules(size, count, places);
     let rows = tested.rows;
     if !tested.kept {
-        return Checked::Refused(Refusal::SheetRule);
+        return Asked::Refused(Refusal::SheetRule);
     }
-    match size.check_length(bytes) {
-        Checked::Refused(refusal) => Checked::Refused(refusal),
-        Checked::Passed => {
-            if count <= layer {
-                return Checked::Refused(Refusal::NoLayer);
-            }
-            let place = layer as usize;
-            let own = rows[place];
-            let next = own.next;
-            if own.end <= next {
-                return Checked::Refused(Refusal::NoRowLeft);
-            }
-            if layer_rows::some_owes(rows, place, next) {
-                return Checked::Refused(Refusal::RowOwed);
-            }
-            Checked::Passed
-        }
+    let sized = size.check_length(bytes);
+    let Checked::Passed = sized else {
+        return Asked::Refused(sized.refusal());
+    };
+    if count <= layer {
+        return Asked::Refused(Refusal::NoLayer);
     }
+    let place = layer as usize;
+    let own = rows[place];
+    let next = own.next;
+    if own.end <= next {
+        return Asked::Refused(Refusal::NoRowLeft);
+    }
+    if layer_rows::some_owes(rows, place, next) {
+        return Asked::Refused(Refusal::RowOwed);
+    }
+    Asked::Row(next)
 }

@@ -8,7 +8,7 @@ use rounded_rectangle::Insets;
 use rounded_rectangle::RoundedRectangle;
 use rounded_rectangle::run_between;
 use scanline::Place;
-use scanline::StyledScanline;
+use scanline::StyledRuns;
 use shape_row::around_fill;
 ghost use mathlib.Core.Path.{_≡_};
 ghost use mathlib.Core.Bool.{true};
@@ -24,7 +24,7 @@ ghost use Rattle.straight_row.specs.StraightRow.{boxWith, Reach, Told};
 
 // A row of a styled box as far as it is known without the corners: its runs, or nothing.
 pub enum StraightRow {
-    Runs(StyledScanline),
+    Runs(StyledRuns),
     Unknown,
 }
 

@@ -114,12 +114,13 @@ impl Style {
     pub fn widths(self) -> WidthsAnswer
         ensures { λ r. ⌜ widthsOutcome r ≡ widthsCall self ⌝ }
     {
-        let Checked::Refused(refusal) = self.check() else {
-            return WidthsAnswer::Answered(Widths {
-                outside: self.outside_stroke_width(),
-                inside: self.inside_stroke_width(),
-            });
+        let checked = self.check();
+        let Checked::Passed = checked else {
+            return WidthsAnswer::Refused(checked.refusal());
         };
-        WidthsAnswer::Refused(refusal)
+        WidthsAnswer::Answered(Widths {
+            outside: self.outside_stroke_width(),
+            inside: self.inside_stroke_width(),
+        })
     }
 }

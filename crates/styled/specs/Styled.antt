@@ -5,10 +5,10 @@ use Rattle.rectangle.specs.declared.Rectangle.{Rectangle}
 use Rattle.rectangle.specs.Rectangle.{offset as Rectangle·offset}
 use Rattle.scanline.specs.declared.StyledRow.{StyledRow}
 use Rattle.figure.specs.declared.Figure.{Figure}
-use Rattle.figure.specs.Figure.{shape}
+use Rattle.figure.specs.Figure.{ownRectangle, shape}
 use Rattle.style.specs.declared.Style.{Style}
 use Rattle.style.specs.Style.{outsideStrokeWidth}
-pub use Rattle.areas.specs.Areas.{strokeArea, fillArea, ownRectangle}
+pub use Rattle.areas.specs.Areas.{strokeArea, fillArea}
 use Rattle.shape_row.specs.StyledRow.{styledRowOfShapes}
 
 -- the styled bounding box: the rectangle offset by the outside width

@@ -1,7 +1,6 @@
 // Styled figures: their bounding box and rows, after embedded-graphics 0.8.2 both `styled.rs` and
 // `common/styled_scanline.rs`. A figure's stroke area and fill area are shapes of one kind.
 use areas::fill_shape;
-use areas::own_rectangle;
 use areas::stroke_shape;
 use figure::Figure;
 use geometry::check_row;
@@ -9,6 +8,7 @@ use rectangle::RectangleAnswer;
 use refusal::Checked;
 use refusal::Refusal;
 use scanline::StyledRow;
+use scanline::StyledScanline;
 use shape_row::styled_row_of_shapes;
 use style::Style;
 ghost use mathlib.Core.Path.{_≡_};
@@ -22,10 +22,11 @@ ghost use Rattle.styled.specs.Calls.{styledRowOutcome, styledRowCall, st
 
 pub enum StyledRowAnswer {
     Refused(Refusal),
-    Answered(StyledRow),
+    NoRow,
+    Row(StyledScanline),
 }
 
-// The styled row at y, asked for alone.
+// The runs of the styled row at y, asked for alone.
 pub fn row_at(figure: Figure, style: Style, y: i32) -> StyledRow
     requires { ⌜ OwnFigure figure ⌝ }
     requires { ⌜ style .«stroke_width» ≤ wideOffset ⌝ }
@@ -39,21 +40,33 @@ pub fn row_at(figure: Figure, style: Style, y: i32) -> StyledRow
 pub fn styled_row(figure: Figure, style: Style, y: i32) -> StyledRowAnswer
     ensures { λ r. ⌜ styledRowOutcome r ≡ styledRowCall figure style y ⌝ }
 {
-    let Checked::Refused(refusal) = figure.check().or_else(check_row(y)).or_else(style.check())
-    else {
-        return StyledRowAnswer::Answered(row_at(figure, style, y));
+    let checked = figure.check().or_else(check_row(y)).or_else(style.check());
+    let Checked::Passed = checked else {
+        return StyledRowAnswer::Refused(checked.refusal());
     };
-    StyledRowAnswer::Refused(refusal)
+    let StyledRow::Runs(runs) = row_at(figure, style, y) else {
+        return StyledRowAnswer::NoRow;
+    };
+    let stroke_left = runs.stroke_left;
+    let fill = runs.fill;
+    let stroke_right = runs.stroke_right;
+    StyledRowAnswer::Row(StyledScanline {
+        y: y,
+        stroke_left: stroke_left,
+        fill: fill,
+        stroke_right: stroke_right,
+    })
 }
 
 // The rectangle that a styled figure keeps to. Refused by 1, 2, 3 and 5.
 pub fn styled_bounding_box(figure: Figure, style: Style) -> RectangleAnswer
     ensures { λ r. ⌜ rectangleOutcome r ≡ styledBoundingBoxCall figure style ⌝ }
 {
-    let Checked::Refused(refusal) = figure.check().or_else(style.check()) else {
-        let outside = signed::from_u32(style.outside_stroke_width());
-        let rectangle = own_rectangle(figure);
-        return RectangleAnswer::Answered(rectangle::bounded::offset(rectangle, outside));
+    let checked = figure.check().or_else(style.check());
+    let Checked::Passed = checked else {
+        return RectangleAnswer::Refused(checked.refusal());
     };
-    RectangleAnswer::Refused(refusal)
+    let outside = signed::from_u32(style.outside_stroke_width());
+    let rectangle = figure.own_rectangle();
+    RectangleAnswer::Answered(rectangle::bounded::offset(rectangle, outside))
 }

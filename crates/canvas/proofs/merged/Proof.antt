@@ -6,7 +6,7 @@ use mir.Syntax.{w32}
 use mir.Val.{SFits}
 use mir.Facts.{toZ-ofZ}
 use borrow.Author.Tests.{not-false}
-use Rattle.scanline.specs.declared.StyledScanline.{StyledScanline}
+use Rattle.scanline.specs.declared.StyledRuns.{StyledRuns}
 use Rattle.canvas.specs.Canvas.{overpaintRuns}
 use Rattle.canvas.proofs.Nested.{merged-row}
 use borrow.Author.Needs.{needs}

@@ -13,7 +13,7 @@ use Rattle.figure.specs.Calls.{rowOutcome, rowCall}
 use Rattle.record_numbers.specs.RecordNumbers.{isFigure, figureOf}
 use Rattle.record_numbers.proofs.Records.{figure-length}
 use Rattle.host_answers.specs.HostAnswers.{noRecord}
-use Rattle.host_answers.proofs.Telling.{tells-as, tells-refused, tells-refusal}
+use Rattle.host_answers.proofs.Telling.{tells-as, tells-refused, tells-refusal, tells-nothing}
 use mathlib.Core.Path.{_≡_, sym, ap, _∙_}
 use borrow.Author.Needs.{needs}
 use Rattle.host_figures.proofs.row.Statement.{statement}
@@ -47,6 +47,9 @@ enum-known-refusal c = search needs
 number-requires : tie.Need-number-requires
 number-requires c κs = search needs
 
+enum-told : tie.Need-enum-told
+enum-told c = search needs
+
 enum-known-row : tie.Need-enum-known-row
 enum-known-row c = search needs
 
@@ -58,11 +61,16 @@ returns-2 c =
     rw (is-one (c .before .before .before .before .before .before))
     (tells-refusal (c .before .before .before .before .before .before .before .before .args .out .now) (sym (ap (λ (a : RowAnswer). rowOutcome a) (c .before .before .refusal .given .1)) ∙ says (c .before .before .before .before)) (c .number .ensures))
 
+returns-3 : tie.Need-returns-3
+returns-3 c =
+    rw (is-one (c .before .before .before .before))
+    (tells-as (sym (ap (λ (a : RowAnswer). rowOutcome a) (c .enum-told .given .1)) ∙ says (c .before .before)) (tells-nothing (c .before .before .before .before .before .before .args .out .now)))
+
 same-length : tie.Need-same-length
 same-length c = search needs
 
-returns-3 : tie.Need-returns-3
-returns-3 c =
+returns-4 : tie.Need-returns-4
+returns-4 c =
     rw (is-one (c .before .before .before .before .before .before .before .before))
     (tells-as (sym (ap (λ (a : RowAnswer). rowOutcome a) (c .before .before .before .before .row2 .given .1)) ∙ says (c .before .before .before .before .before .before)) (c .before .put-row .ensures))
 
@@ -76,8 +84,10 @@ row-spec =
     row-requires
     enum-known-refusal
     number-requires
+    enum-told
     enum-known-row
     put-row-requires
     returns-2
+    returns-3
     same-length
-    returns-3)
+    returns-4)

@@ -3,7 +3,8 @@
 -- Assumes nothing.
 use mathlib.Core.Path.{_≡_, refl, sym, ap, ap₂, _∙_}
 use lib.ListN.{length}
-use Rattle.refusal.specs.Refusal.{orElse}
+use Rattle.refusal.specs.Refusal.{number, orElse}
+use Rattle.refusal.proofs.Checks.{refusal-found}
 use Rattle.netpbm.specs.declared.WriteAnswer.{WriteAnswer}
 use Rattle.netpbm.specs.Netpbm.{writeOutcome, writeCall}
 use Rattle.host_answers.proofs.Telling.{tells-as, tells-refusal}
@@ -39,28 +40,33 @@ check-room-requires c κs = search needs
 or-else-requires-2 : tie.Need-or-else-requires-2
 or-else-requires-2 c κs = search needs
 
-enum-known-refusal : tie.Need-enum-known-refusal
-enum-known-refusal c = search needs
-
 enum-told : tie.Need-enum-told
 enum-told c = search needs
 
-write-p5-requires : tie.Need-write-p5-requires
-write-p5-requires c κs = search needs
+enum-told-2 : tie.Need-enum-told-2
+enum-told-2 c = search needs
 
-enum-known-short : tie.Need-enum-known-short
-enum-known-short c = search needs
+refusal-requires : tie.Need-refusal-requires
+refusal-requires c κs = search needs
 
 number-requires : tie.Need-number-requires
 number-requires c κs = search needs
 
-same-length : tie.Need-same-length
-same-length c = search needs
-
 returns : tie.Need-returns
 returns c =
-    rw (sym (checked (c .before .before .before .before .before .before .before .before .before .before)) ∙ c .before .before .before .before .before .before .before .before .enum-told .given .1)
-    (tells-refusal (c .before .before .before .before .before .before .before .before .before .before .before .before .before .before .before .before .before .args .out .now) (sym (ap (λ (a : WriteAnswer). writeOutcome a) (c .before .before .short .given .1)) ∙ says (c .before .before .before .before .before .before)) (c .number .ensures), c .before .before .before .before .before .before .write-p5 .ensures .1)
+    let told = c .before .before in
+    let entry = told .before .before .before .before .before .before .before .before .before in
+    rw (sym (checked (told .before .before)) ∙ told .enum-told2 .given .1)
+    (tells-refusal (entry .args .out .now) refl (c .number .ensures ∙ ap number (refusal-found (c .before .refusal .ensures) (told .enum-told2 .given .1))), refl)
+
+write-p5-requires : tie.Need-write-p5-requires
+write-p5-requires c κs = search needs
+
+enum-known-refusal : tie.Need-enum-known-refusal
+enum-known-refusal c = search needs
+
+number-requires-2 : tie.Need-number-requires-2
+number-requires-2 c κs = search needs
 
 enum-known-n : tie.Need-enum-known-n
 enum-known-n c = search needs
@@ -76,24 +82,24 @@ cast-put-count c =
 put-count-requires : tie.Need-put-count-requires
 put-count-requires c κs = search needs
 
+same-length : tie.Need-same-length
+same-length c = search needs
+
+returns-2 : tie.Need-returns-2
+returns-2 c =
+    rw (sym (checked (c .before .before .before .before .before .before .before .before .before .before)) ∙ c .before .before .before .before .before .before .before .before .enum-told .given .1)
+    (tells-refusal (c .before .before .before .before .before .before .before .before .before .before .before .before .before .before .before .before .before .args .out .now) (sym (ap (λ (a : WriteAnswer). writeOutcome a) (c .before .before .refusal2 .given .1)) ∙ says (c .before .before .before .before .before .before)) (c .number2 .ensures), c .before .before .before .before .before .before .write-p5 .ensures .1)
+
 same-length-2 : tie.Need-same-length-2
 same-length-2 c = search needs
 
 same-length-3 : tie.Need-same-length-3
 same-length-3 c = search needs
 
-returns-2 : tie.Need-returns-2
-returns-2 c =
-    rw (sym (checked (c .before .before .before .before .before .before .before .before .before .before .before .before)) ∙ c .before .before .before .before .before .before .before .before .before .before .enum-told .given .1)
-    (tells-as (sym (ap (λ (a : WriteAnswer). writeOutcome a) (c .before .before .before .before .n .given .1)) ∙ says (c .before .before .before .before .before .before .before .before)) (c .before .put-count .ensures), c .before .before .before .before .before .before .before .before .write-p5 .ensures .1)
-
-number-requires-2 : tie.Need-number-requires-2
-number-requires-2 c κs = search needs
-
 returns-3 : tie.Need-returns-3
 returns-3 c =
-    rw (sym (checked (c .before .before .before .before)) ∙ c .before .before .refusal .given .1)
-    (tells-refusal (c .before .before .before .before .before .before .before .before .before .before .before .args .out .now) refl (c .number2 .ensures), refl)
+    rw (sym (checked (c .before .before .before .before .before .before .before .before .before .before .before .before)) ∙ c .before .before .before .before .before .before .before .before .before .before .enum-told .given .1)
+    (tells-as (sym (ap (λ (a : WriteAnswer). writeOutcome a) (c .before .before .before .before .n .given .1)) ∙ says (c .before .before .before .before .before .before .before .before)) (c .before .put-count .ensures), c .before .before .before .before .before .before .before .before .write-p5 .ensures .1)
 
 pub write-p5-spec : {M : Type 1} → statement M
 write-p5-spec =
@@ -104,18 +110,19 @@ write-p5-spec =
     or-else-requires
     check-room-requires
     or-else-requires-2
-    enum-known-refusal
     enum-told
-    write-p5-requires
-    enum-known-short
+    enum-told-2
+    refusal-requires
     number-requires
-    same-length
     returns
+    write-p5-requires
+    enum-known-refusal
+    number-requires-2
     enum-known-n
     cast-put-count
     put-count-requires
+    same-length
+    returns-2
     same-length-2
     same-length-3
-    returns-2
-    number-requires-2
     returns-3)

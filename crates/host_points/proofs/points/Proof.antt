@@ -5,7 +5,8 @@ use mathlib.Core.Path.{_≡_, refl, sym, ap, ap₂, _∙_}
 use mathlib.Core.Bool.{true}
 use borrow.Author.Tests.{not-true, not-false}
 use lib.ListN.{length}
-use Rattle.refusal.specs.Refusal.{orElse}
+use Rattle.refusal.specs.Refusal.{number, orElse}
+use Rattle.refusal.proofs.Checks.{refusal-found}
 use Rattle.figure.specs.declared.Figure.{Figure}
 use Rattle.figure.specs.Calls.{figureCheck}
 use Rattle.points.specs.declared.PointsAnswer.{PointsAnswer}
@@ -54,28 +55,33 @@ check-room-requires c κs = search needs
 or-else-requires : tie.Need-or-else-requires
 or-else-requires c κs = search needs
 
-enum-known-refusal : tie.Need-enum-known-refusal
-enum-known-refusal c = search needs
-
 enum-told : tie.Need-enum-told
 enum-told c = search needs
 
-points-requires : tie.Need-points-requires
-points-requires c κs = search needs
+enum-told-2 : tie.Need-enum-told-2
+enum-told-2 c = search needs
 
-enum-known-short : tie.Need-enum-known-short
-enum-known-short c = search needs
+refusal-requires : tie.Need-refusal-requires
+refusal-requires c κs = search needs
 
 number-requires : tie.Need-number-requires
 number-requires c κs = search needs
 
-same-length : tie.Need-same-length
-same-length c = search needs
-
 returns-2 : tie.Need-returns-2
 returns-2 c =
-    rw (is-one (c .before .before .before .before .before .before .before .before .before .before .before .before .before), sym (checked (c .before .before .before .before .before .before .before .before .before)) ∙ c .before .before .before .before .before .before .before .enum-told .given .1)
-    (tells-refusal (c .before .before .before .before .before .before .before .before .before .before .before .before .before .before .before .args .out .now) (sym (ap (λ (a : PointsAnswer). pointsOutcome a) (c .before .before .short .given .1)) ∙ says (c .before .before .before .before .before)) (c .number .ensures), lists (c .before .before .before .before .before))
+    let told = c .before .before in
+    let entry = told .before .before .before .before .before .before .before .before in
+    rw (is-one (told .before .before .before .before .before .before), sym (checked (told .before .before)) ∙ told .enum-told2 .given .1)
+    (tells-refusal (entry .args .out .now) refl (c .number .ensures ∙ ap number (refusal-found (c .before .refusal .ensures) (told .enum-told2 .given .1))), refl)
+
+points-requires : tie.Need-points-requires
+points-requires c κs = search needs
+
+enum-known-refusal : tie.Need-enum-known-refusal
+enum-known-refusal c = search needs
+
+number-requires-2 : tie.Need-number-requires-2
+number-requires-2 c κs = search needs
 
 enum-known-n : tie.Need-enum-known-n
 enum-known-n c = search needs
@@ -83,24 +89,24 @@ enum-known-n c = search needs
 put-count-requires : tie.Need-put-count-requires
 put-count-requires c κs = search needs
 
+same-length : tie.Need-same-length
+same-length c = search needs
+
+returns-3 : tie.Need-returns-3
+returns-3 c =
+    rw (is-one (c .before .before .before .before .before .before .before .before .before .before .before .before .before), sym (checked (c .before .before .before .before .before .before .before .before .before)) ∙ c .before .before .before .before .before .before .before .enum-told .given .1)
+    (tells-refusal (c .before .before .before .before .before .before .before .before .before .before .before .before .before .before .before .args .out .now) (sym (ap (λ (a : PointsAnswer). pointsOutcome a) (c .before .before .refusal2 .given .1)) ∙ says (c .before .before .before .before .before)) (c .number2 .ensures), lists (c .before .before .before .before .before))
+
 same-length-2 : tie.Need-same-length-2
 same-length-2 c = search needs
 
 same-length-3 : tie.Need-same-length-3
 same-length-3 c = search needs
 
-returns-3 : tie.Need-returns-3
-returns-3 c =
-    rw (is-one (c .before .before .before .before .before .before .before .before .before .before .before .before .before .before .before), sym (checked (c .before .before .before .before .before .before .before .before .before .before .before)) ∙ c .before .before .before .before .before .before .before .before .before .enum-told .given .1)
-    (tells-as (sym (ap (λ (a : PointsAnswer). pointsOutcome a) (c .before .before .before .before .n .given .1)) ∙ says (c .before .before .before .before .before .before .before)) (c .before .put-count .ensures), lists (c .before .before .before .before .before .before .before))
-
-number-requires-2 : tie.Need-number-requires-2
-number-requires-2 c κs = search needs
-
 returns-4 : tie.Need-returns-4
 returns-4 c =
-    rw (is-one (c .before .before .before .before .before .before .before .before), sym (checked (c .before .before .before .before)) ∙ c .before .before .refusal .given .1)
-    (tells-refusal (c .before .before .before .before .before .before .before .before .before .before .args .out .now) refl (c .number2 .ensures), refl)
+    rw (is-one (c .before .before .before .before .before .before .before .before .before .before .before .before .before .before .before), sym (checked (c .before .before .before .before .before .before .before .before .before .before .before)) ∙ c .before .before .before .before .before .before .before .before .before .enum-told .given .1)
+    (tells-as (sym (ap (λ (a : PointsAnswer). pointsOutcome a) (c .before .before .before .before .n .given .1)) ∙ says (c .before .before .before .before .before .before .before)) (c .before .put-count .ensures), lists (c .before .before .before .before .before .before .before))
 
 pub points-spec : {M : Type 1} → statement M
 points-spec =
@@ -112,17 +118,18 @@ points-spec =
     check-requires
     check-room-requires
     or-else-requires
-    enum-known-refusal
     enum-told
-    points-requires
-    enum-known-short
+    enum-told-2
+    refusal-requires
     number-requires
-    same-length
     returns-2
+    points-requires
+    enum-known-refusal
+    number-requires-2
     enum-known-n
     put-count-requires
+    same-length
+    returns-3
     same-length-2
     same-length-3
-    returns-3
-    number-requires-2
     returns-4)

@@ -14,6 +14,7 @@ use Rattle.sheet.specs.declared.Sheet.{Sheet}
 use Rattle.sheet.specs.declared.SheetAnswer.{SheetAnswer}
 use Rattle.sheet.specs.Sheet.{said, sheetAnswer, carriedOutSheet, sheetAfter}
 use Rattle.sheet.proofs.Records.{added-record}
+use Rattle.sheet_calls.specs.SheetCalls.{answerNumber}
 use Rattle.drawing.specs.Drawing.{styledFigure}
 use Rattle.record_numbers.specs.RecordNumbers.{isFigure, isStyle, figureOf, styleOf}
 use Rattle.record_numbers.proofs.Records.{figure-length, style-length}
@@ -112,14 +113,26 @@ style-of-requires c κs = style-length (c .before .before .before .before .befor
 add-requires : tie.Need-add-requires
 add-requires c κs = search needs
 
-enum-known-answer : tie.Need-enum-known-answer
-enum-known-answer c = search needs
-
-number-requires : tie.Need-number-requires
-number-requires c κs = search needs
-
 enum-told : tie.Need-enum-told
 enum-told c = search needs
+
+enum-told-2 : tie.Need-enum-told-2
+enum-told-2 c = search needs
+
+number-of-requires : tie.Need-number-of-requires
+number-of-requires c κs = search needs
+
+same-length-4 : tie.Need-same-length-4
+same-length-4 c = search needs
+
+returns-4 : tie.Need-returns-4
+unfolding addTold addNumbers
+returns-4 c =
+    let told = c .before in
+    let made = told .before .before in
+    let refused = sym (says made) ∙ ap (λ (a : SheetAnswer). said a) (told .enum-told2 .given .1) in
+    rw (is-one (made .before .before .before .before .before .before .before .before .before), is-a-figure (made .before .before .before .before .before .before .before), is-a-style (made .before .before .before .before .before), refused)
+    (c .number-of .ensures ∙ ap (λ (a : SheetAnswer). answerNumber (said a)) (told .enum-told2 .given .1), refl)
 
 cast-place : tie.Need-cast-place
 cast-place c = search needs
@@ -147,15 +160,6 @@ slice-set-from-sheet c =
     let long = sheet-length (c .before .before .before .before .before .before .before .before .before .before .before .before .before .before .before .before .before .before .before .before .before .before .before .args .sheet .now) (is-one (c .before .before .before .before .before .before .before .before .before .before .before .before .before .before .before .before .before .before .before .before)) in
     let kept = c .before .sheet .given in
     omega arith
-
-same-length-4 : tie.Need-same-length-4
-same-length-4 c = search needs
-
-returns-4 : tie.Need-returns-4
-unfolding addTold addNumbers
-returns-4 c =
-    rw (is-one (c .before .before .before .before .before .before .before .before .before .before .before .before .before), is-a-figure (c .before .before .before .before .before .before .before .before .before .before .before), is-a-style (c .before .before .before .before .before .before .before .before .before), sym (sym (ap (λ (a : SheetAnswer). said a) (c .before .before .answer .given .1)) ∙ says (c .before .before .before .before)))
-    (c .number .ensures, refl)
 
 same-length-5 : tie.Need-same-length-5
 same-length-5 c = simp length-set (search needs)
@@ -189,16 +193,16 @@ add-spec =
     figure-of-requires
     style-of-requires
     add-requires
-    enum-known-answer
-    number-requires
     enum-told
+    enum-told-2
+    number-of-requires
+    same-length-4
+    returns-4
     cast-place
     mul-added
     array-copy-out-added
     put-layer-requires
     from-u32-requires
     slice-set-from-sheet
-    same-length-4
-    returns-4
     same-length-5
     returns-5)

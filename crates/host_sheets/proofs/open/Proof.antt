@@ -6,6 +6,8 @@ use lib.IntN.{ℤ, pos}
 use lib.ListN.{set}
 use mir.Syntax.{w32}
 use mir.Val.{toZ, ofZ}
+use Rattle.refusal.specs.Refusal.{number}
+use Rattle.refusal.proofs.Checks.{refusal-found}
 use Rattle.geometry.specs.Limits.{maxLayers}
 use Rattle.host_answers.specs.HostAnswers.{heldBy32}
 use Rattle.host_answers.proofs.Telling.{held-read, tells-refusal, tells-put}
@@ -17,11 +19,24 @@ use Rattle.host_sheets.proofs.open.Tie as tie
 check-requires : tie.Need-check-requires
 check-requires c κs = search needs
 
-enum-known-refusal : tie.Need-enum-known-refusal
-enum-known-refusal c = search needs
-
 enum-told : tie.Need-enum-told
 enum-told c = search needs
+
+enum-told-2 : tie.Need-enum-told-2
+enum-told-2 c = search needs
+
+refusal-requires : tie.Need-refusal-requires
+refusal-requires c κs = search needs
+
+number-requires : tie.Need-number-requires
+number-requires c κs = search needs
+
+returns : tie.Need-returns
+returns c =
+    let told = c .before .before in
+    rw (sym (told .before .before .check .ensures) ∙ told .enum-told2 .given .1)
+    (tells-refusal (told .before .before .before .args .sheet .now) refl
+    (c .number .ensures ∙ ap number (refusal-found (c .before .refusal .ensures) (told .enum-told2 .given .1))))
 
 unused-places-requires : tie.Need-unused-places-requires
 unused-places-requires c κs = search needs
@@ -47,9 +62,9 @@ put-numbers-requires c κs = search needs
 same-length : tie.Need-same-length
 same-length c = search needs
 
-returns : tie.Need-returns
+returns-2 : tie.Need-returns-2
 unfolding heldBy32 unusedPlaces
-returns c =
+returns-2 c =
     let made = c .before .before .before .before .before .before in
     let start = made .before .before .before .before in
     let held = c .before .before .before .before .before .held in
@@ -64,21 +79,16 @@ returns c =
     ∙ (λ i. held-read W (held .ensures) i ∷ held-read H (held2 .ensures) i ∷ pos 0 ∷ unusedPlaces maxLayers))
     _ _ (c .before .put-numbers .ensures .0) (c .before .put-numbers .ensures .1))
 
-number-requires : tie.Need-number-requires
-number-requires c κs = search needs
-
-returns-2 : tie.Need-returns-2
-returns-2 c =
-    rw (sym (c .before .before .before .before .check .ensures) ∙ c .before .before .refusal .given .1)
-    (tells-refusal (c .before .before .before .before .before .args .sheet .now) refl (c .number .ensures))
-
 pub open-spec : {M : Type 1} → statement M
 open-spec =
     tie.close
     (tie.spec
     check-requires
-    enum-known-refusal
     enum-told
+    enum-told-2
+    refusal-requires
+    number-requires
+    returns
     unused-places-requires
     held-requires
     array-set-from-numbers
@@ -87,6 +97,4 @@ open-spec =
     slice-aggregate-put-numbers
     put-numbers-requires
     same-length
-    returns
-    number-requires
     returns-2)

@@ -5,6 +5,8 @@ use mathlib.Core.Bool.{true}
 use borrow.Author.Needs.{needs}
 use borrow.Author.Tests.{not-true, not-false}
 use lib.ListN.{length-set}
+use Rattle.refusal.specs.Refusal.{number}
+use Rattle.refusal.proofs.Checks.{refusal-found}
 use Rattle.book.specs.Book.{accepted, paint as Call·paint}
 use Rattle.drawing.specs.Drawing.{answerOf}
 use Rattle.sheet.specs.Sheet.{sheetAnswer}
@@ -45,51 +47,55 @@ returns c = rw (sym (c .before .is-sheet .ensures) ∙ not-true _ (c .if1 .taken
 check-paint-requires : tie.Need-check-paint-requires
 check-paint-requires c κs = sheet-length (c .before .before .before .before .before .args .sheet .now) (is-one (c .before))
 
-enum-known-refusal : tie.Need-enum-known-refusal
-enum-known-refusal c = search needs
-
 enum-told : tie.Need-enum-told
 enum-told c = search needs
+
+enum-told-2 : tie.Need-enum-told-2
+enum-told-2 c = search needs
+
+refusal-requires : tie.Need-refusal-requires
+refusal-requires c κs = search needs
+
+number-requires : tie.Need-number-requires
+number-requires c κs = search needs
+
+same-length-2 : tie.Need-same-length-2
+same-length-2 c = search needs
+
+-- refused
+returns-2 : tie.Need-returns-2
+unfolding paintTold paintNumbers paintCanvas
+returns-2 c =
+    let told = c .before .before in
+    let check = told .before .before in
+    let a = start check .args in
+    let refused = sym (checked check) ∙ ap answerOf (told .enum-told2 .given .1) in
+    rw (is-one (check .before .before), refused) (
+      c .number .ensures ∙ ap number (refusal-found (c .before .refusal .ensures) (told .enum-told2 .given .1)),
+      (refl, sym (refused-canvas (sheetOf (a .sheet .now)) (sixteen (a .sheet .now)) (a .canvas .now) (Call·paint (a .layer)) _ refused)),
+    )
 
 paint-next-requires : tie.Need-paint-next-requires
 paint-next-requires c κs =
     let told = c .before .before in
     (sheet-length (start (told .before .before) .args .sheet .now) (is-one (told .before .before .before .before)), is-accepted told)
 
-same-length-2 : tie.Need-same-length-2
-same-length-2 c = search needs
-
 same-length-3 : tie.Need-same-length-3
 same-length-3 c = search needs
 
+same-length-4 : tie.Need-same-length-4
+same-length-4 c = search needs
+
 -- accepted
-returns-2 : tie.Need-returns-2
+returns-3 : tie.Need-returns-3
 unfolding paintTold paintNumbers paintCanvas
-returns-2 c =
+returns-3 c =
     let told = c .before .before .before .before .before .before in
     let a = start (told .before .before) .args in
     let painted = c .before .before .before .paint-next .ensures in
     rw (is-one (told .before .before .before .before), is-accepted told) (
       refl,
       (painted .0 ∙ painted-numbers (a .sheet .now) (a .layer) (a .canvas .now) (is-accepted told), painted .1),
-    )
-
-number-requires : tie.Need-number-requires
-number-requires c κs = search needs
-
-same-length-4 : tie.Need-same-length-4
-same-length-4 c = search needs
-
--- refused
-returns-3 : tie.Need-returns-3
-unfolding paintTold paintNumbers paintCanvas
-returns-3 c =
-    let check = c .before .before .before .before in
-    let a = start check .args in
-    let refused = sym (checked check) ∙ ap answerOf (c .before .before .refusal .given .1) in
-    rw (is-one (check .before .before), refused) (
-      c .number .ensures,
-      (refl, sym (refused-canvas (sheetOf (a .sheet .now)) (sixteen (a .sheet .now)) (a .canvas .now) (Call·paint (a .layer)) _ refused)),
     )
 
 pub paint-spec : {M : Type 1} → statement M
@@ -100,12 +106,13 @@ paint-spec =
     same-length
     returns
     check-paint-requires
-    enum-known-refusal
     enum-told
-    paint-next-requires
-    same-length-2
-    same-length-3
-    returns-2
+    enum-told-2
+    refusal-requires
     number-requires
+    same-length-2
+    returns-2
+    paint-next-requires
+    same-length-3
     same-length-4
     returns-3)

@@ -12,7 +12,7 @@ use Rattle.styled.specs.Calls.{styledRowCall}
 use Rattle.record_numbers.specs.RecordNumbers.{isFigure, isStyle, figureOf, styleOf}
 use Rattle.record_numbers.proofs.Records.{figure-length, style-length}
 use Rattle.host_answers.specs.HostAnswers.{noRecord}
-use Rattle.host_answers.proofs.Telling.{tells-as, tells-refused, tells-refusal}
+use Rattle.host_answers.proofs.Telling.{tells-as, tells-refused, tells-refusal, tells-nothing}
 use borrow.Author.Needs.{needs}
 use Rattle.host_styled.proofs.styled_row.Statement.{statement}
 use Rattle.host_styled.proofs.styled_row.Tie as tie
@@ -57,6 +57,9 @@ enum-known-refusal c = search needs
 number-requires : tie.Need-number-requires
 number-requires c κs = search needs
 
+enum-told : tie.Need-enum-told
+enum-told c = search needs
+
 enum-known-row : tie.Need-enum-known-row
 enum-known-row c = search needs
 
@@ -68,11 +71,16 @@ returns-3 c =
     rw (is-one (c .before .before .before .before .before .before .before .before .before), is-styled (c .before .before .before .before .before .before .before))
     (tells-refusal (c .before .before .before .before .before .before .before .before .before .before .before .args .out .now) (sym (ap (λ (a : StyledRowAnswer). styledRowOutcome a) (c .before .before .refusal .given .1)) ∙ says (c .before .before .before .before)) (c .number .ensures))
 
+returns-4 : tie.Need-returns-4
+returns-4 c =
+    rw (is-one (c .before .before .before .before .before .before .before), is-styled (c .before .before .before .before .before))
+    (tells-as (sym (ap (λ (a : StyledRowAnswer). styledRowOutcome a) (c .enum-told .given .1)) ∙ says (c .before .before)) (tells-nothing (c .before .before .before .before .before .before .before .before .before .args .out .now)))
+
 same-length : tie.Need-same-length
 same-length c = search needs
 
-returns-4 : tie.Need-returns-4
-returns-4 c =
+returns-5 : tie.Need-returns-5
+returns-5 c =
     rw (is-one (c .before .before .before .before .before .before .before .before .before .before .before), is-styled (c .before .before .before .before .before .before .before .before .before))
     (tells-as (sym (ap (λ (a : StyledRowAnswer). styledRowOutcome a) (c .before .before .before .before .row .given .1)) ∙ says (c .before .before .before .before .before .before)) (c .before .put-styled-row .ensures))
 
@@ -89,8 +97,10 @@ styled-row-spec =
     styled-row-requires
     enum-known-refusal
     number-requires
+    enum-told
     enum-known-row
     put-styled-row-requires
     returns-3
+    returns-4
     same-length
-    returns-4)
+    returns-5)

@@ -5,10 +5,11 @@ use mathlib.Core.Path.{_≡_, refl, sym, ap, ap₂, _∙_}
 use mathlib.Core.List.{[], _∷_}
 use Prim.Native.Nat.{ℕ, _+_}
 use native.Mathlib.Omega.{arith}
+use Rattle.refusal.proofs.Checks.{refused-early}
 use borrow.Author.Needs.{needs}
 use lib.IntN.{pos}
 use lib.ListN.{length}
-use Rattle.refusal.specs.Refusal.{orElse, answered}
+use Rattle.refusal.specs.Refusal.{refused, orElse, answered}
 use Rattle.refusal.specs.Refusal.{roomCheck}
 use Rattle.netpbm.specs.Netpbm.{writeCheck}
 use Rattle.p5_header.proofs.Header.{length-header-u32}
@@ -58,11 +59,20 @@ or-else-requires c κs = search needs
 or-else-requires-2 : tie.Need-or-else-requires-2
 or-else-requires-2 c κs = search needs
 
-enum-known-refusal : tie.Need-enum-known-refusal
-enum-known-refusal c = search needs
-
 enum-told : tie.Need-enum-told
 enum-told c = search needs
+
+enum-told-2 : tie.Need-enum-told-2
+enum-told-2 c = search needs
+
+refusal-requires : tie.Need-refusal-requires
+refusal-requires c κs = search needs
+
+-- refused
+returns : tie.Need-returns
+returns c =
+    rw (sym (checked (c .before .before .before)) ∙ c .before .enum-told2 .given .1)
+    (refused-early refused (c .refusal .ensures) (c .before .enum-told2 .given .1), refl)
 
 put-p5-requires : tie.Need-put-p5-requires
 put-p5-requires c κs =
@@ -73,16 +83,12 @@ put-p5-requires c κs =
 same-length : tie.Need-same-length
 same-length c = search needs
 
-returns : tie.Need-returns
-returns c =
+returns-2 : tie.Need-returns-2
+returns-2 c =
     let check = c .before .before .before .before .before .before in
     let written = c .before .before .put-p5 .ensures in
     rw (sym (checked check) ∙ c .before .before .before .before .enum-told .given .1)
     (ap (λ (n : ℕ). answered (pos n ∷ [])) (written .place ∙ omega arith), written .list)
-
--- refused
-returns-2 : tie.Need-returns-2
-returns-2 c = rw (sym (checked (c .before .before .before)) ∙ c .before .refusal .given .1) (refl, refl)
 
 pub write-p5-spec : {M : Type 1} → statement M
 write-p5-spec =
@@ -95,9 +101,10 @@ write-p5-spec =
     check-room-requires
     or-else-requires
     or-else-requires-2
-    enum-known-refusal
     enum-told
+    enum-told-2
+    refusal-requires
+    returns
     put-p5-requires
     same-length
-    returns
     returns-2)

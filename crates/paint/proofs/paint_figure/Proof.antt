@@ -1,10 +1,11 @@
 -- `paint::paint_figure` meets its contract: the checks made are those of the definition, in the table's order. Passed, they bound what
 -- is painted, and painting all rows overpaints every canvas row; a refusal is the checks' own, and nothing was painted.
 -- Assumes nothing.
+use Rattle.refusal.proofs.Checks.{refused-early}
 use borrow.Author.Needs.{needs}
 use native.Mathlib.Omega.{arith}
 use mathlib.Core.Path.{_≡_, refl, sym, ap₂, _∙_}
-use Rattle.refusal.specs.Refusal.{orElse}
+use Rattle.refusal.specs.Refusal.{refused, orElse}
 use Rattle.paint.specs.Paint.{paintCheck}
 use Rattle.paint.proofs.Passed.{PaintPassed, paint-passed}
 use Rattle.paint.proofs.Painted.{whole-is-painted}
@@ -37,11 +38,20 @@ or-else-requires c κs = search needs
 or-else-requires-2 : tie.Need-or-else-requires-2
 or-else-requires-2 c κs = search needs
 
-enum-known-refusal : tie.Need-enum-known-refusal
-enum-known-refusal c = search needs
-
 enum-told : tie.Need-enum-told
 enum-told c = search needs
+
+enum-told-2 : tie.Need-enum-told-2
+enum-told-2 c = search needs
+
+refusal-requires : tie.Need-refusal-requires
+refusal-requires c κs = search needs
+
+-- refused
+returns : tie.Need-returns
+returns c =
+    rw (sym (checked (c .before .before .before)) ∙ c .before .enum-told2 .given .1)
+    (refused-early refused (c .refusal .ensures) (c .before .enum-told2 .given .1), refl)
 
 paint-whole-requires : tie.Need-paint-whole-requires
 paint-whole-requires c κs =
@@ -54,16 +64,12 @@ paint-whole-requires c κs =
 same-length : tie.Need-same-length
 same-length c = search needs
 
-returns : tie.Need-returns
-returns c =
+returns-2 : tie.Need-returns-2
+returns-2 c =
     let a = c .before .before .before .before .before .before .before .before .before .before .before .before .args in
     let p = passed (c .before .before .before .before) in
     rw (sym (checked (c .before .before .before .before .before .before)) ∙ c .before .before .before .before .enum-told .given .1)
     (refl, c .before .before .paint-whole .ensures ∙ whole-is-painted (a .figure) (a .style) (a .width) (a .height) (a .canvas .now) (p .size))
-
--- refused
-returns-2 : tie.Need-returns-2
-returns-2 c = rw (sym (checked (c .before .before .before)) ∙ c .before .refusal .given .1) (refl, refl)
 
 pub paint-figure-spec : {M : Type 1} → statement M
 paint-figure-spec =
@@ -74,9 +80,10 @@ paint-figure-spec =
     check-length-requires
     or-else-requires
     or-else-requires-2
-    enum-known-refusal
     enum-told
+    enum-told-2
+    refusal-requires
+    returns
     paint-whole-requires
     same-length
-    returns
     returns-2)

@@ -8,13 +8,14 @@ use lib.IntN.{pos}
 use lib.ListN.{length}
 use lib.Seq.{sets}
 use Rattle.refusal.specs.declared.Checked.the-variants.{Passed}
-use Rattle.refusal.specs.Refusal.{answered, roomCheck}
+use Rattle.refusal.specs.Refusal.{refused, answered, roomCheck}
 use Rattle.scanline.specs.Points.{entries}
 use Rattle.shape.specs.declared.Shape.{Shape}
 use Rattle.figure.specs.Figure.{points, pointsOfShape}
 use Rattle.figure.specs.Calls.{figureCheck}
 use Rattle.figure.proofs.Within.{figure-passed, own-figure-bounded}
 use Rattle.points.proofs.Listed.{points-check-room, points-check-figure, room-passed}
+use Rattle.refusal.proofs.Checks.{refused-early}
 use borrow.Author.Needs.{needs}
 use native.Mathlib.Omega.{arith}
 use Rattle.points.proofs.points.Statement.{statement}
@@ -33,11 +34,21 @@ room-is c = c .check-room .ensures ∙ ap (λ (n : ℕ). roomCheck (2 * n) (leng
 check-requires : tie.Need-check-requires
 check-requires c κs = search needs
 
-enum-known-refusal : tie.Need-enum-known-refusal
-enum-known-refusal c = search needs
-
 enum-told : tie.Need-enum-told
 enum-told c = search needs
+
+enum-told-2 : tie.Need-enum-told-2
+enum-told-2 c = search needs
+
+refusal-requires : tie.Need-refusal-requires
+refusal-requires c κs = search needs
+
+-- refused
+returns : tie.Need-returns
+returns c =
+    let entry = c .before .before .before .before in
+    let check = points-check-figure (entry .args .figure) (length (entry .args .list .now)) _ (sym (c .before .before .before .check .ensures) ∙ c .before .enum-told2 .given .1) in
+    (rw check (refused-early refused (c .refusal .ensures) (c .before .enum-told2 .given .1)), rw check)
 
 shape-requires : tie.Need-shape-requires
 shape-requires c κs = own-figure-bounded (c .before .before .before .args .figure) (figure-passed (c .before .before .before .args .figure) (figure-passed-here c))
@@ -54,58 +65,56 @@ mul-check-room c = search needs
 check-room-requires : tie.Need-check-room-requires
 check-room-requires c κs = search needs
 
-enum-known-short : tie.Need-enum-known-short
-enum-known-short c = search needs
+enum-told-3 : tie.Need-enum-told-3
+enum-told-3 c = search needs
 
-enum-told-2 : tie.Need-enum-told-2
-enum-told-2 c = search needs
+enum-told-4 : tie.Need-enum-told-4
+enum-told-4 c = search needs
 
-put-points-requires : tie.Need-put-points-requires
-put-points-requires c κs =
-    let fits = room-passed (2 * c .before .before .before .before .count-points .result) (length (c .before .before .before .before .before .before .before .before .before .args .list .now)) (sym (c .before .before .before .check-room .ensures) ∙ c .before .enum-told2 .given .1) in
-    (c .before .before .before .before .before .shape .ensures .1, omega (arith, c .before .before .before .before .count-points .ensures .0))
-
-same-length : tie.Need-same-length
-same-length c = search needs
-
-returns : tie.Need-returns
-returns c =
-    let entry = c .before .before .before .before .before .before .before .before .before .before .before in
-    let passed = points-check-room (entry .args .figure) (length (entry .args .list .now)) Passed (figure-passed-here (c .before .before .before .before .before .before .before .before)) (sym (room-is (c .before .before .before .before .before)) ∙ c .before .before .before .enum-told2 .given .1) in (
-      rw passed (ap (λ (n : ℕ). answered (pos n ∷ [])) (count-is (c .before .before .before .before .before .before))),
-      rw passed (c .before .put-points .ensures ∙ ap (λ (s : Shape). sets (entry .args .list .now) 0 (entries (pointsOfShape s))) (c .before .before .before .before .before .before .before .shape .ensures .0)),
-    )
+refusal-requires-2 : tie.Need-refusal-requires-2
+refusal-requires-2 c κs = search needs
 
 -- too short
 returns-2 : tie.Need-returns-2
 returns-2 c =
     let entry = c .before .before .before .before .before .before .before .before .before in
-    let short = points-check-room (entry .args .figure) (length (entry .args .list .now)) _ (figure-passed-here (c .before .before .before .before .before .before)) (sym (room-is (c .before .before .before)) ∙ c .before .short .given .1) in
-    (rw short, rw short)
+    let short = points-check-room (entry .args .figure) (length (entry .args .list .now)) _ (figure-passed-here (c .before .before .before .before .before .before)) (sym (room-is (c .before .before .before)) ∙ c .before .enum-told4 .given .1) in
+    (rw short (refused-early refused (c .refusal2 .ensures) (c .before .enum-told4 .given .1)), rw short)
 
--- refused
+put-points-requires : tie.Need-put-points-requires
+put-points-requires c κs =
+    let fits = room-passed (2 * c .before .before .before .before .count-points .result) (length (c .before .before .before .before .before .before .before .before .before .args .list .now)) (sym (c .before .before .before .check-room .ensures) ∙ c .before .enum-told3 .given .1) in
+    (c .before .before .before .before .before .shape .ensures .1, omega (arith, c .before .before .before .before .count-points .ensures .0))
+
+same-length : tie.Need-same-length
+same-length c = search needs
+
 returns-3 : tie.Need-returns-3
 returns-3 c =
-    let entry = c .before .before .before .before in
-    let refused = points-check-figure (entry .args .figure) (length (entry .args .list .now)) _ (sym (c .before .before .before .check .ensures) ∙ c .before .refusal .given .1) in
-    (rw refused, rw refused)
+    let entry = c .before .before .before .before .before .before .before .before .before .before .before in
+    let passed = points-check-room (entry .args .figure) (length (entry .args .list .now)) Passed (figure-passed-here (c .before .before .before .before .before .before .before .before)) (sym (room-is (c .before .before .before .before .before)) ∙ c .before .before .before .enum-told3 .given .1) in (
+      rw passed (ap (λ (n : ℕ). answered (pos n ∷ [])) (count-is (c .before .before .before .before .before .before))),
+      rw passed (c .before .put-points .ensures ∙ ap (λ (s : Shape). sets (entry .args .list .now) 0 (entries (pointsOfShape s))) (c .before .before .before .before .before .before .before .shape .ensures .0)),
+    )
 
 pub points-spec : {M : Type 1} → statement M
 points-spec =
     tie.close
     (tie.spec
     check-requires
-    enum-known-refusal
     enum-told
+    enum-told-2
+    refusal-requires
+    returns
     shape-requires
     count-points-requires
     cast-check-room
     mul-check-room
     check-room-requires
-    enum-known-short
-    enum-told-2
+    enum-told-3
+    enum-told-4
+    refusal-requires-2
+    returns-2
     put-points-requires
     same-length
-    returns
-    returns-2
     returns-3)

@@ -17,25 +17,29 @@ size c = sym (c .before .before .check-length .ensures) ∙ c .enum-told .given 
 check-length-requires : tie.Need-check-length-requires
 check-length-requires c κs = search needs
 
-enum-known-refusal : tie.Need-enum-known-refusal
-enum-known-refusal c = search needs
-
 enum-told : tie.Need-enum-told
 enum-told c = search needs
 
+enum-told-2 : tie.Need-enum-told-2
+enum-told-2 c = search needs
+
 returns : tie.Need-returns
 unfolding askedCheck
-returns c = rw (size (c .before), le-leb _ _ (c .if1 .taken))
+returns c = rw (sym (c .before .before .check-length .ensures) ∙ c .enum-told2 .given .1) (c .enum-told2 .given .1)
 
 returns-2 : tie.Need-returns-2
 unfolding askedCheck
-returns-2 c =
-    let a = c .before .before .before .before .before .before .args in
-    rw (size (c .before .before .before), lt-leb _ _ (c .before .before .if1 .left), not-true (a .asked .left) (c .if2 .taken))
+returns-2 c = rw (size (c .before), le-leb _ _ (c .if1 .taken))
 
 returns-3 : tie.Need-returns-3
 unfolding askedCheck
 returns-3 c =
+    let a = c .before .before .before .before .before .before .args in
+    rw (size (c .before .before .before), lt-leb _ _ (c .before .before .if1 .left), not-true (a .asked .left) (c .if2 .taken))
+
+returns-4 : tie.Need-returns-4
+unfolding askedCheck
+returns-4 c =
     let a = c .before .before .before .before .before .before .before .args in
     rw (
       size (c .before .before .before .before),
@@ -44,10 +48,6 @@ returns-3 c =
           (c .before .if2 .left),
       c .if3 .taken,
     )
-
-returns-4 : tie.Need-returns-4
-unfolding askedCheck
-returns-4 c = rw (sym (c .before .before .before .check-length .ensures) ∙ c .before .refusal .given .1)
 
 returns-5 : tie.Need-returns-5
 unfolding askedCheck
@@ -66,8 +66,8 @@ check-asked-spec =
     tie.close
     (tie.spec
     check-length-requires
-    enum-known-refusal
     enum-told
+    enum-told-2
     returns
     returns-2
     returns-3

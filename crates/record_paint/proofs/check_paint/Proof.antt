@@ -48,10 +48,10 @@ size-is c check found =
     let size = c .before .size-of .ensures in
     sym (c .check .ensures ∙ ap₂ canvasSizeCheck (size .0) (size .1)) ∙ found
 
-size : (c : tie.After-enum-told2)
+size : (c : tie.After-enum-told)
     → canvasSizeCheck (sheet (c .before .before .before .before) .width) (sheet (c .before .before .before .before) .height)
     ≡ Passed
-size c = size-is (c .before .before) Passed (c .enum-told2 .given .1)
+size c = size-is (c .before .before) Passed (c .enum-told .given .1)
 
 -- the count is tested as it is read
 few-is : (c : tie.After-is-within)
@@ -99,14 +99,21 @@ enum-told c = search needs
 enum-told-2 : tie.Need-enum-told-2
 enum-told-2 c = search needs
 
+returns : tie.Need-returns
+returns c =
+    let entry = c .before .before .before .before in
+    λ canvas long. sym (refused entry canvas
+    (broken-size (sheet entry .width) (sheet entry .height) (sheet entry .count) (sheet entry .layers) _
+    (size-is (c .before .before) _ (c .enum-told2 .given .1))))
+
 shared-slice-copy-out-is-within : tie.Need-shared-slice-copy-out-is-within
 shared-slice-copy-out-is-within c = search needs
 
 is-within-requires : tie.Need-is-within-requires
 is-within-requires c κs = search needs
 
-returns : tie.Need-returns
-returns c =
+returns-2 : tie.Need-returns-2
+returns-2 c =
     let entry = c .before .before .before .before .before .before .before in
     λ canvas long. sym
     (refused entry canvas
@@ -135,8 +142,8 @@ enum-known-asked c = search needs
 enum-told-3 : tie.Need-enum-told-3
 enum-told-3 c = search needs
 
-returns-2 : tie.Need-returns-2
-returns-2 c =
+returns-3 : tie.Need-returns-3
+returns-3 c =
     let places = c .before .before in
     let read = places .before in
     let entry = start read in
@@ -147,13 +154,6 @@ returns-2 c =
 
 check-asked-requires : tie.Need-check-asked-requires
 check-asked-requires c κs = search needs
-
-returns-3 : tie.Need-returns-3
-returns-3 c =
-    let entry = c .before .before .before .before in
-    λ canvas long. sym (refused entry canvas
-    (broken-size (sheet entry .width) (sheet entry .height) (sheet entry .count) (sheet entry .layers) _
-    (size-is (c .before .before) _ (c .enum-told .given .1))))
 
 returns-4 : tie.Need-returns-4
 returns-4 c =
@@ -180,9 +180,10 @@ check-paint-spec =
     check-requires
     enum-told
     enum-told-2
+    returns
     shared-slice-copy-out-is-within
     is-within-requires
-    returns
+    returns-2
     shared-slice-copy-out-floor0
     floor0-requires
     next-of-requires
@@ -190,7 +191,6 @@ check-paint-spec =
     test-places-requires
     enum-known-asked
     enum-told-3
-    returns-2
-    check-asked-requires
     returns-3
+    check-asked-requires
     returns-4)

@@ -2,18 +2,19 @@
 -- sheet just opened, and demand 3 says what they leave; a refusal leaves what was lent.
 -- Assumes nothing.
 use borrow.Author.Needs.{needs}
-use mathlib.Core.Path.{_≡_, refl, sym, ap₂, _∙_}
+use mathlib.Core.Path.{_≡_, refl, sym, ap, ap₂, _∙_}
 use Prim.Native.Nat.{_≤_}
 use native.Mathlib.Omega.{arith}
 use borrow.Author.Tests.{not-true, not-false}
 use lib.ListN.{length}
 use Rattle.refusal.specs.declared.Refusal.the-variants.{BufferLength}
 use Rattle.refusal.specs.declared.Checked.the-variants.{Passed}
-use Rattle.refusal.specs.Refusal.{orElse as firstOf, roomCheck}
-use Rattle.refusal.proofs.Checks.{passed-first, passed-next, passed-above}
+use Rattle.refusal.specs.declared.Refusal.{Refusal}
+use Rattle.refusal.specs.Refusal.{number, orElse as firstOf, roomCheck}
+use Rattle.refusal.proofs.Checks.{passed-first, passed-next, passed-above, refusal-found}
 use Rattle.canvas_size.specs.CanvasSize.{canvasSizeCheck, canvasLengthCheck}
 use Rattle.call_numbers.specs.CallNumbers.{callCount, callsOf}
-use Rattle.sheet_calls.specs.SheetCalls.{lentCheck}
+use Rattle.sheet_calls.specs.SheetCalls.{refusedBy, lentCheck}
 use Rattle.sheet_calls.proofs.Runs.{run-from, run-refused, run-not-calls, run-accepted}
 use Rattle.sheet_calls.proofs.run_calls.Statement.{statement}
 use Rattle.sheet_calls.proofs.run_calls.Tie as tie
@@ -74,18 +75,32 @@ check-room-requires c κs = search needs
 or-else-requires-2 : tie.Need-or-else-requires-2
 or-else-requires-2 c κs = search needs
 
-enum-known-check : tie.Need-enum-known-check
-enum-known-check c = search needs
-
 enum-told : tie.Need-enum-told
 enum-told c = search needs
+
+enum-told-2 : tie.Need-enum-told-2
+enum-told-2 c = search needs
+
+refusal-requires : tie.Need-refusal-requires
+refusal-requires c κs = search needs
+
+-- 6, 8 or 13
+returns : tie.Need-returns
+returns c =
+    let check = c .before .before .before in
+    let a = start check .args in
+    let told = c .before .enum-told2 .given .1 in (
+      ap (λ (r : Refusal). refusedBy (number r)) (refusal-found (c .refusal .ensures) told)
+          ∙ sym (run-refused (a .width) (a .height) (a .calls .now) (length (a .canvas .now)) (length (a .answers .now)) _ (sym (checked check) ∙ told)),
+      record { sheet = check .before .before .before .before .before .before .«open» .ensures .1; kept-canvas = refl; kept-answers = refl },
+    )
 
 encodes-calls-requires : tie.Need-encodes-calls-requires
 encodes-calls-requires c κs = search needs
 
 -- no list of calls
-returns : tie.Need-returns
-returns c =
+returns-2 : tie.Need-returns-2
+returns-2 c =
     let told = c .before .before in
     let a = entry told .args in
     let none = sym (c .before .encodes-calls .ensures) ∙ not-true _ (c .if1 .taken) in (
@@ -102,8 +117,8 @@ same-length c = search needs
 same-length-2 : tie.Need-same-length-2
 same-length-2 c = search needs
 
-returns-2 : tie.Need-returns-2
-returns-2 c =
+returns-3 : tie.Need-returns-3
+returns-3 c =
     let made = c .before .before .before .before in
     let told = made .before .before .before .before .before in
     let a = entry told .args in
@@ -116,15 +131,6 @@ returns-2 c =
           (made .make-calls .ensures .1 .1) (made .make-calls .ensures .0) (made .make-calls .ensures .1 .0),
     )
 
--- 6, 8 or 13
-returns-3 : tie.Need-returns-3
-returns-3 c =
-    let check = c .before .before .before in
-    let a = start check .args in (
-      sym (run-refused (a .width) (a .height) (a .calls .now) (length (a .canvas .now)) (length (a .answers .now)) _ (sym (checked check) ∙ c .before .check2 .given .1)),
-      record { sheet = check .before .before .before .before .before .before .«open» .ensures .1; kept-canvas = refl; kept-answers = refl },
-    )
-
 pub run-calls-spec : {M : Type 1} → statement M
 run-calls-spec =
     tie.close
@@ -135,12 +141,13 @@ run-calls-spec =
     or-else-requires
     check-room-requires
     or-else-requires-2
-    enum-known-check
     enum-told
-    encodes-calls-requires
+    enum-told-2
+    refusal-requires
     returns
+    encodes-calls-requires
+    returns-2
     make-calls-requires
     same-length
     same-length-2
-    returns-2
     returns-3)

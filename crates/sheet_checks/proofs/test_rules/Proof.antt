@@ -18,18 +18,27 @@ check-requires c κs = search needs
 enum-told : tie.Need-enum-told
 enum-told c = search needs
 
+enum-told-2 : tie.Need-enum-told-2
+enum-told-2 c = search needs
+
 broken-requires : tie.Need-broken-requires
 broken-requires c κs = search needs
 
-enum-told-2 : tie.Need-enum-told-2
-enum-told-2 c = search needs
+-- a size beyond the limits
+returns : tie.Need-returns
+returns c =
+    let a = c .before .before .before .before .args in
+    let broken =
+    broken-size (a .size .width) (a .size .height) (a .count) (a .places) _
+    (sym (c .before .before .before .check .ensures) ∙ c .before .enum-told2 .given .1) in
+    (c .broken .ensures ∙ sym broken, λ kept. absurd (false≢true (sym (c .broken .ensures) ∙ kept)))
 
 broken-requires-2 : tie.Need-broken-requires-2
 broken-requires-2 c κs = search needs
 
 -- too many layers
-returns : tie.Need-returns
-returns c =
+returns-2 : tie.Need-returns-2
+returns-2 c =
     let entry = c .before .before .before .before .before in
     let a = entry .args in
     let broken = broken-count (a .size .width) (a .size .height) (a .count) (a .places) (sixteen entry) (c .before .if1 .taken) in
@@ -38,20 +47,11 @@ returns c =
 test-rules-requires : tie.Need-test-rules-requires
 test-rules-requires c κs = search needs
 
--- a size beyond the limits
-returns-2 : tie.Need-returns-2
-returns-2 c =
-    let a = c .before .before .before .before .args in
-    let broken =
-    broken-size (a .size .width) (a .size .height) (a .count) (a .places) _
-    (sym (c .before .before .before .check .ensures) ∙ c .before .enum-told .given .1) in
-    (c .broken .ensures ∙ sym broken, λ kept. absurd (false≢true (sym (c .broken .ensures) ∙ kept)))
-
 returns-3 : tie.Need-returns-3
 returns-3 c =
     let entry = c .before .before .before .before .before in
     let a = entry .args in
-    let passed = sym (c .before .before .before .before .check .ensures) ∙ c .before .before .enum-told2 .given .1 in (
+    let passed = sym (c .before .before .before .before .check .ensures) ∙ c .before .before .enum-told .given .1 in (
       c .test-rules .ensures .0
           ∙ kept-by-layers (a .size .width) (a .size .height) (a .count) (a .places) (sixteen entry) passed (c .before .if1 .left),
       c .test-rules .ensures .1,
@@ -63,10 +63,10 @@ test-rules-spec =
     (tie.spec
     check-requires
     enum-told
-    broken-requires
     enum-told-2
-    broken-requires-2
+    broken-requires
     returns
-    test-rules-requires
+    broken-requires-2
     returns-2
+    test-rules-requires
     returns-3)

@@ -4,11 +4,11 @@ use mathlib.Core.Path.{_≡_, sym, ap, ap₂, subst, _∙_}
 use lib.IntN.{pos}
 use mir.Facts.{toZ-ofZ}
 use Rattle.rectangle.specs.declared.Rectangle.{Rectangle}
-use Rattle.refusal.specs.Refusal.{orElse, answered}
+use Rattle.refusal.specs.Refusal.{refused, orElse, answered}
 use Rattle.rectangle.specs.Calls.{rectangleValues}
 use Rattle.rectangle.specs.Bounds.{Bounded}
 use Rattle.rectangle.specs.Rectangle.{offset as Rectangle·offset}
-use Rattle.refusal.proofs.Checks.{passed-first, passed-next}
+use Rattle.refusal.proofs.Checks.{passed-first, passed-next, refused-early}
 use Rattle.figure.specs.Calls.{figureCheck}
 use Rattle.figure.proofs.Within.{figure-passed}
 use Rattle.style.specs.Style.{styleCheck}
@@ -33,11 +33,19 @@ check-requires-2 c κs = search needs
 or-else-requires : tie.Need-or-else-requires
 or-else-requires c κs = search needs
 
-enum-known-refusal : tie.Need-enum-known-refusal
-enum-known-refusal c = search needs
-
 enum-told : tie.Need-enum-told
 enum-told c = search needs
+
+enum-told-2 : tie.Need-enum-told-2
+enum-told-2 c = search needs
+
+refusal-requires : tie.Need-refusal-requires
+refusal-requires c κs = search needs
+
+-- refused
+returns : tie.Need-returns
+returns c = rw (sym (checked (c .before .before .before)) ∙ c .before .enum-told2 .given .1)
+    (refused-early refused (c .refusal .ensures) (c .before .enum-told2 .given .1))
 
 outside-stroke-width-requires : tie.Need-outside-stroke-width-requires
 outside-stroke-width-requires c κs = search needs
@@ -60,16 +68,12 @@ offset-requires c κs =
     let own = own-rectangle-bounded f (figure-passed f (passed-first (figureCheck f) (styleCheck (entry .args .style)) passed)) in
     (subst Bounded (sym (c .own-rectangle .ensures)) own, omega (arith, int, c .before .before .outside-stroke-width .ensures, outside-passed (entry .args .style) (passed-next (figureCheck f) _ passed)))
 
-returns : tie.Need-returns
-returns c =
+returns-2 : tie.Need-returns-2
+returns-2 c =
     let wide = c .before .before .from-u32 .ensures in
     let by = toZ-ofZ (wide .fits) ∙ wide .is ∙ ap pos (c .before .before .before .outside-stroke-width .ensures) in
     rw (sym (checked (c .before .before .before .before .before .before)) ∙ c .before .before .before .before .enum-told .given .1)
     (ap (λ (r : Rectangle). answered (rectangleValues r)) (c .offset .ensures ∙ (λ i. Rectangle·offset (c .before .own-rectangle .ensures i) (by i))))
-
--- refused
-returns-2 : tie.Need-returns-2
-returns-2 c = rw (sym (checked (c .before .before .before)) ∙ c .before .refusal .given .1)
 
 pub styled-bounding-box-spec : {M : Type 1} → statement M
 styled-bounding-box-spec =
@@ -78,11 +82,12 @@ styled-bounding-box-spec =
     check-requires
     check-requires-2
     or-else-requires
-    enum-known-refusal
     enum-told
+    enum-told-2
+    refusal-requires
+    returns
     outside-stroke-width-requires
     from-u32-requires
     own-rectangle-requires
     offset-requires
-    returns
     returns-2)

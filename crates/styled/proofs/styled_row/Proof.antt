@@ -4,11 +4,12 @@ use native.Mathlib.Omega.{arith}
 use Rattle.signed.proofs.Laws.{int}
 use borrow.Author.Needs.{needs}
 use mathlib.Core.Path.{_≡_, sym, ap, ap₂, _∙_}
+use lib.IntN.{ℤ}
 use mir.Facts.{toZ-ofZ}
 use Rattle.scanline.specs.declared.StyledRow.{StyledRow}
-use Rattle.refusal.specs.Refusal.{orElse, answered}
+use Rattle.refusal.specs.Refusal.{refused, orElse, answered}
 use Rattle.geometry.specs.Checks.{askedCheck}
-use Rattle.refusal.proofs.Checks.{passed-first, passed-next}
+use Rattle.refusal.proofs.Checks.{passed-first, passed-next, refused-early}
 use Rattle.geometry.proofs.Checks.{asked-passed}
 use Rattle.figure.specs.Calls.{figureCheck}
 use Rattle.figure.proofs.Within.{figure-passed}
@@ -43,11 +44,19 @@ check-requires-2 c κs = search needs
 or-else-requires-2 : tie.Need-or-else-requires-2
 or-else-requires-2 c κs = search needs
 
-enum-known-refusal : tie.Need-enum-known-refusal
-enum-known-refusal c = search needs
-
 enum-told : tie.Need-enum-told
 enum-told c = search needs
+
+enum-told-2 : tie.Need-enum-told-2
+enum-told-2 c = search needs
+
+refusal-requires : tie.Need-refusal-requires
+refusal-requires c κs = search needs
+
+-- refused
+returns : tie.Need-returns
+returns c = rw (sym (checked (c .before .before .before)) ∙ c .before .enum-told2 .given .1)
+    (refused-early refused (c .refusal .ensures) (c .before .enum-told2 .given .1))
 
 row-at-requires : tie.Need-row-at-requires
 row-at-requires c κs =
@@ -60,15 +69,34 @@ row-at-requires c κs =
     let near = asked-passed (entry .args .y) (passed-next (figureCheck f) _ given) in
     (figure-passed f (passed-first (figureCheck f) (askedCheck (entry .args .y)) given), (omega arith, omega (arith, int)))
 
-returns : tie.Need-returns
-returns c =
+-- the runs found are those of the styled row
+runs-are : (c : tie.After-row-at)
+    → c .row-at .result
+    ≡ styledRow (c .before .before .before .before .before .before .before .before .args .figure) (c .before .before .before .before .before .before .before .before .args .style) (c .before .before .before .before .before .before .before .before .args .y)
+runs-are c =
     let entry = c .before .before .before .before .before .before .before .before in
-    rw (sym (checked (c .before .before .before)) ∙ c .before .enum-told .given .1)
-    (ap (λ (r : StyledRow). answered (styledRowValues r)) (c .row-at .ensures ∙ ap (styledRow (entry .args .figure) (entry .args .style)) (toZ-ofZ (entry .fits .y))))
+    c .row-at .ensures ∙ ap (styledRow (entry .args .figure) (entry .args .style)) (toZ-ofZ (entry .fits .y))
 
--- refused
+enum-known-runs : tie.Need-enum-known-runs
+enum-known-runs c = search needs
+
+enum-told-3 : tie.Need-enum-told-3
+enum-told-3 c = search needs
+
+-- no row
 returns-2 : tie.Need-returns-2
-returns-2 c = rw (sym (checked (c .before .before .before)) ∙ c .before .refusal .given .1)
+returns-2 c =
+    let found = c .before .before in
+    let entry = found .before .before .before .before .before .before .before .before in
+    rw (sym (checked (found .before .before .before)) ∙ found .before .enum-told .given .1)
+    (ap (λ (r : StyledRow). answered (styledRowValues (entry .args .y) r)) (sym (c .enum-told3 .given .1) ∙ runs-are found))
+
+returns-3 : tie.Need-returns-3
+returns-3 c =
+    let found = c .before .before .before .before .before .before in
+    let entry = found .before .before .before .before .before .before .before .before in
+    rw (sym (checked (found .before .before .before)) ∙ found .before .enum-told .given .1)
+    (ap₂ (λ (z : ℤ) (r : StyledRow). answered (styledRowValues z r)) (toZ-ofZ (entry .fits .y)) (sym (c .before .before .before .before .runs .given .1) ∙ runs-are found))
 
 pub styled-row-spec : {M : Type 1} → statement M
 styled-row-spec =
@@ -79,8 +107,12 @@ styled-row-spec =
     or-else-requires
     check-requires-2
     or-else-requires-2
-    enum-known-refusal
     enum-told
-    row-at-requires
+    enum-told-2
+    refusal-requires
     returns
-    returns-2)
+    row-at-requires
+    enum-known-runs
+    enum-told-3
+    returns-2
+    returns-3)

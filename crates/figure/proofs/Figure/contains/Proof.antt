@@ -3,9 +3,9 @@
 use mathlib.Core.Path.{_≡_, sym, ap, ap₂, _∙_}
 use mathlib.Core.Bool.{Bool}
 use mathlib.Core.List.{[], _∷_}
-use Rattle.refusal.specs.Refusal.{orElse, answered}
+use Rattle.refusal.specs.Refusal.{refused, orElse, answered}
 use Rattle.geometry.specs.Checks.{pointCheck}
-use Rattle.refusal.proofs.Checks.{passed-first, passed-next}
+use Rattle.refusal.proofs.Checks.{passed-first, passed-next, refused-early}
 use Rattle.geometry.proofs.Checks.{point-passed}
 use Rattle.shape.specs.declared.Shape.{Shape}
 use Rattle.figure.specs.Calls.{figureCheck, flag}
@@ -29,11 +29,19 @@ check-point-requires c κs = search needs
 or-else-requires : tie.Need-or-else-requires
 or-else-requires c κs = search needs
 
-enum-known-refusal : tie.Need-enum-known-refusal
-enum-known-refusal c = search needs
-
 enum-told : tie.Need-enum-told
 enum-told c = search needs
+
+enum-told-2 : tie.Need-enum-told-2
+enum-told-2 c = search needs
+
+refusal-requires : tie.Need-refusal-requires
+refusal-requires c κs = search needs
+
+-- refused
+returns : tie.Need-returns
+returns c = rw (sym (checked (c .before .before .before)) ∙ c .before .enum-told2 .given .1)
+    (refused-early refused (c .refusal .ensures) (c .before .enum-told2 .given .1))
 
 shape-requires : tie.Need-shape-requires
 shape-requires c κs =
@@ -46,15 +54,11 @@ contains-requires c κs =
     let entry = c .before .before .before .before .before .before in
     (c .shape .ensures .1, point-wider (omega arith) (point-passed (entry .args .point) (passed-next (figureCheck (entry .args .self)) _ (sym (checked (c .before .before .before)) ∙ c .before .enum-told .given .1))))
 
-returns : tie.Need-returns
-returns c =
+returns-2 : tie.Need-returns-2
+returns-2 c =
     let entry = c .before .before .before .before .before .before .before in
     rw (sym (checked (c .before .before .before .before)) ∙ c .before .before .enum-told .given .1)
     (ap (λ (b : Bool). answered (flag b ∷ [])) (c .contains .ensures ∙ ap (λ (s : Shape). containsShape s (entry .args .point)) (c .before .shape .ensures .0)))
-
--- refused
-returns-2 : tie.Need-returns-2
-returns-2 c = rw (sym (checked (c .before .before .before)) ∙ c .before .refusal .given .1)
 
 pub contains-spec : {M : Type 1} → statement M
 contains-spec =
@@ -63,9 +67,10 @@ contains-spec =
     check-requires
     check-point-requires
     or-else-requires
-    enum-known-refusal
     enum-told
+    enum-told-2
+    refusal-requires
+    returns
     shape-requires
     contains-requires
-    returns
     returns-2)

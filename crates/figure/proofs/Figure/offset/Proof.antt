@@ -2,9 +2,9 @@
 -- Assumes nothing.
 use mathlib.Core.Path.{_≡_, sym, ap, ap₂, _∙_}
 use mir.Facts.{toZ-ofZ}
-use Rattle.refusal.specs.Refusal.{orElse, answered}
+use Rattle.refusal.specs.Refusal.{refused, orElse, answered}
 use Rattle.geometry.specs.Checks.{offsetCheck}
-use Rattle.refusal.proofs.Checks.{passed-first, passed-next}
+use Rattle.refusal.proofs.Checks.{passed-first, passed-next, refused-early}
 use Rattle.geometry.proofs.Checks.{offset-passed}
 use Rattle.figure.specs.declared.Figure.{Figure}
 use Rattle.figure.specs.Calls.{figureCheck, figureValues}
@@ -29,11 +29,19 @@ check-offset-requires c κs = search needs
 or-else-requires : tie.Need-or-else-requires
 or-else-requires c κs = search needs
 
-enum-known-refusal : tie.Need-enum-known-refusal
-enum-known-refusal c = search needs
-
 enum-told : tie.Need-enum-told
 enum-told c = search needs
+
+enum-told-2 : tie.Need-enum-told-2
+enum-told-2 c = search needs
+
+refusal-requires : tie.Need-refusal-requires
+refusal-requires c κs = search needs
+
+-- refused
+returns : tie.Need-returns
+returns c = rw (sym (checked (c .before .before .before)) ∙ c .before .enum-told2 .given .1)
+    (refused-early refused (c .refusal .ensures) (c .before .enum-told2 .given .1))
 
 offset-by-requires : tie.Need-offset-by-requires
 offset-by-requires c κs =
@@ -42,15 +50,11 @@ offset-by-requires c κs =
     let near = offset-passed (entry .args .k) (passed-next (figureCheck (entry .args .self)) _ told) in
     (figure-passed (entry .args .self) (passed-first (figureCheck (entry .args .self)) (offsetCheck (entry .args .k)) told), omega (arith, int))
 
-returns : tie.Need-returns
-returns c =
+returns-2 : tie.Need-returns-2
+returns-2 c =
     let entry = c .before .before .before .before .before .before in
     rw (sym (checked (c .before .before .before)) ∙ c .before .enum-told .given .1)
     (ap (λ (f : Figure). answered (figureValues f)) (c .offset-by .ensures .0 ∙ ap (Figure·offset (entry .args .self)) (toZ-ofZ (entry .fits .k))))
-
--- refused
-returns-2 : tie.Need-returns-2
-returns-2 c = rw (sym (checked (c .before .before .before)) ∙ c .before .refusal .given .1)
 
 pub offset-spec : {M : Type 1} → statement M
 offset-spec =
@@ -59,8 +63,9 @@ offset-spec =
     check-requires
     check-offset-requires
     or-else-requires
-    enum-known-refusal
     enum-told
-    offset-by-requires
+    enum-told-2
+    refusal-requires
     returns
+    offset-by-requires
     returns-2)

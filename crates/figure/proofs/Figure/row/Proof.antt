@@ -2,13 +2,14 @@
 -- Assumes nothing.
 use mathlib.Core.Path.{_≡_, sym, ap, ap₂, _∙_}
 use mir.Facts.{toZ-ofZ}
-use Rattle.refusal.specs.Refusal.{orElse, answered}
+use Rattle.refusal.specs.Refusal.{refused, orElse, answered}
 use Rattle.geometry.specs.Checks.{askedCheck}
-use Rattle.refusal.proofs.Checks.{passed-first, passed-next}
+use Rattle.refusal.proofs.Checks.{passed-first, passed-next, refused-early}
 use Rattle.geometry.proofs.Checks.{asked-passed}
 use Rattle.scanline.specs.declared.Row.{Row}
 use Rattle.figure.specs.Calls.{figureCheck, rowValues}
-use Rattle.figure.specs.Figure.{rowOfShape}
+use Rattle.figure.specs.Figure.{rowOfShape, row}
+use lib.IntN.{ℤ}
 use Rattle.figure.proofs.Within.{figure-passed, own-figure-bounded}
 use borrow.Author.Needs.{needs}
 use native.Mathlib.Omega.{arith}
@@ -29,11 +30,19 @@ check-row-requires c κs = search needs
 or-else-requires : tie.Need-or-else-requires
 or-else-requires c κs = search needs
 
-enum-known-refusal : tie.Need-enum-known-refusal
-enum-known-refusal c = search needs
-
 enum-told : tie.Need-enum-told
 enum-told c = search needs
+
+enum-told-2 : tie.Need-enum-told-2
+enum-told-2 c = search needs
+
+refusal-requires : tie.Need-refusal-requires
+refusal-requires c κs = search needs
+
+-- refused
+returns : tie.Need-returns
+returns c = rw (sym (checked (c .before .before .before)) ∙ c .before .enum-told2 .given .1)
+    (refused-early refused (c .refusal .ensures) (c .before .enum-told2 .given .1))
 
 shape-requires : tie.Need-shape-requires
 shape-requires c κs =
@@ -47,15 +56,32 @@ row-requires c κs =
     let near = asked-passed (entry .args .y) (passed-next (figureCheck (entry .args .self)) _ (sym (checked (c .before .before .before)) ∙ c .before .enum-told .given .1)) in
     (c .shape .ensures .1, omega (arith, int))
 
-returns : tie.Need-returns
-returns c =
+-- the run found is the shape's
+run-is : (c : tie.After-row) → c .row .result ≡ row (c .before .before .before .before .before .before .before .args .self) (c .before .before .before .before .before .before .before .args .y)
+run-is c =
     let entry = c .before .before .before .before .before .before .before in
-    rw (sym (checked (c .before .before .before .before)) ∙ c .before .before .enum-told .given .1)
-    (ap (λ (r : Row). answered (rowValues r)) (c .row .ensures .0 ∙ (λ i. rowOfShape (c .before .shape .ensures .0 i) (toZ-ofZ (entry .fits .y) i))))
+    c .row .ensures .0 ∙ (λ i. rowOfShape (c .before .shape .ensures .0 i) (toZ-ofZ (entry .fits .y) i))
 
--- refused
+enum-known-run : tie.Need-enum-known-run
+enum-known-run c = search needs
+
+enum-told-3 : tie.Need-enum-told-3
+enum-told-3 c = search needs
+
+-- no row
 returns-2 : tie.Need-returns-2
-returns-2 c = rw (sym (checked (c .before .before .before)) ∙ c .before .refusal .given .1)
+returns-2 c =
+    let found = c .before .before in
+    let entry = found .before .before .before .before .before .before .before in
+    rw (sym (checked (found .before .before .before .before)) ∙ found .before .before .enum-told .given .1)
+    (ap (λ (r : Row). answered (rowValues (entry .args .y) r)) (sym (c .enum-told3 .given .1) ∙ run-is found))
+
+returns-3 : tie.Need-returns-3
+returns-3 c =
+    let found = c .before .before .before in
+    let entry = found .before .before .before .before .before .before .before in
+    rw (sym (checked (found .before .before .before .before)) ∙ found .before .before .enum-told .given .1)
+    (ap₂ (λ (z : ℤ) (r : Row). answered (rowValues z r)) (toZ-ofZ (entry .fits .y)) (sym (c .before .run .given .1) ∙ run-is found))
 
 pub row-spec : {M : Type 1} → statement M
 row-spec =
@@ -64,9 +90,13 @@ row-spec =
     check-requires
     check-row-requires
     or-else-requires
-    enum-known-refusal
     enum-told
+    enum-told-2
+    refusal-requires
+    returns
     shape-requires
     row-requires
-    returns
-    returns-2)
+    enum-known-run
+    enum-told-3
+    returns-2
+    returns-3)

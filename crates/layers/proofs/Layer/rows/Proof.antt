@@ -22,9 +22,9 @@ use Rattle.layers.proofs.Layer.rows.Statement.{statement}
 use Rattle.layers.proofs.Layer.rows.Tie as tie
 
 -- within limits
-passed : (c : tie.After-enum-told2)
+passed : (c : tie.After-enum-told)
     → styledCheck (c .before .before .before .before .before .args .self .figure) (c .before .before .before .before .before .args .self .style) ≡ Passed
-passed c = sym (c .before .before .check .ensures) ∙ c .enum-told2 .given .1
+passed c = sym (c .before .before .check .ensures) ∙ c .enum-told .given .1
 
 -- the layer, and its rows as they were computed
 abbrev self : tie.After-add → Layer
@@ -69,6 +69,9 @@ enum-told c = search needs
 enum-told-2 : tie.Need-enum-told-2
 enum-told-2 c = search needs
 
+returns : tie.Need-returns
+returns c = rw (broken-by-check (c .before .before .before .before .before .args .self) _ (sym (c .before .before .check .ensures) ∙ c .enum-told2 .given .1))
+
 stroke-rows-requires : tie.Need-stroke-rows-requires
 stroke-rows-requires c κs = (checked-figure _ _ (passed c), checked-stroke _ _ (passed c))
 
@@ -82,18 +85,15 @@ add-requires c κs =
     let wide = c .from-u32 .ensures in
     rw (toZ-ofZ (first .fits), toZ-ofZ (wide .fits), wide .is) (omega (arith, int))
 
-returns : tie.Need-returns
-returns c =
+returns-2 : tie.Need-returns-2
+returns-2 c =
     let area = c .before in
     rw (broken-above (self area) (passed (area .before .before .before .before)) (by-first area (c .if1 .taken)))
 
-returns-2 : tie.Need-returns-2
-returns-2 c =
+returns-3 : tie.Need-returns-3
+returns-3 c =
     let area = c .before .before in
     rw (broken-below (self area) (passed (area .before .before .before .before)) (by-first area (c .before .if1 .left)) (by-end area (c .if2 .taken)))
-
-returns-3 : tie.Need-returns-3
-returns-3 c = rw (broken-by-check (c .before .before .before .before .before .args .self) _ (sym (c .before .before .check .ensures) ∙ c .enum-told .given .1))
 
 returns-4 : tie.Need-returns-4
 unfolding layerRows
@@ -111,10 +111,10 @@ rows-spec =
     check-requires
     enum-told
     enum-told-2
+    returns
     stroke-rows-requires
     from-u32-requires
     add-requires
-    returns
     returns-2
     returns-3
     returns-4)

@@ -4,11 +4,11 @@
 use mathlib.Core.Path.{_≡_, sym, ap, ap₂, _∙_}
 use mir.Facts.{toZ-ofZ}
 use Rattle.rectangle.specs.declared.Rectangle.{Rectangle}
-use Rattle.refusal.specs.Refusal.{answered, orElse}
+use Rattle.refusal.specs.Refusal.{refused, answered, orElse}
 use Rattle.rectangle.specs.Rectangle.{offset as offsetRectangle}
 use Rattle.rectangle.specs.Calls.{rectangleCheck, rectangleValues}
 use Rattle.geometry.specs.Checks.{offsetCheck}
-use Rattle.refusal.proofs.Checks.{passed-first, passed-next}
+use Rattle.refusal.proofs.Checks.{passed-first, passed-next, refused-early}
 use Rattle.rectangle.proofs.Checks.{rectangle-bounded}
 use Rattle.geometry.proofs.Checks.{offset-passed}
 use borrow.Author.Needs.{needs}
@@ -32,11 +32,19 @@ check-offset-requires c κs = search needs
 or-else-requires : tie.Need-or-else-requires
 or-else-requires c κs = search needs
 
-enum-known-refusal : tie.Need-enum-known-refusal
-enum-known-refusal c = search needs
-
 enum-told : tie.Need-enum-told
 enum-told c = search needs
+
+enum-told-2 : tie.Need-enum-told-2
+enum-told-2 c = search needs
+
+refusal-requires : tie.Need-refusal-requires
+refusal-requires c κs = search needs
+
+-- refused
+returns : tie.Need-returns
+returns c = rw (sym (checked (c .before .before .before)) ∙ c .before .enum-told2 .given .1)
+    (refused-early refused (c .refusal .ensures) (c .before .enum-told2 .given .1))
 
 offset-requires : tie.Need-offset-requires
 offset-requires c κs =
@@ -45,15 +53,11 @@ offset-requires c κs =
     let near = offset-passed (entry .args .k) (passed-next (rectangleCheck (entry .args .self)) _ told) in
     (rectangle-bounded (entry .args .self) (passed-first _ _ told), omega (arith, int))
 
-returns : tie.Need-returns
-returns c =
+returns-2 : tie.Need-returns-2
+returns-2 c =
     let entry = c .before .before .before .before .before .before in
     rw (sym (checked (c .before .before .before)) ∙ c .before .enum-told .given .1)
     (ap (λ (r : Rectangle). answered (rectangleValues r)) (c .offset .ensures ∙ ap (offsetRectangle (entry .args .self)) (toZ-ofZ (entry .fits .k))))
-
--- refused
-returns-2 : tie.Need-returns-2
-returns-2 c = rw (sym (checked (c .before .before .before)) ∙ c .before .refusal .given .1)
 
 pub offset-spec : {M : Type 1} → statement M
 offset-spec =
@@ -62,8 +66,9 @@ offset-spec =
     check-requires
     check-offset-requires
     or-else-requires
-    enum-known-refusal
     enum-told
-    offset-requires
+    enum-told-2
+    refusal-requires
     returns
+    offset-requires
     returns-2)

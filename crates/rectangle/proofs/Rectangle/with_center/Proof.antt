@@ -3,10 +3,10 @@
 -- Assumes nothing.
 use mathlib.Core.Path.{_≡_, sym, ap, ap₂, _∙_}
 use Rattle.rectangle.specs.declared.Rectangle.{Rectangle}
-use Rattle.refusal.specs.Refusal.{unless, orElse}
+use Rattle.refusal.specs.Refusal.{refused, unless, orElse}
 use Rattle.geometry.specs.Checks.{sizeCheck, positionCheck, centerCheck}
 use Rattle.rectangle.specs.Calls.{rectangleValues}
-use Rattle.refusal.proofs.Checks.{passed-first, passed-next}
+use Rattle.refusal.proofs.Checks.{passed-first, passed-next, refused-early}
 use Rattle.geometry.proofs.Checks.{size-passed, center-passed}
 use Rattle.rectangle.proofs.Checks.{with-center-refused}
 use borrow.Author.Needs.{needs}
@@ -27,11 +27,21 @@ check-center-requires c κs = search needs
 or-else-requires : tie.Need-or-else-requires
 or-else-requires c κs = search needs
 
-enum-known-refusal : tie.Need-enum-known-refusal
-enum-known-refusal c = search needs
-
 enum-told : tie.Need-enum-told
 enum-told c = search needs
+
+enum-told-2 : tie.Need-enum-told-2
+enum-told-2 c = search needs
+
+refusal-requires : tie.Need-refusal-requires
+refusal-requires c κs = search needs
+
+-- refused
+returns : tie.Need-returns
+returns c =
+    let entry = c .before .before .before .before .before .before in
+    rw (with-center-refused (entry .args .center) (entry .args .size) _ (sym (checked (c .before .before .before)) ∙ c .before .enum-told2 .given .1))
+    (refused-early refused (c .refusal .ensures) (c .before .enum-told2 .given .1))
 
 with-center-requires : tie.Need-with-center-requires
 with-center-requires c κs =
@@ -45,19 +55,13 @@ with-center-requires c κs =
 within-limits-requires : tie.Need-within-limits-requires
 within-limits-requires c κs = search needs
 
-returns : tie.Need-returns
-returns c =
+returns-2 : tie.Need-returns-2
+returns-2 c =
     let entry = c .before .before .before .before .before .before .before in
     let told = sym (checked (c .before .before .before .before)) ∙ c .before .before .enum-told .given .1 in
     rw (passed-first (sizeCheck (entry .args .size)) _ told)
     (c .within-limits .ensures
     ∙ ap (λ (r : Rectangle). unless (positionCheck (r .«top_left»)) (rectangleValues r)) (c .before .with-center .ensures))
-
--- refused
-returns-2 : tie.Need-returns-2
-returns-2 c =
-    let entry = c .before .before .before .before .before .before in
-    rw (with-center-refused (entry .args .center) (entry .args .size) _ (sym (checked (c .before .before .before)) ∙ c .before .refusal .given .1))
 
 pub with-center-spec : {M : Type 1} → statement M
 with-center-spec =
@@ -66,9 +70,10 @@ with-center-spec =
     check-size-requires
     check-center-requires
     or-else-requires
-    enum-known-refusal
     enum-told
+    enum-told-2
+    refusal-requires
+    returns
     with-center-requires
     within-limits-requires
-    returns
     returns-2)

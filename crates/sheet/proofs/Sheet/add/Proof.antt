@@ -10,8 +10,8 @@ use lib.ListN.{length}
 use mir.Facts.{toZ-ofZ}
 use Prim.Native.Nat.{_+_, _<_}
 use Rattle.refusal.specs.declared.Checked.the-variants.{Passed}
-use Rattle.refusal.proofs.Checks.{passed-first}
-use Rattle.book.specs.Book.{Answer, accepted, _orElse_}
+use Rattle.refusal.proofs.Checks.{passed-first, refused-early}
+use Rattle.book.specs.Book.{Answer, accepted, _orElse_, refused}
 use Rattle.book.specs.Book.{add as Call·add}
 use Rattle.drawing.specs.declared.StrokeRows.{StrokeRows}
 use Rattle.drawing.specs.Drawing.{StyledFigure, answerOf, styledFigure, styledCheck}
@@ -68,11 +68,24 @@ check-requires c κs = search needs
 or-else-requires : tie.Need-or-else-requires
 or-else-requires c κs = search needs
 
-enum-known-check : tie.Need-enum-known-check
-enum-known-check c = search needs
-
 enum-told : tie.Need-enum-told
 enum-told c = search needs
+
+enum-told-2 : tie.Need-enum-told-2
+enum-told-2 c = search needs
+
+refusal-requires : tie.Need-refusal-requires
+refusal-requires c κs = search needs
+
+-- refused
+returns : tie.Need-returns
+returns c =
+    let start = c .before .before .before .before .before .before .before in
+    let told = c .before .enum-told2 .given .1 in
+    let says = checked (c .before .before .before) ∙ ap answerOf told in (
+      refused-early refused (c .refusal .ensures) told ∙ sym says,
+      sym (refused-record (start .args .self) (sixteen start) [] (Call·add (item start)) _ says),
+    )
 
 stroke-rows-requires : tie.Need-stroke-rows-requires
 stroke-rows-requires c κs = (checked-figure _ _ (figure-passed c), checked-stroke _ _ (figure-passed c))
@@ -80,8 +93,8 @@ stroke-rows-requires c κs = (checked-figure _ _ (figure-passed c), checked-stro
 cast-place : tie.Need-cast-place
 cast-place c = search needs
 
-mul-t14 : tie.Need-mul-t14
-mul-t14 c = search needs
+mul-t15 : tie.Need-mul-t15
+mul-t15 c = search needs
 
 element-set-from-sheet : tie.Need-element-set-from-sheet
 element-set-from-sheet c = room (c .before .before .before)
@@ -89,9 +102,9 @@ element-set-from-sheet c = room (c .before .before .before)
 add-sheet : tie.Need-add-sheet
 add-sheet c = let free = room (c .before .before .before .before) in record { fits = omega arith }
 
-returns : tie.Need-returns
+returns-2 : tie.Need-returns-2
 unfolding carriedOutSheet
-returns c =
+returns-2 c =
     let told = c .before .before .before .before in
     let a = entry told .args in
     let area = c .before .before .before .stroke-rows .ensures in
@@ -101,13 +114,6 @@ returns c =
           ∙ sym (added-record (a .self) (sixteen (entry told)) [] (item (entry told)) (passed told)),
     )
 
--- refused
-returns-2 : tie.Need-returns-2
-returns-2 c =
-    let start = c .before .before .before .before .before .before .before in
-    let refused = checked (c .before .before .before) ∙ ap answerOf (c .before .check2 .given .1) in
-    (sym refused, sym (refused-record (start .args .self) (sixteen start) [] (Call·add (item start)) _ refused))
-
 pub add-spec : {M : Type 1} → statement M
 add-spec =
     tie.close
@@ -115,12 +121,13 @@ add-spec =
     check-add-requires
     check-requires
     or-else-requires
-    enum-known-check
     enum-told
+    enum-told-2
+    refusal-requires
+    returns
     stroke-rows-requires
     cast-place
-    mul-t14
+    mul-t15
     element-set-from-sheet
     add-sheet
-    returns
     returns-2)

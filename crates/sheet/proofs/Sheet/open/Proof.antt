@@ -3,6 +3,8 @@
 use borrow.Author.Needs.{needs}
 use mathlib.Core.Path.{_≡_, sym, ap, _∙_}
 use lib.ListN.{replicate}
+use Rattle.refusal.proofs.Checks.{refused-early}
+use Rattle.book.specs.Book.{refused}
 use Rattle.drawing.specs.Drawing.{answerOf}
 use Rattle.layers.specs.declared.Layer.{Layer}
 use Rattle.sheet.specs.declared.Sheet.{Sheet}
@@ -21,23 +23,37 @@ blank-requires c κs = search needs
 check-requires : tie.Need-check-requires
 check-requires c κs = search needs
 
-enum-known-refusal : tie.Need-enum-known-refusal
-enum-known-refusal c = search needs
-
 enum-told : tie.Need-enum-told
 enum-told c = search needs
 
--- accepted
-returns : tie.Need-returns
-returns c =
-    let entry = c .before .before .before .before in
-    (sym (ap answerOf (sym (c .before .before .check .ensures) ∙ c .enum-told .given .1)), made (c .before .before .before))
+enum-told-2 : tie.Need-enum-told-2
+enum-told-2 c = search needs
+
+refusal-requires : tie.Need-refusal-requires
+refusal-requires c κs = search needs
 
 -- refused
+returns : tie.Need-returns
+returns c =
+    let told = c .before .enum-told2 .given .1 in (
+      refused-early refused (c .refusal .ensures) told ∙ sym (ap answerOf (sym (c .before .before .before .check .ensures) ∙ told)),
+      made (c .before .before .before .before),
+    )
+
+-- accepted
 returns-2 : tie.Need-returns-2
-returns-2 c = (sym (ap answerOf (sym (c .before .before .before .check .ensures) ∙ c .before .refusal .given .1)), made (c .before .before .before .before))
+returns-2 c =
+    let entry = c .before .before .before .before in
+    (sym (ap answerOf (sym (c .before .before .check .ensures) ∙ c .enum-told .given .1)), made (c .before .before .before))
 
 pub open-spec : {M : Type 1} → statement M
 open-spec =
     tie.close
-    (tie.spec blank-requires check-requires enum-known-refusal enum-told returns returns-2)
+    (tie.spec
+    blank-requires
+    check-requires
+    enum-told
+    enum-told-2
+    refusal-requires
+    returns
+    returns-2)

@@ -2,26 +2,29 @@
 -- and its next row moves down by one. A refusal is the check's own, and nothing was written.
 -- Assumes nothing.
 use borrow.Author.Needs.{needs}
-use mathlib.Core.Path.{_≡_, refl, sym, ap, _∙_}
+use mathlib.Core.Path.{_≡_, refl, sym, ap, subst, _∙_}
 use mathlib.Core.List.{List}
 use Prim.Native.Nat.{ℕ, _<_, _≤_}
 use native.Mathlib.Omega.{arith}
 use lib.IntN.{ℤ, pos, _+ℤ_}
 use lib.ListN.{length, getD}
 use mir.Syntax.{w32}
-use mir.Val.{toZ, ofZ}
+use mir.Val.{SFits, toZ, ofZ}
 use mir.Facts.{toZ-ofZ}
 use Rattle.signed.proofs.Laws.{int}
 use Rattle.geometry.specs.Bounds.{wideSide}
-use Rattle.book.specs.Book.{accepted}
+use Rattle.refusal.specs.declared.Refusal.{Refusal}
+use Rattle.refusal.specs.Refusal.{number}
+use Rattle.book.specs.Book.{accepted, refused}
 use Rattle.book.specs.Book.{paint as Call·paint}
 use Rattle.book.specs.Sheet.{paintRow}
-use Rattle.drawing.specs.Drawing.{answerOf, styledFigure, drawing}
+use Rattle.drawing.specs.Drawing.{styledFigure, drawing}
 use Rattle.layers.specs.declared.Layer.{Layer}
 use Rattle.layers.specs.Layers.{blankLayer}
 use Rattle.layers.proofs.LayerRules.{LayerWithin}
 use Rattle.sheet.specs.declared.Sheet.{Sheet}
 use Rattle.sheet.specs.Sheet.{sheetAnswer, withLayer, carriedOutSheet}
+use Rattle.sheet_checks.specs.Asked.{askedAnswer, askedRefusal, NextRow}
 use Rattle.sheet_checks.proofs.Places.{sixteen-places, kept-few, kept-layer, kept-width}
 use Rattle.sheet_checks.proofs.Answers.{PaintAccepted, painted-accepted}
 use Rattle.sheet.proofs.Records.{refused-record, refused-canvas, painted-record, painted-canvas}
@@ -32,76 +35,102 @@ sixteen : (c : tie.Start) → length (c .args .self .layers) ≡ 16
 sixteen c = sixteen-places (c .args .self .layers) (c .good .0 .1 .1 .1 .1 .1 .0 .1 .0 .1)
 
 -- the check made is the answer
-checked : (c : tie.After-check-paint)
-    → answerOf (c .check-paint .result) ≡ sheetAnswer (c .before .before .before .args .self) (c .before .before .before .args .canvas .now) (Call·paint (c .before .before .before .args .layer))
-checked c = c .check-paint .ensures (c .before .before .before .args .canvas .now) refl
+checked : (c : tie.After-asked-row)
+    → askedAnswer (c .asked-row .result) ≡ sheetAnswer (c .before .before .before .args .self) (c .before .before .before .args .canvas .now) (Call·paint (c .before .before .before .args .layer))
+checked c = c .asked-row .ensures .0 (c .before .before .before .args .canvas .now) refl
 
 -- ---- accepted
-abbrev entry : tie.After-enum-told → tie.Start
+abbrev entry : tie.After-asked → tie.Start
 entry c = c .before .before .before .before .before
 
-abbrev sheet : tie.After-enum-told → Sheet
+abbrev sheet : tie.After-asked → Sheet
 sheet c = entry c .args .self
 
-abbrev layer : tie.After-enum-told → Layer
+abbrev layer : tie.After-asked → Layer
 layer c = getD (sheet c .layers) (entry c .args .layer) blankLayer
 
-passed : (c : tie.After-enum-told) → sheetAnswer (sheet c) (entry c .args .canvas .now) (Call·paint (entry c .args .layer)) ≡ accepted
-passed c = sym (checked (c .before .before)) ∙ ap answerOf (c .enum-told .given .1)
+passed : (c : tie.After-asked) → sheetAnswer (sheet c) (entry c .args .canvas .now) (Call·paint (entry c .args .layer)) ≡ accepted
+passed c = sym (checked (c .before .before)) ∙ ap askedAnswer (c .asked .given .1)
 
-told : (c : tie.After-enum-told) → PaintAccepted (sheet c .width) (sheet c .height) (sheet c .count) (sheet c .layers) (sixteen (entry c)) (entry c .args .layer) (entry c .args .canvas .now)
+told : (c : tie.After-asked) → PaintAccepted (sheet c .width) (sheet c .height) (sheet c .count) (sheet c .layers) (sixteen (entry c)) (entry c .args .layer) (entry c .args .canvas .now)
 told c = painted-accepted (sheet c .width) (sheet c .height) (sheet c .count) (sheet c .layers) (sixteen (entry c)) (entry c .args .layer) (entry c .args .canvas .now) (passed c)
 
-within : (c : tie.After-enum-told) → LayerWithin (layer c)
+within : (c : tie.After-asked) → LayerWithin (layer c)
 within c =
     kept-layer (sheet c .width) (sheet c .height) (sheet c .count) (sheet c .layers) (sixteen (entry c)) (told c .rules) (entry c .args .layer) (told c .within)
 
-has-place : (c : tie.After-enum-told) → entry c .args .layer < 16
+has-place : (c : tie.After-asked) → entry c .args .layer < 16
 has-place c =
     let few = kept-few (sheet c .width) (sheet c .height) (sheet c .count) (sheet c .layers) (sixteen (entry c)) (told c .rules) in
     omega (arith, told c .within)
 
-narrow : (c : tie.After-enum-told) → sheet c .width ≤ wideSide
+narrow : (c : tie.After-asked) → sheet c .width ≤ wideSide
 narrow c = omega (arith, kept-width (sheet c .width) (sheet c .height) (sheet c .count) (sheet c .layers) (sixteen (entry c)) (told c .rules))
 
 -- the sheet with another next row for the layer, and the canvas with the layer's row at y
-abbrev put : tie.After-enum-told → ℤ → Sheet
+abbrev put : tie.After-asked → ℤ → Sheet
 put c z =
     withLayer (sheet c) (sheet c .count) (entry c .args .layer)
     (record { figure = layer c .figure; style = layer c .style; «next_row» = z })
 
-abbrev written : tie.After-enum-told → ℤ → List ℕ
+abbrev written : tie.After-asked → ℤ → List ℕ
 written c y =
     paintRow drawing (sheet c .width) (sheet c .height) (styledFigure (layer c .figure) (layer c .style)) y (entry c .args .canvas .now)
 
-check-paint-requires : tie.Need-check-paint-requires
-check-paint-requires c κs = search needs
+-- the row found is the layer's next row, as 32 bits hold it
+row-is : (c : tie.After-asked) → c .asked .given .0 .0 ≡ layer c .«next_row»
+row-is c = subst (NextRow (sheet c .layers) (entry c .args .layer)) (c .asked .given .1) (c .before .before .asked-row .ensures .1)
 
-enum-known-check : tie.Need-enum-known-check
-enum-known-check c = search needs
+row-held : (c : tie.After-asked) → toZ w32 (ofZ w32 (c .asked .given .0 .0)) ≡ layer c .«next_row»
+row-held c = toZ-ofZ (subst (SFits w32) (sym (row-is c)) (within c .next .fits)) ∙ row-is c
+
+asked-row-requires : tie.Need-asked-row-requires
+asked-row-requires c κs = search needs
+
+enum-known-asked : tie.Need-enum-known-asked
+enum-known-asked c = search needs
 
 enum-told : tie.Need-enum-told
 enum-told c = search needs
+
+refusal-requires : tie.Need-refusal-requires
+refusal-requires c κs = search needs
+
+-- refused
+returns : tie.Need-returns
+returns c =
+    let start = c .before .before .before .before .before .before in
+    let a = start .args in
+    let call = Call·paint (a .layer) in
+    let told = c .before .enum-told .given .1 in
+    let says = sym (checked (c .before .before .before)) ∙ ap askedAnswer told in (
+      ap (λ (r : Refusal). refused (number r)) (c .refusal .ensures ∙ ap askedRefusal told) ∙ sym says,
+      (
+        sym (refused-record (a .self) (sixteen start) (a .canvas .now) call _ says),
+        sym (refused-canvas (a .self) (sixteen start) (a .canvas .now) call _ says),
+      ),
+    )
 
 mul-chosen : tie.Need-mul-chosen
 mul-chosen c = search needs
 
 array-copy-out-chosen : tie.Need-array-copy-out-chosen
-array-copy-out-chosen c = has-place c
+array-copy-out-chosen c = has-place (c .before)
 
 paint-row-requires : tie.Need-paint-row-requires
 paint-row-requires c κs =
     let at = c .before .before .before .before in
     let next = within at .next in
-    (told at .size, (narrow at, (within at .figure, (within at .stroke, rw (toZ-ofZ (next .fits)) next))))
+    (told at .size, (narrow at, (within at .figure, (within at .stroke, rw (row-held at) next))))
 
 add-requires : tie.Need-add-requires
 add-requires c κs =
-    let next = within (c .before .before .before .before .before .before .before) .next in
-    rw (toZ-ofZ (next .fits)) (omega (arith, int))
+    let at = c .before .before .before .before .before .before .before in
+    let next = within at .next in
+    rw (row-held at) (omega (arith, int))
 
-mul-t16 : tie.Need-mul-t16
-mul-t16 c = search needs
+mul-t14 : tie.Need-mul-t14
+mul-t14 c = search needs
 
 element-set-from-sheet : tie.Need-element-set-from-sheet
 element-set-from-sheet c = has-place (c .before .before .before .before .before .before .before .before)
@@ -109,32 +138,18 @@ element-set-from-sheet c = has-place (c .before .before .before .before .before 
 same-length : tie.Need-same-length
 same-length c = search needs
 
-returns : tie.Need-returns
+returns-2 : tie.Need-returns-2
 unfolding carriedOutSheet
-returns c =
+returns-2 c =
     let at = c .before .before .before .before .before .before .before .before in
     let a = entry at .args in
-    let next = toZ-ofZ (within at .next .fits) in
+    let next = row-held at in
     let moved = toZ-ofZ (c .add .ensures .fits) ∙ c .add .ensures .is ∙ ap (λ (z : ℤ). z +ℤ pos 1) next in (
       sym (passed at),
       (
         ap (put at) moved ∙ sym (painted-record (a .self) (sixteen (entry at)) (a .canvas .now) (a .layer) (passed at)),
-        _∙_ {b = written at (toZ w32 (ofZ w32 (layer at .«next_row»)))} (c .before .before .before .paint-row .ensures)
+        _∙_ {b = written at (toZ w32 (ofZ w32 (at .asked .given .0 .0)))} (c .before .before .before .paint-row .ensures)
             (ap (written at) next ∙ sym (painted-canvas (a .self) (sixteen (entry at)) (a .canvas .now) (a .layer) (passed at))),
-      ),
-    )
-
--- refused
-returns-2 : tie.Need-returns-2
-returns-2 c =
-    let start = c .before .before .before .before .before .before in
-    let a = start .args in
-    let call = Call·paint (a .layer) in
-    let refused = sym (checked (c .before .before .before)) ∙ ap answerOf (c .before .check .given .1) in (
-      sym refused,
-      (
-        sym (refused-record (a .self) (sixteen start) (a .canvas .now) call _ refused),
-        sym (refused-canvas (a .self) (sixteen start) (a .canvas .now) call _ refused),
       ),
     )
 
@@ -142,15 +157,16 @@ pub paint-spec : {M : Type 1} → statement M
 paint-spec =
     tie.close
     (tie.spec
-    check-paint-requires
-    enum-known-check
+    asked-row-requires
+    enum-known-asked
     enum-told
+    refusal-requires
+    returns
     mul-chosen
     array-copy-out-chosen
     paint-row-requires
     add-requires
-    mul-t16
+    mul-t14
     element-set-from-sheet
     same-length
-    returns
     returns-2)

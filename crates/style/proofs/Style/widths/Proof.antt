@@ -3,8 +3,9 @@
 -- Assumes nothing.
 use mathlib.Core.Path.{sym, ap₂, _∙_}
 use Prim.Native.Nat.{ℕ}
-use Rattle.refusal.specs.Refusal.{Outcome, answered}
+use Rattle.refusal.specs.Refusal.{refused, Outcome, answered}
 use Rattle.style.specs.Style.{widthsValues}
+use Rattle.refusal.proofs.Checks.{refused-early}
 use borrow.Author.Needs.{needs}
 use Rattle.style.proofs.Style.widths.Statement.{statement}
 use Rattle.style.proofs.Style.widths.Tie as tie
@@ -15,11 +16,19 @@ widthsAnswered outside inside = answered (widthsValues (record { outside = outsi
 check-requires : tie.Need-check-requires
 check-requires c κs = search needs
 
-enum-known-refusal : tie.Need-enum-known-refusal
-enum-known-refusal c = search needs
-
 enum-told : tie.Need-enum-told
 enum-told c = search needs
+
+enum-told-2 : tie.Need-enum-told-2
+enum-told-2 c = search needs
+
+refusal-requires : tie.Need-refusal-requires
+refusal-requires c κs = search needs
+
+-- refused
+returns : tie.Need-returns
+returns c = rw (sym (c .before .before .before .check .ensures) ∙ c .before .enum-told2 .given .1)
+    (refused-early refused (c .refusal .ensures) (c .before .enum-told2 .given .1))
 
 outside-stroke-width-requires : tie.Need-outside-stroke-width-requires
 outside-stroke-width-requires c κs = search needs
@@ -27,23 +36,20 @@ outside-stroke-width-requires c κs = search needs
 inside-stroke-width-requires : tie.Need-inside-stroke-width-requires
 inside-stroke-width-requires c κs = search needs
 
-returns : tie.Need-returns
-returns c =
+returns-2 : tie.Need-returns-2
+returns-2 c =
     rw (sym (c .before .before .before .before .check .ensures) ∙ c .before .before .enum-told .given .1)
     (ap₂ widthsAnswered (c .before .outside-stroke-width .ensures) (c .inside-stroke-width .ensures))
-
--- refused
-returns-2 : tie.Need-returns-2
-returns-2 c = rw (sym (c .before .before .before .check .ensures) ∙ c .before .refusal .given .1)
 
 pub widths-spec : {M : Type 1} → statement M
 widths-spec =
     tie.close
     (tie.spec
     check-requires
-    enum-known-refusal
     enum-told
+    enum-told-2
+    refusal-requires
+    returns
     outside-stroke-width-requires
     inside-stroke-width-requires
-    returns
     returns-2)

@@ -1,11 +1,11 @@
--- `radius::check_radius` meets its contract: the checks called are those of the definition.
+-- `corner_radii::check_radius` meets its contract: the checks called are those of the definition.
 -- Assumes nothing.
 use mathlib.Core.Path.{ap₂, _∙_}
 use Rattle.refusal.specs.Refusal.{orElse}
-use Rattle.radius.specs.Radius.{radiusCheck}
+use Rattle.corner_radii.specs.CornerRadii.{radiusCheck}
 use borrow.Author.Needs.{needs}
-use Rattle.radius.proofs.check_radius.Statement.{statement}
-use Rattle.radius.proofs.check_radius.Tie as tie
+use Rattle.corner_radii.proofs.check_radius.Statement.{statement}
+use Rattle.corner_radii.proofs.check_radius.Tie as tie
 
 refuse-above-requires : tie.Need-refuse-above-requires
 refuse-above-requires c κs = search needs

@@ -1,4 +1,4 @@
--- `sheet_checks::check_paint` meets its contract: the tests made are those of the answer, in the table's order, with the rows that
+-- `sheet_checks::asked_row` meets its contract: the tests made are those of the answer, in the table's order, with the rows that
 -- the test of the rules found.
 -- Assumes nothing.
 use borrow.Author.Needs.{needs}
@@ -14,7 +14,9 @@ use mir.Syntax.{w32}
 use mir.Val.{toZ, ofZ}
 use mir.Facts.{toZ-ofZ}
 use Rattle.refusal.specs.declared.Checked.the-variants.{Passed}
+use Rattle.refusal.proofs.Checks.{refused-early}
 use Rattle.canvas_size.specs.CanvasSize.{canvasLengthCheck}
+use Rattle.book.specs.Book.{refused}
 use Rattle.book.specs.Sheet.{keepsRules}
 use Rattle.drawing.specs.Drawing.{drawing}
 use Rattle.layers.specs.declared.Layer.{Layer}
@@ -24,8 +26,8 @@ use Rattle.layers.specs.Layers.{blankLayer, layersOf, layerRows}
 use Rattle.layer_rows.proofs.RowTests.{noRows, RowsFit, le-held}
 use Rattle.sheet_checks.proofs.Places.{kept-few, kept-layer}
 use Rattle.sheet_checks.proofs.Answers.{paint-broken, paint-length, paint-no-layer, paint-finished, paint-owed, paint-free, rows-at, rows-before}
-use Rattle.sheet_checks.proofs.check_paint.Statement.{statement}
-use Rattle.sheet_checks.proofs.check_paint.Tie as tie
+use Rattle.sheet_checks.proofs.asked_row.Statement.{statement}
+use Rattle.sheet_checks.proofs.asked_row.Tie as tie
 
 sixteen : (c : tie.Start) → length (c .args .places) ≡ 16
 sixteen c = omega arith
@@ -105,28 +107,48 @@ test-rules-requires c κs = search needs
 returns : tie.Need-returns
 returns c =
     let entry = c .before .before .before .before in
-    let a = entry .args in
-    λ canvas long. sym (paint-broken (a .size .width) (a .size .height) (a .count) (a .places) (sixteen entry) (a .layer) canvas
-    (sym (c .before .before .before .test-rules .ensures .0) ∙ not-true _ (c .if1 .taken)))
+    let a = entry .args in (
+      λ canvas long. sym (paint-broken (a .size .width) (a .size .height) (a .count) (a .places) (sixteen entry) (a .layer) canvas
+          (sym (c .before .before .before .test-rules .ensures .0) ∙ not-true _ (c .if1 .taken))),
+      tt,
+    )
 
 check-length-requires : tie.Need-check-length-requires
 check-length-requires c κs = search needs
 
-enum-known-refusal : tie.Need-enum-known-refusal
-enum-known-refusal c = search needs
-
 enum-told : tie.Need-enum-told
 enum-told c = search needs
 
--- 10
+enum-told-2 : tie.Need-enum-told-2
+enum-told-2 c = search needs
+
+refusal-requires : tie.Need-refusal-requires
+refusal-requires c κs = search needs
+
+-- 8
 returns-2 : tie.Need-returns-2
 returns-2 c =
+    let kept = c .before .before .before .before in
+    let entry = kept .before .before .before .before in
+    let a = entry .args in
+    let told = c .before .enum-told2 .given .1 in (
+      λ canvas long. refused-early refused (c .refusal .ensures) told ∙ sym (paint-length (a .size .width) (a .size .height) (a .count) (a .places) (sixteen entry) (a .layer) canvas
+          (rules kept) _
+          (ap (canvasLengthCheck (a .size .width) (a .size .height)) long ∙ sym (c .before .before .before .check-length .ensures) ∙ told)),
+      tt,
+    )
+
+-- 10
+returns-3 : tie.Need-returns-3
+returns-3 c =
     let told = c .before in
     let kept = told .before .before .before in
     let entry = kept .before .before .before .before in
-    let a = entry .args in
-    λ canvas long. sym (paint-no-layer (a .size .width) (a .size .height) (a .count) (a .places) (sixteen entry) (a .layer) canvas
-    (rules kept) (size told canvas long) (c .if2 .taken))
+    let a = entry .args in (
+      λ canvas long. sym (paint-no-layer (a .size .width) (a .size .height) (a .count) (a .places) (sixteen entry) (a .layer) canvas
+          (rules kept) (size told canvas long) (c .if2 .taken)),
+      tt,
+    )
 
 mul-own : tie.Need-mul-own
 mul-own c = search needs
@@ -137,16 +159,18 @@ array-copy-out-own c =
     let within = c .if2 .left in
     omega (arith, few kept)
 
-returns-3 : tie.Need-returns-3
-returns-3 c =
+returns-4 : tie.Need-returns-4
+returns-4 c =
     let own = c .before .before .before .before in
     let told = own .before .before in
     let entry = kept own .before .before .before .before in
-    let a = entry .args in
-    λ canvas long.
-    sym (paint-finished (a .size .width) (a .size .height) (a .count) (a .places) (sixteen entry) (a .layer) canvas
-    (rules (kept own)) (size told canvas long)
-    (own .before .if2 .left) (by-end own (c .if3 .taken)))
+    let a = entry .args in (
+      λ canvas long.
+          sym (paint-finished (a .size .width) (a .size .height) (a .count) (a .places) (sixteen entry) (a .layer) canvas
+          (rules (kept own)) (size told canvas long)
+          (own .before .if2 .left) (by-end own (c .if3 .taken))),
+      tt,
+    )
 
 some-owes-requires : tie.Need-some-owes-requires
 some-owes-requires c κs =
@@ -154,52 +178,49 @@ some-owes-requires c κs =
     let within = own .before .if2 .left in
     omega (arith, few (kept own))
 
-returns-4 : tie.Need-returns-4
-returns-4 c =
+returns-5 : tie.Need-returns-5
+returns-5 c =
     let own = c .before .before .before .before .before .before in
     let told = own .before .before in
     let entry = kept own .before .before .before .before in
-    let a = entry .args in
-    λ canvas long.
-    sym (paint-owed (a .size .width) (a .size .height) (a .count) (a .places) (sixteen entry) (a .layer) canvas
-    (rules (kept own)) (size told canvas long)
-    (own .before .if2 .left) (by-end own (c .before .before .if3 .left)) (owed (c .before) ∙ c .if4 .taken))
+    let a = entry .args in (
+      λ canvas long.
+          sym (paint-owed (a .size .width) (a .size .height) (a .count) (a .places) (sixteen entry) (a .layer) canvas
+          (rules (kept own)) (size told canvas long)
+          (own .before .if2 .left) (by-end own (c .before .before .if3 .left)) (owed (c .before) ∙ c .if4 .taken)),
+      tt,
+    )
 
--- 8
-returns-5 : tie.Need-returns-5
-returns-5 c =
-    let kept = c .before .before .before .before in
-    let entry = kept .before .before .before .before in
-    let a = entry .args in
-    λ canvas long. sym (paint-length (a .size .width) (a .size .height) (a .count) (a .places) (sixteen entry) (a .layer) canvas
-    (rules kept) _
-    (ap (canvasLengthCheck (a .size .width) (a .size .height)) long ∙ sym (c .before .before .before .check-length .ensures) ∙ c .before .refusal .given .1))
-
+-- the layer's next row
 returns-6 : tie.Need-returns-6
+unfolding layerRows
 returns-6 c =
     let own = c .before .before .before .before .before .before in
     let told = own .before .before in
     let entry = kept own .before .before .before .before in
-    let a = entry .args in
-    λ canvas long.
-    sym (paint-free (a .size .width) (a .size .height) (a .count) (a .places) (sixteen entry) (a .layer) canvas
-    (rules (kept own)) (size told canvas long)
-    (own .before .if2 .left) (by-end own (c .before .before .if3 .left)) (owed (c .before) ∙ c .if4 .left))
+    let a = entry .args in (
+      λ canvas long.
+          sym (paint-free (a .size .width) (a .size .height) (a .count) (a .places) (sixteen entry) (a .layer) canvas
+          (rules (kept own)) (size told canvas long)
+          (own .before .if2 .left) (by-end own (c .before .before .if3 .left)) (owed (c .before) ∙ c .if4 .left)),
+      toZ-ofZ (own-fits own .next) ∙ ap (λ (r : LayerRows). r .next) (own-is own),
+    )
 
-pub check-paint-spec : {M : Type 1} → statement M
-check-paint-spec =
+pub asked-row-spec : {M : Type 1} → statement M
+asked-row-spec =
     tie.close
     (tie.spec
     test-rules-requires
     returns
     check-length-requires
-    enum-known-refusal
     enum-told
+    enum-told-2
+    refusal-requires
     returns-2
+    returns-3
     mul-own
     array-copy-out-own
-    returns-3
-    some-owes-requires
     returns-4
+    some-owes-requires
     returns-5
     returns-6)

@@ -1,2 +1,0 @@
--- `Checks` tells what a passed check says.
-pub mod Checks

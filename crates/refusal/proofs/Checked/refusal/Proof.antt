@@ -1,0 +1,20 @@
+-- `refusal::Checked::refusal` meets its contract: the variant matched is the case of `refusalOf`.
+-- Assumes nothing.
+use borrow.Author.Needs.{needs}
+use Rattle.refusal.proofs.Checked.refusal.Statement.{statement}
+use Rattle.refusal.proofs.Checked.refusal.Tie as tie
+
+enum-known-self : tie.Need-enum-known-self
+enum-known-self c = search needs
+
+enum-told : tie.Need-enum-told
+enum-told c = search needs
+
+returns : tie.Need-returns
+returns c = rw (c .before .self .given .1)
+
+returns-2 : tie.Need-returns-2
+returns-2 c = search needs
+
+pub refusal-spec : {M : Type 1} → statement M
+refusal-spec = tie.close (tie.spec enum-known-self enum-told returns returns-2)

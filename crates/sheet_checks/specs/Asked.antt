@@ -1,0 +1,29 @@
+-- Document 01, 'Sheet': what a paint call on a layer finds, the row that it asks for or a refusal.
+-- Assumes nothing.
+use mathlib.Core.Path.{_≡_}
+use mathlib.Core.List.{List}
+use Prim.Native.Nat.{ℕ}
+use lib.ListN.{getD}
+use Rattle.refusal.specs.declared.Refusal.{Refusal}
+use Rattle.refusal.specs.declared.Refusal.the-variants.{SheetRule}
+use Rattle.refusal.specs.Refusal.{number}
+use Rattle.book.specs.Book.{Answer, accepted, refused}
+use Rattle.layers.specs.declared.Layer.{Layer}
+use Rattle.layers.specs.Layers.{blankLayer}
+use Rattle.sheet_checks.specs.declared.Asked.{Asked}
+use Rattle.sheet_checks.specs.declared.Asked.the-variants.{Row, Refused}
+
+-- the answer that it leads to ('The records', the table): a refusal its number; a row is painted
+abbrev pub askedAnswer : Asked → Answer
+askedAnswer (Row y) = accepted
+askedAnswer (Refused refusal) = refused (number refusal)
+
+-- the refusal found; where a row is found nobody asks for it
+abbrev pub askedRefusal : Asked → Refusal
+askedRefusal (Row y) = SheetRule
+askedRefusal (Refused refusal) = refusal
+
+-- the row found is the next row of the layer in that place
+abbrev pub NextRow : List Layer → ℕ → Asked → Type 0
+NextRow places i (Row y) = y ≡ getD places i blankLayer .«next_row»
+NextRow places i (Refused refusal) = Unit {0}
