@@ -9,8 +9,8 @@ use lib.IntN.{ℤ}
 use lib.ListN.{set, getD}
 use lib.Seq.{getD-set-same}
 use Rattle.book.specs.Book.{accepted, paint}
-use Rattle.sheet_checks.proofs.Places.{kept-few}
-use Rattle.sheet_checks.proofs.Answers.{added-room, painted-accepted}
+use Rattle.sheet.proofs.Places.{kept-few}
+use Rattle.sheet.proofs.Answers.{added-room, painted-accepted}
 use Rattle.sheet.specs.declared.Sheet.{Sheet}
 use Rattle.layers.specs.declared.Layer.{Layer}
 use Rattle.layers.specs.Layers.{blankLayer}

@@ -26,16 +26,13 @@ ghost use mathlib.Core.Path.{_≡_};
 ghost use Rattle.host_answers.specs.HostAnswers.{Tells};
 ghost use Rattle.host_sheets.specs.Sheets.{openedNumbers, openSaid, addTold, addNumbers, paintTold, paintNumbers, paintCanvas};
 
-// How many places a sheet has for layers.
-const PLACES: usize = Layer::MAX_LAYERS as usize;
-
 // The numbers of a sheet without layers, its width and height left 0: unused places, without paint.
 fn unused_places() -> [i32; SHEET_LENGTH]
     ensures { λ r. ⌜ r ≡ openedNumbers 0 0 ⌝ }
 {
     let mut numbers = [0i32; SHEET_LENGTH];
     let mut j: usize = 0;
-    while j < PLACES {
+    while j < Layer::PLACES {
         let style = 3 + LAYER_LENGTH * j + FIGURE_LENGTH;
         numbers[style] = -1;
         numbers[style + 1] = -1;

@@ -14,6 +14,9 @@ pub struct LayerRows {
 }
 
 impl LayerRows {
+    // How many layers a sheet has places for.
+    pub const PLACES: usize = 16;
+
     // Whether y is among the rows and not painted yet.
     pub fn owes(self, y: i32) -> bool
         ensures { λ r. ⌜ r ≡ rowsOwe self y ⌝ }
@@ -46,7 +49,7 @@ impl LayerRows {
 }
 
 // Whether one of the first layers owes y.
-pub fn some_owes(rows: [LayerRows; 16], layers: usize, y: i32) -> bool
+pub fn some_owes(rows: [LayerRows; LayerRows::PLACES], layers: usize, y: i32) -> bool
     requires { ⌜ layers ≤ maxLayers ⌝ }
     ensures { λ r. ⌜ r ≡ someRowsOwe (take layers rows) y ⌝ }
 {
@@ -63,7 +66,12 @@ pub fn some_owes(rows: [LayerRows; 16], layers: usize, y: i32) -> bool
 
 // Whether no layer from this place up to the count overtakes an earlier one. One that is painted to its
 // end owes nothing.
-pub fn none_overtakes(earlier: LayerRows, rows: [LayerRows; 16], from: usize, count: usize) -> bool
+pub fn none_overtakes(
+    earlier: LayerRows,
+    rows: [LayerRows; LayerRows::PLACES],
+    from: usize,
+    count: usize,
+) -> bool
     requires { ⌜ from ≤ count ⌝ }
     requires { ⌜ count ≤ maxLayers ⌝ }
     ensures { λ r. ⌜ r ≡ noRowsOvertake earlier (drop from (take count rows)) ⌝ }
@@ -83,7 +91,7 @@ pub fn none_overtakes(earlier: LayerRows, rows: [LayerRows; 16], from: usize, co
 }
 
 // Whether none of the first layers overtakes an earlier one of them.
-pub fn in_order(rows: [LayerRows; 16], count: usize) -> bool
+pub fn in_order(rows: [LayerRows; LayerRows::PLACES], count: usize) -> bool
     requires { ⌜ count ≤ maxLayers ⌝ }
     ensures { λ r. ⌜ r ≡ rowsInOrder (take count rows) ⌝ }
 {

@@ -37,7 +37,7 @@ pub enum RowsFound {
 // What the test of all layers' rules finds. The rows are those of the layers where they are kept.
 pub struct RulesTested {
     pub kept: bool,
-    pub rows: [LayerRows; 16],
+    pub rows: [LayerRows; LayerRows::PLACES],
 }
 
 impl RulesTested {
@@ -52,14 +52,14 @@ impl RulesTested {
         };
         RulesTested {
             kept: false,
-            rows: [none; 16],
+            rows: [none; LayerRows::PLACES],
         }
     }
 }
 
 impl Layer {
-    // The largest number of layers of a sheet (refusals 7 and 9).
-    pub const MAX_LAYERS: u32 = 16;
+    // How many of them a sheet has places for.
+    pub const PLACES: usize = LayerRows::PLACES;
 
     // A place that no layer was put in.
     pub fn blank() -> Layer
@@ -113,7 +113,7 @@ impl Layer {
 
 // Tests the rules of the first layers: one by one, from the last to the first, and then two by two, by
 // the rows that were found.
-pub fn test_rules(layers: [Layer; 16], count: usize) -> RulesTested
+pub fn test_rules(layers: [Layer; Layer::PLACES], count: usize) -> RulesTested
     requires { ⌜ count ≤ maxLayers ⌝ }
     ensures { λ r. ⌜ r .kept ≡ layersKeepRules drawing (map layerOf (take count layers)) ⌝ }
     ensures { λ r. ⌜ (r .kept ≡ true → take count (r .rows) ≡ map layerRows (take count layers)) ⌝ }
@@ -123,7 +123,7 @@ pub fn test_rules(layers: [Layer; 16], count: usize) -> RulesTested
         next: 0,
         end: 0,
     };
-    let mut rows = [none; 16];
+    let mut rows = [none; LayerRows::PLACES];
     let mut i = count;
     while 0 < i {
         i -= 1;

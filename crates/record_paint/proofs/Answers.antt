@@ -22,7 +22,7 @@ use Rattle.book.specs.Book.{Answer, paint as Call·paint}
 use Rattle.drawing.specs.Drawing.{answerOf}
 use Rattle.layers.specs.declared.Layer.{Layer}
 use Rattle.layers.specs.Layers.{blankLayer, layerRows}
-use Rattle.sheet_checks.proofs.Answers.{paint-length, paint-no-layer, paint-finished, paint-owed, paint-free}
+use Rattle.sheet.proofs.Answers.{paint-length, paint-no-layer, paint-finished, paint-owed, paint-free}
 use Rattle.sheet.specs.Sheet.{sheetAnswer}
 use Rattle.record_numbers.specs.RecordNumbers.{listFrom}
 use Rattle.sheet_record.specs.SheetRecord.{placeNumbers, layerOf, sheetOf}

@@ -22,7 +22,7 @@ use Rattle.layers.specs.declared.Layer.{Layer}
 use Rattle.layers.specs.Layers.{layersOf, layerRows}
 use Rattle.layers.specs.Layers.{layerOf as Layers·layerOf}
 use Rattle.layers.proofs.LayerRules.{eachKeeps, regroup, kept-by-parts}
-use Rattle.sheet_checks.proofs.Places.{broken-count, kept-by-layers}
+use Rattle.sheet.proofs.Places.{broken-count, kept-by-layers}
 use Rattle.record_numbers.specs.RecordNumbers.{numberAt, listFrom, allFrom, within, noneNegative}
 use Rattle.sheet_record.specs.SheetRecord.{placeNumbers, isLayer, holdsRecords, layerOf, sheetOf}
 use Rattle.sheet_record.proofs.Parts.{sixteen, count-of-records}

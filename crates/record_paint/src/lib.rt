@@ -1,7 +1,6 @@
 // Painting on a sheet that a host keeps as numbers: what is tested and painted is read from them, and no
 // sheet is made and handed on.
 use canvas_size::CanvasSize;
-use layers::Layer;
 use record_numbers::is_within;
 use record_rules::Asked;
 use record_rules::PlacesTested;
@@ -9,6 +8,7 @@ use record_rules::test_places;
 use refusal::Checked;
 use refusal::Refusal;
 use row_alone::paint_row_alone;
+use sheet::Sheet;
 use sheet_record::LAYER_LENGTH;
 use sheet_record::layer_at;
 use sheet_record::size_of;
@@ -24,14 +24,14 @@ ghost use Rattle.sheet_record.specs.SheetRecord.{sheetLength, sheetOf, rowPaint
 ghost use Rattle.record_paint.specs.RecordPaint.{nextOf, askedCheck};
 
 // The largest count of layers, as a host's number is held to it.
-const MAX_COUNT: i32 = Layer::MAX_LAYERS as i32;
+const MAX_COUNT: i32 = Sheet::MAX_LAYERS as i32;
 
 // The next row of a layer, or 0 where there is no such place.
 fn next_of(numbers: &[i32], layer: u32) -> i32
     requires { ⌜ length (now numbers) ≡ sheetLength ⌝ }
     ensures { λ r. ⌜ Is (nextOf (now (numbers .entry)) layer) r ⌝ }
 {
-    if Layer::MAX_LAYERS <= layer {
+    if Sheet::MAX_LAYERS <= layer {
         return 0;
     }
     numbers[3 + LAYER_LENGTH * (layer as usize) + 17]

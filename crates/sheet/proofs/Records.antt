@@ -17,8 +17,8 @@ use Rattle.layers.specs.declared.Layer.{Layer}
 use Rattle.layers.specs.Layers.{layerOf, blankLayer, layersOf}
 use Rattle.sheet.specs.declared.Sheet.{Sheet}
 use Rattle.sheet.specs.Sheet.{stateOf, openedSheet, sheetAnswer, addedLayer, paintedLayer, carriedOutSheet, sheetAfter, canvasAfter}
-use Rattle.sheet_checks.proofs.Places.{layers-are, layer-at, kept-few}
-use Rattle.sheet_checks.proofs.Answers.{added-room, PaintAccepted, painted-accepted}
+use Rattle.sheet.proofs.Places.{layers-are, layer-at, kept-few}
+use Rattle.sheet.proofs.Answers.{added-room, PaintAccepted, painted-accepted}
 
 module _ (s : Sheet) (sixteen : length (s .layers) ≡ 16) (canvas : List ℕ) where
   -- ---- refused: the record

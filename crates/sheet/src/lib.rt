@@ -3,12 +3,15 @@
 // every call tests all its rules, so any record can be given. A refused call hands the sheet back as
 // it was given and changes no byte.
 use canvas_size::CanvasSize;
+use checks::Asked;
 use figure::Figure;
 use layers::Layer;
 use refusal::Checked;
 use refusal::Refusal;
-use sheet_checks::Asked;
 use style::Style;
+
+mod checks;
+
 ghost use mathlib.Core.Path.{_≡_};
 ghost use mathlib.Core.List.{[]};
 ghost use Rattle.book.specs.Book.{add as Call·add, paint as Call·paint};
@@ -20,7 +23,7 @@ pub struct Sheet {
     pub height: u32,
     // How many of the places hold a layer, from the first on.
     pub count: u32,
-    pub layers: [Layer; 16],
+    pub layers: [Layer; Layer::PLACES],
 }
 
 pub enum SheetAnswer {
@@ -34,6 +37,9 @@ pub struct SheetOutcome {
 }
 
 impl Sheet {
+    // The largest number of layers (refusals 7 and 9).
+    pub const MAX_LAYERS: u32 = Layer::PLACES as u32;
+
     // A sheet without layers for a canvas of this size (refusal 6). After a refusal too: a sheet of such
     // a size breaks the rules, so every later call refuses it.
     pub fn open(width: u32, height: u32) -> SheetOutcome
@@ -45,7 +51,7 @@ impl Sheet {
             width: width,
             height: height,
             count: 0,
-            layers: [blank; 16],
+            layers: [blank; Layer::PLACES],
         };
         let size = CanvasSize {
             width: width,
@@ -74,7 +80,7 @@ impl Sheet {
             height: self.height,
         };
         let places = self.layers;
-        let room = sheet_checks::check_add(size, self.count, places);
+        let room = checks::check_add(size, self.count, places);
         let checked = drawing::check(figure, style).or_else(room);
         let Checked::Passed = checked else {
             return SheetOutcome {
@@ -108,7 +114,7 @@ impl Sheet {
             height: self.height,
         };
         let places = self.layers;
-        let asked = sheet_checks::asked_row(size, self.count, places, layer, canvas.len());
+        let asked = checks::asked_row(size, self.count, places, layer, canvas.len());
         let Asked::Row(row) = asked else {
             return SheetOutcome {
                 sheet: self,

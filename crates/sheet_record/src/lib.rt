@@ -47,7 +47,7 @@ fn holds_records(numbers: &[i32]) -> bool
     if !none_negative(&numbers[0..3]) {
         return false;
     }
-    let used = signed::least(signed::floor0(numbers[2]), Layer::MAX_LAYERS) as usize;
+    let used = signed::least(signed::floor0(numbers[2]), Sheet::MAX_LAYERS) as usize;
     let mut j: usize = 0;
     while j < used {
         let at = 3 + LAYER_LENGTH * j;
@@ -105,14 +105,14 @@ pub fn size_of(numbers: &[i32]) -> CanvasSize
 }
 
 // The layers in all places.
-fn places_of(numbers: &[i32]) -> [Layer; 16]
+fn places_of(numbers: &[i32]) -> [Layer; Layer::PLACES]
     requires { ⌜ length (now numbers) ≡ sheetLength ⌝ }
     ensures { λ r. ⌜ r ≡ sheetOf (now (numbers .entry)) .layers ⌝ }
 {
     let blank = Layer::blank();
-    let mut places = [blank; 16];
+    let mut places = [blank; Layer::PLACES];
     let mut j: usize = 0;
-    while j < 16 {
+    while j < Layer::PLACES {
         places[j] = layer_at(numbers, j);
         j += 1;
     }

@@ -14,8 +14,8 @@ use Rattle.refusal.specs.declared.Checked.{Checked}
 use Rattle.refusal.specs.declared.Checked.the-variants.{Passed}
 use Rattle.canvas_size.specs.CanvasSize.{canvasSizeCheck}
 use Rattle.drawing.specs.Drawing.{answerOf}
-use Rattle.sheet_checks.proofs.Places.{broken-size}
-use Rattle.sheet_checks.proofs.Answers.{paint-broken}
+use Rattle.sheet.proofs.Places.{broken-size}
+use Rattle.sheet.proofs.Answers.{paint-broken}
 use Rattle.book.specs.Book.{brokenSheet, paint as Call·paint}
 use Rattle.sheet.specs.declared.Sheet.{Sheet}
 use Rattle.sheet.specs.Sheet.{sheetAnswer}

@@ -19,8 +19,8 @@ use Rattle.drawing.specs.Drawing.{styledFigure, drawing}
 use Rattle.layers.specs.declared.Layer.{Layer}
 use Rattle.layers.specs.Layers.{blankLayer}
 use Rattle.layers.proofs.LayerRules.{LayerWithin}
-use Rattle.sheet_checks.proofs.Places.{kept-few, kept-layer, kept-width}
-use Rattle.sheet_checks.proofs.Answers.{PaintAccepted, painted-accepted}
+use Rattle.sheet.proofs.Places.{kept-few, kept-layer, kept-width}
+use Rattle.sheet.proofs.Answers.{PaintAccepted, painted-accepted}
 use Rattle.sheet.specs.declared.Sheet.{Sheet}
 use Rattle.sheet.proofs.Records.{painted-canvas}
 use Rattle.sheet_record.specs.SheetRecord.{layerOf, placeAt, placeNumbers, sheetOf}

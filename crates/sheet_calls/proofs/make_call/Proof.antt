@@ -11,7 +11,7 @@ use Rattle.signed.specs.Signed.{floor0}
 use Rattle.book.specs.Book.{Answer, ifAccepted}
 use Rattle.book.specs.Book.{add as Call·add, paint as Call·paint}
 use Rattle.drawing.specs.Drawing.{styledFigure}
-use Rattle.sheet_checks.proofs.Places.{sixteen-places}
+use Rattle.sheet.proofs.Places.{sixteen-places}
 use Rattle.sheet.specs.Sheet.{carriedOutSheet}
 use Rattle.sheet.proofs.Records.{add-any-canvas, add-keeps-canvas}
 use Rattle.record_numbers.specs.RecordNumbers.{numberAt}

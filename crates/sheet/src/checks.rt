@@ -1,5 +1,6 @@
 // The refusals 7 to 12 of a sheet with its size, its count and its places for layers, whatever they
-// hold. They are a crate of their own, since their proofs take as long as the rest of the sheet's.
+// hold.
+use crate::Sheet;
 use canvas_size::CanvasSize;
 use layers::Layer;
 use layers::RulesTested;
@@ -14,7 +15,7 @@ ghost use Rattle.book.specs.Book.{_orElse_, add as Call·add, paint as Call·pa
 ghost use Rattle.book.specs.Sheet.{keepsRules, answer};
 ghost use Rattle.drawing.specs.Drawing.{StyledFigure, answerOf, drawing};
 ghost use Rattle.layers.specs.Layers.{layersOf, stateOf, layerRows};
-ghost use Rattle.sheet_checks.specs.Asked.{askedAnswer, askedRefusal, NextRow};
+ghost use Rattle.sheet.specs.Asked.{askedAnswer, askedRefusal, NextRow};
 
 // What a paint call on a layer finds: the row that it asks for, or a refusal.
 pub enum Asked {
@@ -35,28 +36,28 @@ impl Asked {
 }
 
 // Tests all rules of a sheet: its size, the number of its layers, and the layers.
-pub fn test_rules(size: CanvasSize, count: u32, places: [Layer; 16]) -> RulesTested
+pub fn test_rules(size: CanvasSize, count: u32, places: [Layer; Layer::PLACES]) -> RulesTested
     ensures { λ r. ⌜ r .kept ≡ keepsRules drawing (size .width) (size .height) (layersOf count places) ⌝ }
     ensures { λ r. ⌜ (r .kept ≡ true → take count (r .rows) ≡ map layerRows (take count places)) ⌝ }
 {
     let Checked::Passed = size.check() else {
         return RulesTested::broken();
     };
-    if Layer::MAX_LAYERS < count {
+    if Sheet::MAX_LAYERS < count {
         return RulesTested::broken();
     }
     layers::test_rules(places, count as usize)
 }
 
 // Refusals 7 and 9 of adding.
-pub fn check_add(size: CanvasSize, count: u32, places: [Layer; 16]) -> Checked
+pub fn check_add(size: CanvasSize, count: u32, places: [Layer; Layer::PLACES]) -> Checked
     ensures { λ r. ⌜ ((item : StyledFigure) (canvas : List ℕ) → answer drawing (size .width) (size .height) (stateOf count places canvas) (Call·add item) ≡ (drawing .refuse item orElse answerOf r)) ⌝ }
 {
     let tested = test_rules(size, count, places);
     if !tested.kept {
         return Checked::Refused(Refusal::SheetRule);
     }
-    if Layer::MAX_LAYERS <= count {
+    if Sheet::MAX_LAYERS <= count {
         return Checked::Refused(Refusal::SheetFull);
     }
     Checked::Passed
@@ -67,7 +68,7 @@ pub fn check_add(size: CanvasSize, count: u32, places: [Layer; 16]) -> Checked
 pub fn asked_row(
     size: CanvasSize,
     count: u32,
-    places: [Layer; 16],
+    places: [Layer; Layer::PLACES],
     layer: u32,
     bytes: usize,
 ) -> Asked

@@ -10,8 +10,8 @@ use Rattle.refusal.specs.Refusal.{number}
 use Rattle.book.specs.Book.{Answer, accepted, refused}
 use Rattle.layers.specs.declared.Layer.{Layer}
 use Rattle.layers.specs.Layers.{blankLayer}
-use Rattle.sheet_checks.specs.declared.Asked.{Asked}
-use Rattle.sheet_checks.specs.declared.Asked.the-variants.{Row, Refused}
+use Rattle.sheet.specs.declared.checks.Asked.{Asked}
+use Rattle.sheet.specs.declared.checks.Asked.the-variants.{Row, Refused}
 
 -- the answer that it leads to ('The records', the table): a refusal its number; a row is painted
 abbrev pub askedAnswer : Asked → Answer

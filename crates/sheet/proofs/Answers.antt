@@ -32,7 +32,7 @@ use Rattle.layer_rows.specs.LayerRows.{someRowsOwe}
 use Rattle.layers.specs.Layers.{blankLayer, layersOf, stateOf, layerRows}
 use Rattle.layer_rows.proofs.RowTests.{noRows}
 use Rattle.layers.proofs.LayerRules.{owe-by-rows}
-use Rattle.sheet_checks.proofs.Places.{layers-many, layer-at, layer-past, layers-before, kept-few}
+use Rattle.sheet.proofs.Places.{layers-many, layer-at, layer-past, layers-before, kept-few}
 
 -- ---- The numbers that `book` writes are those of the table.
 pub sheet-numbers : (brokenSheet ≡ refused (number SheetRule)) × (otherCanvasLength ≡ refused (number CanvasLength))
