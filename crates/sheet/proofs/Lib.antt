@@ -1,6 +1,8 @@
--- The record after a call as the sheet of `book`'s definitions (`Records`), demand 3 for figures (`Figures`), and the table's
--- examples computed (`Examples`).
+-- The record after a call as the sheet of `book`'s definitions (`Records`), demand 3 for figures (`Figures`) and for lists
+-- of `Sheet`'s own calls, with the rules that such lists keep (`SheetDemand3`), and the table's examples computed
+-- (`Examples`).
 -- Assumes nothing.
 pub mod Records
 pub mod Figures
+pub mod SheetDemand3
 pub mod Examples
