@@ -44,6 +44,9 @@ said() { # its name
     [ "$(cat "$work/$1.status")" = 0 ] || fail "tests/$1 failed"
 }
 
+# Which public functions promise less than an equation is a list, and complete.
+python3 tests/promises.py || fail 'tests/promises.py failed'
+
 # netpbm's tools, installed where they are missing, read stored files: nothing that is proved here.
 beside netpbm.sh
 

@@ -1,5 +1,5 @@
 -- A fact of each element, and of each two in order, where lists are joined or mapped, and an element is replaced or
--- comes last: by recursion on the list.
+-- comes last; and both facts of each two in one. By recursion on the list.
 -- Assumes nothing.
 use mathlib.Core.List.{List, [], _∷_, _++_, map}
 use Rattle.book.specs.Each.{Each, EachTwo}
@@ -53,3 +53,16 @@ module _ {A : Type 0} (R : A → A → Type 0) where
   pub each-two-later : (l : List A) (a : A) (m : List A) → EachTwo R (l ++ a ∷ m) → Each (R a) m
   each-two-later [] a m p = p .0
   each-two-later (x ∷ l) a m p = each-two-later l a m (p .1)
+
+-- a fact of each two, and with it the fact of each that both have
+module _ {A : Type 0} (P : A → Type 0) (R : A → A → Type 0) where
+  abbrev pub AndOfEach : A → A → Type 0
+  AndOfEach x z = P x × P z × R x z
+
+  each-and-first : (x : A) → P x → (l : List A) → Each P l → Each (R x) l → Each (AndOfEach x) l
+  each-and-first x p [] ps rs = tt
+  each-and-first x p (z ∷ l) ps rs = ((p, ps .0, rs .0), each-and-first x p l (ps .1) (rs .1))
+
+  pub each-two-and-each : (l : List A) → Each P l → EachTwo R l → EachTwo AndOfEach l
+  each-two-and-each [] ps rs = tt
+  each-two-and-each (x ∷ l) ps rs = (each-and-first x (ps .0) l (ps .1) (rs .0), each-two-and-each l (ps .1) (rs .1))

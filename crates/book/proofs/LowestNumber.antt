@@ -1,15 +1,21 @@
 -- The lowest number that applies to a call on a sheet, test by test: what is answered where the tests before it do not
--- apply, and that a refused call changes nothing. Each is the definition of `answer` or `after`, with the tests put in.
+-- apply, that 7 is answered only where the sheet breaks the rules, and that a refused call changes nothing. Each is the
+-- definition of `answer` or `after`, with the tests put in.
 -- Assumes nothing.
-use mathlib.Core.Path.{_≡_, ap}
+use mathlib.Core.Path.{_≡_, refl, sym, ap, _∙_}
 use mathlib.Core.Bool.{Bool, true, false}
+use mathlib.Core.List.{List}
+use mathlib.Core.Option.{Option, none, some}
 use Prim.Native.Nat.{ℕ, _*_, _≤_}
-use lib.Dec.{leb}
-use lib.ListN.{length, getElem?}
-use borrow.Author.Tests.{eq-eqb, ne-eqb, le-leb}
-use Rattle.book.specs.Book.{accepted, refused, brokenSheet, otherCanvasLength, layersFull, refuseIf, _orElse_}
-use Rattle.book.specs.Book.{Drawing, Call, add, paint}
-use Rattle.book.specs.Sheet.{State, keepsRules, layerAnswer, answer, carriedOut, after}
+use native.Mathlib.Omega.{arith}
+use lib.Dec.{leb, eqb}
+use lib.Signed.{leZ}
+use lib.ListN.{length, take, getElem?}
+use borrow.Author.Tests.{eqb-true, eqb-false, eq-eqb, ne-eqb, le-leb}
+use Rattle.book.specs.Book.{Answer, accepted, refused, brokenSheet, otherCanvasLength, layersFull, allRowsPainted}
+use Rattle.book.specs.Book.{rowOwed, refuseIf, _orElse_, ifAccepted, Drawing, Call, add, paint, endRow}
+use Rattle.book.specs.Sheet.{Layer, State, someLayerOwes, keepsRules, layerAnswer, answer, carriedOut, after}
+use Rattle.book.proofs.Tests.{false-unless, refused-apart, refused-number}
 
 module _ (d : Drawing) (W H : ℕ) (s : State (d .Item)) where
   -- ---- an add call: 1, 2, 3 or 5, then 7, then 9
@@ -34,6 +40,44 @@ module _ (d : Drawing) (W H : ℕ) (s : State (d .Item)) where
     unfolding answer
     add-answer-on-sheet kept = rw kept
 
+    -- where the item is within limits, 7 is answered only where the sheet breaks the rules
+    pub add-broken-sheet-only : d .refuse item ≡ accepted → answer d W H s (add item) ≡ brokenSheet
+        → keepsRules d W H (s .layers) ≡ false
+    add-broken-sheet-only own told =
+        false-unless (keepsRules d W H (s .layers))
+        (λ kept.
+        full-not-broken full
+        (sym (add-answer-on-sheet kept ∙ ap (λ (a : Answer). a orElse refuseIf full layersFull) own) ∙ told))
+      where
+        full : Bool
+        full = leb (d .maxLayers) (length (s .layers))
+
+        full-not-broken : (t : Bool) → refuseIf t layersFull ≡ brokenSheet → ⊥
+        full-not-broken true e = omega (arith, refused-number e)
+        full-not-broken false e = refused-apart (sym e)
+
+    -- the canvas is not looked at, and stays
+    pub add-any-canvas : (other : List ℕ)
+        → after d W H s (add item)
+        ≡ record {
+          layers = after d W H (record { layers = s .layers; canvas = other }) (add item) .layers;
+          canvas = s .canvas;
+        }
+    unfolding answer carriedOut after
+    add-any-canvas other = by-answer (answer d W H s (add item))
+      where
+        with-other : State (d .Item)
+        with-other = record { layers = s .layers; canvas = other }
+
+        by-answer : (a : Answer)
+            → ifAccepted a (carriedOut d W H s (add item)) s
+            ≡ record {
+              layers = ifAccepted a (carriedOut d W H with-other (add item)) with-other .layers;
+              canvas = s .canvas;
+            }
+        by-answer accepted = refl
+        by-answer (refused n) = refl
+
   -- ---- a paint call: 7, then 8, then 10, 11 or 12 by the layer
   module _ (i : ℕ) where
     pub paint-refused-broken-sheet : keepsRules d W H (s .layers) ≡ false → answer d W H s (paint i) ≡ brokenSheet
@@ -49,6 +93,29 @@ module _ (d : Drawing) (W H : ℕ) (s : State (d .Item)) where
         → answer d W H s (paint i) ≡ layerAnswer d (s .layers) i (getElem? (s .layers) i)
     unfolding answer
     paint-answer-on-sheet kept size = rw (kept, eq-eqb (length (s .canvas)) (W * H) size)
+
+    -- 7 is answered only where the sheet breaks the rules
+    pub paint-broken-sheet-only : answer d W H s (paint i) ≡ brokenSheet → keepsRules d W H (s .layers) ≡ false
+    paint-broken-sheet-only told =
+        false-unless (keepsRules d W H (s .layers)) (λ kept. by-length kept (eqb (length (s .canvas)) (W * H)) refl)
+      where
+        by-tests : (finished owed : Bool) → (refuseIf finished allRowsPainted orElse refuseIf owed rowOwed) ≡ brokenSheet → ⊥
+        by-tests true owed e = omega (arith, refused-number e)
+        by-tests false true e = omega (arith, refused-number e)
+        by-tests false false e = refused-apart (sym e)
+
+        by-layer : (o : Option (Layer (d .Item))) → layerAnswer d (s .layers) i o ≡ brokenSheet → ⊥
+        by-layer none e = omega (arith, refused-number e)
+        by-layer (some l) e =
+            by-tests (leZ (endRow d (l .item)) (l .next)) (someLayerOwes d (take i (s .layers)) (l .next)) e
+
+        by-length : keepsRules d W H (s .layers) ≡ true → (t : Bool) → eqb (length (s .canvas)) (W * H) ≡ t → ⊥
+        by-length kept true size =
+            by-layer (getElem? (s .layers) i)
+            (sym (paint-answer-on-sheet kept (eqb-true (length (s .canvas)) (W * H) size)) ∙ told)
+        by-length kept false other =
+            let eight = paint-refused-canvas kept (eqb-false (length (s .canvas)) (W * H) other) in
+            omega (arith, refused-number (sym eight ∙ told))
 
   -- ---- sheet and canvas
   pub refused-changes-nothing : (call : Call (d .Item)) {n : ℕ} → answer d W H s call ≡ refused n → after d W H s call ≡ s

@@ -39,6 +39,10 @@ tests-equal false b f g = sym (false-unless b (λ e. false≢true (g e)))
 pub refused-apart : {n : ℕ} → refused n ≡ accepted → ⊥
 refused-apart e = let z : _≡_ {A = ℕ} 0 1 = cc in omega arith
 
+-- refused by the same number
+pub refused-number : {m n : ℕ} → refused m ≡ refused n → m ≡ n
+refused-number e = cc
+
 pub is-accepted-true : (a : Answer) → isAccepted a ≡ true → a ≡ accepted
 is-accepted-true accepted e = refl
 is-accepted-true (refused n) e = absurd (false≢true e)

@@ -170,3 +170,17 @@ module _ (d : Drawing) where
   -- A sheet just opened ("Sheet": it has no layers), and the canvas lent to its paint calls.
   abbrev pub opened : List ℕ → State (d .Item)
   opened lent = record { layers = []; canvas = lent }
+
+  -- A call on any sheet that keeps the rules leaves one that keeps them ("Sheet"), also on one that no calls have led to, and
+  -- whatever canvas comes with it: an add call does not look at the canvas, and a paint call gets 8 if that has another
+  -- length than W × H. That it holds is `rules-kept` (proofs/RulesKept.antt).
+  abbrev pub RulesKept : Type 0
+  RulesKept =
+      (W H : ℕ) (s : State (d .Item)) → Rules W H (s .layers) → (call : Call (d .Item))
+      → Rules W H (after W H s call .layers)
+
+  -- So does every list of calls: `rules-kept-by-all` (proofs/RulesKept.antt).
+  abbrev pub RulesKeptByAll : Type 0
+  RulesKeptByAll =
+      (W H : ℕ) (s : State (d .Item)) → Rules W H (s .layers) → (calls : List (Call (d .Item)))
+      → Rules W H (afterAll W H s calls .layers)

@@ -35,10 +35,11 @@ use Rattle.drawing.specs.Drawing.{answerOf, styledCheck, drawing}
 use Rattle.drawing.specs.Rows.{strokeRows}
 use Rattle.drawing.proofs.Rows.{rows-of-ellipse, rows-of-crate-box, rows-of-w3c-box, RowsWithin, box-rows-within, ellipse-rows-within}
 use Rattle.layers.specs.declared.Layer.{Layer}
+use Rattle.layers.specs.declared.RulesTested.{RulesTested}
 use Rattle.layer_rows.specs.declared.LayerRows.{LayerRows}
 use Rattle.layers.specs.declared.RowsFound.the-variants.{Broken, Kept}
 use Rattle.layer_rows.specs.LayerRows.{rowsOwe, someRowsOwe, rowsOvertake, noRowsOvertake, rowsInOrder}
-use Rattle.layers.specs.Layers.{layerOf, blankLayer, layerRows}
+use Rattle.layers.specs.Layers.{layerOf, blankLayer, layerRows, brokenRules}
 use Rattle.layer_rows.proofs.RowTests.{RowsFit, and-false, place-here, place-past, put-here}
 
 -- ---- one layer
@@ -249,3 +250,7 @@ kept-at (l ∷ layers) zero kept within =
 kept-at (l ∷ layers) (suc i) kept within =
     let here : Bool = layerKeepsRules drawing (layerOf l) && noneOvertakes drawing (layerOf l) (map layerOf layers) in
     kept-at layers i (and-true-parts here (layersKeepRules drawing (map layerOf layers)) kept .1) (omega arith)
+
+-- ---- what is found of layers that break a rule
+pub not-kept : {t : RulesTested} → t ≡ brokenRules → t .kept ≡ false
+not-kept is = ap (λ (r : RulesTested). r .kept) is

@@ -1,17 +1,20 @@
 -- Document 01, 'The records' and 'Sheet': the places for layers in a sheet record, read as the layers of which `book`'s
 -- definitions speak, and the rows by which the code compares two layers.
 -- Assumes nothing.
+use mathlib.Core.Bool.{false}
 use mathlib.Core.List.{List, [], _∷_, _++_, map}
 use Prim.Native.Nat.{ℕ}
 use lib.IntN.{ℤ, pos, _+ℤ_}
-use lib.ListN.{take}
+use lib.ListN.{take, replicate}
 use Rattle.figure.specs.declared.Figure.the-variants as figure-of
 use Rattle.style.specs.declared.Paint.the-variants as paint-of
 use Rattle.style.specs.declared.StrokeAlignment.the-variants as alignment-of
 use Rattle.book.specs.Sheet.{Layer as SheetLayer, State, Layers}
 use Rattle.drawing.specs.Drawing.{StyledFigure, styledFigure, drawing}
 use Rattle.drawing.specs.Rows.{strokeRows}
+use Rattle.geometry.specs.Limits.{maxLayers}
 use Rattle.layers.specs.declared.Layer.{Layer}
+use Rattle.layers.specs.declared.RulesTested.{RulesTested}
 use Rattle.layer_rows.specs.declared.LayerRows.{LayerRows}
 
 -- the layer in a place: its figure with its style, and its next row ('The records')
@@ -46,3 +49,7 @@ layerRows l =
       next = l .«next_row»;
       end = strokeRows (l .figure) (l .style) .first +ℤ pos (strokeRows (l .figure) (l .style) .count);
     }
+
+-- what the test of layers that break a rule finds: no rows of any place
+abbrev pub brokenRules : RulesTested
+brokenRules = record { kept = false; rows = replicate maxLayers (record { first = pos 0; next = pos 0; end = pos 0 }) }

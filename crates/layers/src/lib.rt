@@ -18,7 +18,7 @@ ghost use lib.ListN.{take};
 ghost use Rattle.geometry.specs.Limits.{maxLayers};
 ghost use Rattle.book.specs.Sheet.{layerKeepsRules, layersKeepRules};
 ghost use Rattle.drawing.specs.Drawing.{drawing};
-ghost use Rattle.layers.specs.Layers.{blankLayer, layerOf, layerRows};
+ghost use Rattle.layers.specs.Layers.{blankLayer, layerOf, layerRows, brokenRules};
 ghost use Rattle.layers.specs.declared.RowsFound.the-variants as rows-found;
 
 // A figure with its style on a sheet, and the row that its next paint call paints.
@@ -43,7 +43,7 @@ pub struct RulesTested {
 impl RulesTested {
     // What is found of layers that break a rule.
     pub fn broken() -> RulesTested
-        ensures { λ r. ⌜ r .kept ≡ false ⌝ }
+        ensures { λ r. ⌜ r ≡ brokenRules ⌝ }
     {
         let none = LayerRows {
             first: 0,

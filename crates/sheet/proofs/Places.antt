@@ -73,6 +73,11 @@ module _ (count : ℕ) (places : List Layer) (sixteen : length places ≡ 16) wh
 
 -- ---- a size within limits
 module _ (W H : ℕ) where
+  pub sides-pass : WithinSide drawing W → WithinSide drawing H → canvasSizeCheck W H ≡ Passed
+  unfolding canvasSizeCheck
+  sides-pass (w, v) (h, k) =
+      rw (le-ltb W 1 w, le-ltb maxCanvasSide W v, le-ltb H 1 h, le-ltb maxCanvasSide H k)
+
   pub size-fits : canvasSizeCheck W H ≡ Passed → (fitsSide drawing W && fitsSide drawing H) ≡ true
   size-fits passed =
       let sides = canvas-size-passed W H passed in
@@ -83,16 +88,12 @@ module _ (W H count : ℕ) (places : List Layer) where
   abbrev kept : Bool
   kept = keepsRules drawing W H (layersOf count places)
 
-  size-passed : WithinSide drawing W → WithinSide drawing H → canvasSizeCheck W H ≡ Passed
-  unfolding canvasSizeCheck
-  size-passed (w, v) (h, k) =
-      rw (le-ltb W 1 w, le-ltb maxCanvasSide W v, le-ltb H 1 h, le-ltb maxCanvasSide H k)
-
   pub broken-size : (refusal : Refusal) → canvasSizeCheck W H ≡ Refused refusal → kept ≡ false
   broken-size refusal refused =
       false-unless kept
       (λ e. let rules = test-rules drawing W H (layersOf count places) e in
-      let z : _≡_ {A = ℕ} 0 1 = let contrary : Passed ≡ Refused refusal = sym (size-passed (rules .width) (rules .height)) ∙ refused in cc in
+      let z : _≡_ {A = ℕ} 0 1 =
+      let contrary : Passed ≡ Refused refusal = sym (sides-pass W H (rules .width) (rules .height)) ∙ refused in cc in
       omega arith)
 
   module _ (sixteen : length places ≡ 16) where

@@ -11,12 +11,13 @@ use lib.Seq.{take-suc-set, take-set-lt}
 use Rattle.book.specs.Book.{Answer, accepted, refused, ifAccepted, Call, add, paint}
 use Rattle.book.specs.Sheet.{Layers, State, answer, carriedOut, after, paintRow, opened}
 use Rattle.book.proofs.Lists.{set-map}
-use Rattle.book.proofs.LowestNumber.{refused-changes-nothing, accepted-is-carried-out}
+use Rattle.book.proofs.LowestNumber.{add-any-canvas, refused-changes-nothing, accepted-is-carried-out}
 use Rattle.drawing.specs.Drawing.{StyledFigure, styledFigure, drawing}
 use Rattle.layers.specs.declared.Layer.{Layer}
 use Rattle.layers.specs.Layers.{layerOf, blankLayer, layersOf}
 use Rattle.sheet.specs.declared.Sheet.{Sheet}
 use Rattle.sheet.specs.Sheet.{stateOf, openedSheet, sheetAnswer, addedLayer, paintedLayer, carriedOutSheet, sheetAfter, canvasAfter}
+use Rattle.sheet.specs.SheetDemand3.{AddTakesNoCanvas}
 use Rattle.sheet.proofs.Places.{layers-are, layer-at, kept-few}
 use Rattle.sheet.proofs.Answers.{added-room, PaintAccepted, painted-accepted}
 
@@ -129,18 +130,16 @@ module _ (s : Sheet) (sixteen : length (s .layers) ≡ 16) (canvas : List ℕ) w
       by-answer (paint i) accepted =
           record { width = refl; height = refl; places = length-set (s .layers) i (paintedLayer (getD (s .layers) i blankLayer)) ∙ sixteen }
 
-  -- ---- An add call gets the same answer whatever the canvas, and leaves it.
-  pub add-any-canvas : (item : StyledFigure) → sheetAnswer s [] (add item) ≡ sheetAnswer s canvas (add item)
-  unfolding answer
-  add-any-canvas item = refl
-
-  pub add-keeps-canvas : (item : StyledFigure) → canvasAfter s canvas (add item) ≡ canvas
-  unfolding after carriedOut
-  add-keeps-canvas item = by-answer (sheetAnswer s canvas (add item))
-    where
-      by-answer : (a : Answer) → ifAccepted a (carriedOut drawing (s .width) (s .height) (stateOf s canvas) (add item)) (stateOf s canvas) .canvas ≡ canvas
-      by-answer accepted = refl
-      by-answer (refused n) = refl
+-- ---- An add call takes no canvas.
+pub add-takes-no-canvas : (s : Sheet) (canvas : List ℕ) (item : StyledFigure) → AddTakesNoCanvas s canvas item
+unfolding answer
+add-takes-no-canvas s canvas item =
+    record {
+      same-answer = refl;
+      same-sheet = refl;
+      canvas-kept = ap (λ (t : State StyledFigure). t .canvas)
+          (add-any-canvas drawing (s .width) (s .height) (stateOf s canvas) item []);
+    }
 
 -- ---- A sheet just opened.
 pub opened-state : (W H : ℕ) (canvas : List ℕ) → stateOf (openedSheet W H) canvas ≡ opened drawing canvas

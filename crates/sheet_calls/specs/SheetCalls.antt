@@ -11,12 +11,13 @@ use Rattle.refusal.specs.declared.Checked.the-variants.{Passed, Refused}
 use Rattle.refusal.specs.Refusal.{number, orElse, roomCheck}
 use Rattle.canvas_size.specs.CanvasSize.{canvasSizeCheck, canvasLengthCheck}
 use Rattle.book.specs.Book.{Answer, accepted, refused, Call, bookAnswers, bookAfterAll}
-use Rattle.book.specs.Sheet.{State, answers, afterAll}
+use Rattle.book.specs.Sheet.{State}
 use Rattle.book.specs.Demand3.{AfterCalls}
 use Rattle.drawing.specs.Drawing.{StyledFigure, drawing}
 use Rattle.sheet.specs.declared.Sheet.{Sheet}
 use Rattle.sheet.specs.declared.SheetOutcome.{SheetOutcome}
 use Rattle.sheet.specs.Sheet.{said, stateOf, openedSheet, sheetAnswer, sheetAfter, canvasAfter}
+use Rattle.sheet.specs.SheetDemand3.{sheetAnswers, sheetAfterAll, canvasAfterAll}
 use Rattle.call_numbers.specs.CallNumbers.{callCount, encodesCalls}
 use Rattle.sheet_calls.specs.declared.RunAnswer.{RunAnswer}
 use Rattle.sheet_calls.specs.declared.RunAnswer.the-variants as run-answer
@@ -58,13 +59,13 @@ pub record Called (call : Call StyledFigure) (s : Sheet) (canvas : List ℕ) (r 
   pub sheet : r .sheet ≡ sheetAfter s canvas call
   pub bytes : canvas-after ≡ canvasAfter s canvas call
 
--- a list of answers with those of some calls on a sheet written from its start on, and the sheet and its canvas after them
+-- a list of answers with those of some calls on a sheet written from its start on, and the sheet and its canvas after
+-- them. The inner function `make_calls` alone promises by these; its calls are a list of the sheet's own (`SheetDemand3`)
 abbrev pub answersAfter : List ℕ → Sheet → List ℕ → List (Call StyledFigure) → List ℕ
-answersAfter list s canvas calls =
-    sets list 0 (map answerNumber (answers drawing (s .width) (s .height) (stateOf s canvas) calls))
+answersAfter list s canvas calls = sets list 0 (map answerNumber (sheetAnswers s canvas calls))
 
 abbrev pub stateAfter : Sheet → List ℕ → List (Call StyledFigure) → State StyledFigure
-stateAfter s canvas calls = afterAll drawing (s .width) (s .height) (stateOf s canvas) calls
+stateAfter s canvas calls = stateOf (sheetAfterAll s canvas calls) (canvasAfterAll s canvas calls)
 
 -- what a list of calls leaves: the sheet keeps its size, its answers are the book's, and demand 3 holds of the sheet and the canvas.
 -- So the unused layer places of the sheet alone are left free. Where demand 3 speaks of the answer to a paint call that may come

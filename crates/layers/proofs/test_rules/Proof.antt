@@ -8,7 +8,7 @@ use native.Mathlib.Omega.{arith}
 use borrow.Author.Needs.{needs}
 use lib.ListN.{length, replicate, length-set}
 use Rattle.layer_rows.proofs.RowTests.{noRows}
-use Rattle.layers.proofs.LayerRules.{FoundFrom, found-none, broken-here, found-here, found-all}
+use Rattle.layers.proofs.LayerRules.{not-kept, FoundFrom, found-none, broken-here, found-here, found-all}
 use Rattle.layers.proofs.test_rules.Statement.{statement}
 use Rattle.layers.proofs.test_rules.Tie as tie
 
@@ -62,7 +62,7 @@ returns c =
     let whole =
     broken-here (a .t1) (a .count) (found .before .before .before .loop .i - 1) _ (step found) (here found)
     (enough (found .before .before .before .before)) (sym (c .before .enum-told .given .1) ∙ found .rows .ensures) in
-    (c .broken .ensures ∙ sym whole, λ kept. absurd (false≢true (sym (c .broken .ensures) ∙ kept)))
+    (not-kept (c .broken .ensures) ∙ sym whole, λ kept. absurd (false≢true (sym (not-kept (c .broken .ensures)) ∙ kept)))
 
 mul-rows : tie.Need-mul-rows Inv-loop μ-loop
 mul-rows c = record { fits = omega arith }

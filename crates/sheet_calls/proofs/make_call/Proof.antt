@@ -3,26 +3,19 @@
 use mathlib.Core.Path.{_≡_, sym, ap, ap₂, _∙_}
 use mathlib.Core.Bool.{Bool}
 use lib.IntN.{ℤ, pos}
-use lib.ListN.{length}
 use lib.Signed.{leZ}
 use mir.Syntax.{w32}
 use mir.Val.{toZ, ofZ}
 use Rattle.signed.specs.Signed.{floor0}
-use Rattle.book.specs.Book.{Answer, ifAccepted}
 use Rattle.book.specs.Book.{add as Call·add, paint as Call·paint}
 use Rattle.drawing.specs.Drawing.{styledFigure}
-use Rattle.sheet.proofs.Places.{sixteen-places}
-use Rattle.sheet.specs.Sheet.{carriedOutSheet}
-use Rattle.sheet.proofs.Records.{add-any-canvas, add-keeps-canvas}
+use Rattle.sheet.proofs.Records.{add-takes-no-canvas}
 use Rattle.record_numbers.specs.RecordNumbers.{numberAt}
 use Rattle.record_numbers.proofs.Walks.{read-back}
 use Rattle.call_numbers.specs.CallNumbers.{callOf}
 use borrow.Author.Needs.{needs}
 use Rattle.sheet_calls.proofs.make_call.Statement.{statement}
 use Rattle.sheet_calls.proofs.make_call.Tie as tie
-
-sixteen : (c : tie.Start) → length (c .args .sheet .layers) ≡ 16
-sixteen c = sixteen-places (c .args .sheet .layers) (c .good .0 .1 .1 .1 .1 .1 .0 .1 .0 .1)
 
 -- whether a row is painted
 by-kind : (c : tie.After-if12) {t : Bool} → leZ (pos 1) (toZ w32 (ofZ w32 (numberAt (c .before .before .args .numbers .now) 0))) ≡ t
@@ -92,15 +85,13 @@ add-requires c κs = search needs
 returns-2 : tie.Need-returns-2
 returns-2 c =
     let start = c .before .before .before .before .before .before .before .before in
-    let s = start .args .sheet in
-    let canvas = start .args .canvas .now in
     let item = styledFigure (c .before .before .before .figure-of .result) (c .before .style-of .result) in
-    let same = add-any-canvas s (sixteen start) canvas item in
+    let any = add-takes-no-canvas (start .args .sheet) (start .args .canvas .now) item in
     rw (adds (c .before))
     (record {
-      answer = c .add .ensures .0 ∙ same;
-      sheet = c .add .ensures .1 ∙ ap (λ (a : Answer). ifAccepted a (carriedOutSheet s (Call·add item)) s) same;
-      bytes = sym (add-keeps-canvas s (sixteen start) canvas item);
+      answer = c .add .ensures .0 ∙ any .same-answer;
+      sheet = c .add .ensures .1 ∙ any .same-sheet;
+      bytes = sym (any .canvas-kept);
     })
 
 pub make-call-spec : {M : Type 1} → statement M

@@ -24,9 +24,8 @@ sixteen c = sixteen-places (c .args .sheet .layers) (c .good .0 .1 .1 .1 .1 .1 .
 
 loop-holds : tie.Need-loop-holds Inv-loop μ-loop
 loop-holds c =
-    let start = c .before .before in
-    let a = start .args in
-    (omega arith, refl, refl, all-left (a .numbers .now) (a .count) (a .sheet) (a .canvas .now) (a .answers .now) (sixteen start))
+    let a = c .before .before .args in
+    (omega arith, refl, refl, all-left (a .numbers .now) (a .count) (a .sheet) (a .canvas .now) (a .answers .now))
 
 mul-at : tie.Need-mul-at Inv-loop μ-loop
 mul-at c = record { fits = omega arith }
@@ -90,12 +89,12 @@ same-length-2 c = c .before .loop .inv .1
 returns : tie.Need-returns Inv-loop μ-loop
 returns c =
     let walk = c .before in
-    let a = walk .before .before .before .args in
-    let left = walk .loop .inv .3 in
+    let start = walk .before .before .before in
+    let a = start .args in
     let all =
-    none-left (a .numbers .now) (a .count) (a .sheet) (a .canvas .now) (a .answers .now) (walk .loop .j) (walk .loop .current) (walk .loop .canvas) (walk .loop .answers)
-    left (c .loop-test .left) in
-    (all .0, (all .1, (left .width, left .height)))
+    none-left (a .numbers .now) (a .count) (a .sheet) (a .canvas .now) (a .answers .now) (sixteen start) (walk .loop .j)
+    (walk .loop .current) (walk .loop .canvas) (walk .loop .answers) (walk .loop .inv .3) (c .loop-test .left) in
+    (all .answered, (all .reached, (all .width, all .height)))
 
 pub make-calls-spec : {M : Type 1} → statement M
 make-calls-spec =

@@ -5,6 +5,7 @@ use mathlib.Core.Bool.{false≢true}
 use native.Mathlib.Omega.{arith}
 use borrow.Author.Needs.{needs}
 use lib.ListN.{length}
+use Rattle.layers.proofs.LayerRules.{not-kept}
 use Rattle.sheet.proofs.Places.{broken-size, broken-count, kept-by-layers}
 use Rattle.sheet.proofs.checks.test_rules.Statement.{statement}
 use Rattle.sheet.proofs.checks.test_rules.Tie as tie
@@ -31,7 +32,7 @@ returns c =
     let broken =
     broken-size (a .size .width) (a .size .height) (a .count) (a .places) _
     (sym (c .before .before .before .check .ensures) ∙ c .before .enum-told2 .given .1) in
-    (c .broken .ensures ∙ sym broken, λ kept. absurd (false≢true (sym (c .broken .ensures) ∙ kept)))
+    (not-kept (c .broken .ensures) ∙ sym broken, λ kept. absurd (false≢true (sym (not-kept (c .broken .ensures)) ∙ kept)))
 
 broken-requires-2 : tie.Need-broken-requires-2
 broken-requires-2 c κs = search needs
@@ -42,7 +43,7 @@ returns-2 c =
     let entry = c .before .before .before .before .before in
     let a = entry .args in
     let broken = broken-count (a .size .width) (a .size .height) (a .count) (a .places) (sixteen entry) (c .before .if1 .taken) in
-    (c .broken2 .ensures ∙ sym broken, λ kept. absurd (false≢true (sym (c .broken2 .ensures) ∙ kept)))
+    (not-kept (c .broken2 .ensures) ∙ sym broken, λ kept. absurd (false≢true (sym (not-kept (c .broken2 .ensures)) ∙ kept)))
 
 test-rules-requires : tie.Need-test-rules-requires
 test-rules-requires c κs = search needs
