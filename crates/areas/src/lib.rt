@@ -2,7 +2,6 @@
 // `styled.rs`, for callers that have made the checks.
 use figure::Figure;
 use figure::Shape;
-use rectangle::Rectangle;
 use style::Style;
 ghost use mathlib.Core.Path.{_≡_};
 ghost use Prim.Native.Nat.{_≤_};

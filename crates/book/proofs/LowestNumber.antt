@@ -6,12 +6,12 @@ use mathlib.Core.Path.{_≡_, refl, sym, ap, _∙_}
 use mathlib.Core.Bool.{Bool, true, false}
 use mathlib.Core.List.{List}
 use mathlib.Core.Option.{Option, none, some}
-use Prim.Native.Nat.{ℕ, _*_, _≤_}
+use Prim.Native.Nat.{ℕ, _*_}
 use native.Mathlib.Omega.{arith}
 use lib.Dec.{leb, eqb}
 use lib.Signed.{leZ}
 use lib.ListN.{length, take, getElem?}
-use borrow.Author.Tests.{eqb-true, eqb-false, eq-eqb, ne-eqb, le-leb}
+use borrow.Author.Tests.{eqb-true, eqb-false, eq-eqb, ne-eqb}
 use Rattle.book.specs.Book.{Answer, accepted, refused, brokenSheet, otherCanvasLength, layersFull, allRowsPainted}
 use Rattle.book.specs.Book.{rowOwed, refuseIf, _orElse_, ifAccepted, Drawing, Call, add, paint, endRow}
 use Rattle.book.specs.Sheet.{Layer, State, someLayerOwes, keepsRules, layerAnswer, answer, carriedOut, after}
@@ -28,12 +28,6 @@ module _ (d : Drawing) (W H : ℕ) (s : State (d .Item)) where
         → answer d W H s (add item) ≡ brokenSheet
     unfolding answer
     add-refused-broken-sheet own broken = rw (own, broken)
-
-    pub add-refused-full : d .refuse item ≡ accepted → keepsRules d W H (s .layers) ≡ true
-        → d .maxLayers ≤ length (s .layers) → answer d W H s (add item) ≡ layersFull
-    unfolding answer
-    add-refused-full own kept full =
-        rw (own, kept) (ap (λ (t : Bool). refuseIf t layersFull) (le-leb (d .maxLayers) (length (s .layers)) full))
 
     pub add-answer-on-sheet : keepsRules d W H (s .layers) ≡ true
         → answer d W H s (add item) ≡ (d .refuse item orElse refuseIf (leb (d .maxLayers) (length (s .layers))) layersFull)

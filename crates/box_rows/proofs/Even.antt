@@ -5,7 +5,8 @@ use mathlib.Core.Path.{_≡_, refl, sym, ap, subst, _∙_}
 use mathlib.Core.Bool.{Bool, true, false, false≢true}
 use Prim.Native.Nat.{ℕ, _+_, _-_, _*_, _≤_, _<_, max}
 use native.Mathlib.Omega.{arith}
-use borrow.Author.Tests.{le-ltb}
+use borrow.Author.Tests.{le-ltb, eqb-true}
+use lib.Dec.{eqb}
 use Rattle.geometry.specs.declared.Size.{Size}
 use Rattle.geometry.specs.Bounds.{wideSide}
 use Rattle.corner.specs.Bounds.{wideRadius, wideStrokeSide}
@@ -16,11 +17,11 @@ use Rattle.scanline.proofs.Find.{found-at}
 use Rattle.ellipse.specs.Relative.{gap, containsOf}
 use Rattle.ellipse_search.proofs.Search.{columns-rise}
 use Rattle.corner_radii.specs.declared.CornerRadii.{CornerRadii}
+use Rattle.ellipse_quadrant.proofs.Within.{and-first, and-second}
 use Rattle.rounded_rectangle.specs.Relative.{insideCorner, inQuadrant, sideInset, rowInsets}
-use Rattle.rounded_rectangle.specs.declared.Insets.{Insets}
 use Rattle.rounded_rectangle.proofs.Contains.{decided-top-left, decided-top-right, decided-bottom-left, decided-bottom-right, decided-straight}
 use Rattle.box_columns.specs.Columns.{covered, placeElse, leftOut, containedFromLeft}
-use Rattle.box_rows.specs.Sides.{Between, Straight, StraightFor}
+use Rattle.box_rows.specs.Sides.{alike, Between, Straight, StraightFor}
 use Rattle.box_columns.proofs.Searches.{by-order}
 use Rattle.box_columns.proofs.Skips.{in-quadrant, not-in-quadrant, covered-le, top-left-skips, top-right-skips, bottom-left-skips, bottom-right-skips}
 
@@ -213,3 +214,12 @@ straight-counted c s dy n low in-box past is n-is k p l = (
     before-lower = rw (sym is) (room-below (s .height) dy k low (room-left (s .height) dy k n low p l n-is));
   },
 )
+
+-- ---- corners that are called alike are equal
+pub alike-equal : {r : Bool} {a b : Size} → r ≡ alike a b → r ≡ true → a ≡ b
+unfolding alike
+alike-equal {r} {a} {b} is true-here =
+    let both = sym is ∙ true-here in
+    let width = eqb-true (a .width) (b .width) (and-first (eqb (a .width) (b .width)) (eqb (a .height) (b .height)) both) in
+    let height = eqb-true (a .height) (b .height) (and-second (eqb (a .width) (b .width)) (eqb (a .height) (b .height)) both) in
+    λ i. record { width = width i; height = height i }

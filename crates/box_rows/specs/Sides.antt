@@ -1,13 +1,18 @@
 -- Rows of a box that are alike on both sides, and rows with straight sides.
 -- Assumes nothing.
 use mathlib.Core.Path.{_≡_}
-use mathlib.Core.Bool.{true}
+use mathlib.Core.Bool.{Bool, true, _&&_}
 use Prim.Native.Nat.{ℕ, _+_, _-_, _*_, _≤_, _<_, max}
+use lib.Dec.{eqb}
 use Rattle.geometry.specs.declared.Size.{Size}
 use Rattle.scanline.specs.declared.Place.{Place}
 use Rattle.scanline.specs.declared.Place.the-variants.{At, Nowhere}
 use Rattle.corner_radii.specs.declared.CornerRadii.{CornerRadii}
 use Rattle.box_columns.specs.Columns.{NoneBefore, containedFromLeft, containedFromRight}
+
+-- two corners are alike: their widths and their heights are equal
+unfoldable pub alike : Size → Size → Bool
+alike a b = eqb (a .width) (b .width) && eqb (a .height) (b .height)
 
 -- the contained columns of row dy are those between the first k and the last k
 pub record Between (c : CornerRadii) (s : Size) (dy k : ℕ) : Type 0 where

@@ -13,11 +13,11 @@ ghost use mathlib.Core.Path.{_≡_};
 ghost use mathlib.Core.Bool.{true};
 ghost use Prim.Native.Nat.{_<_, _≤_};
 ghost use Rattle.rounded_rectangle.specs.Relative.{ReadyBox, radii, rowInsets};
-ghost use Rattle.box_rows.specs.Sides.{Evenly, StraightFor};
+ghost use Rattle.box_rows.specs.Sides.{alike, Evenly, StraightFor};
 
 // Whether two corners are alike.
 pub fn are_alike(a: Size, b: Size) -> bool
-    ensures { λ r. ⌜ (r ≡ true → a ≡ b) ⌝ }
+    ensures { λ r. ⌜ r ≡ alike a b ⌝ }
 {
     if a.width != b.width {
         return false;

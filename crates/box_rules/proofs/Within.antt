@@ -13,11 +13,9 @@ use Rattle.refusal.specs.declared.Checked.the-variants.{Passed}
 use Rattle.geometry.specs.Limits.{maxRadius}
 use Rattle.geometry.specs.Bounds.{PointNear, SizeUpTo}
 use Rattle.rectangle.specs.Bounds.{Bounded}
-use Rattle.refusal.specs.Refusal.{orElse}
 use Rattle.geometry.specs.Checks.{sizeCheck, positionCheck}
 use Rattle.rectangle.specs.Rectangle.{withCenter, offset as Rectangle·offset}
 use Rattle.rectangle.proofs.Offset.{offset-size-up-to, offset-position-near}
-use Rattle.refusal.proofs.Checks.{passed-first, passed-next}
 use Rattle.geometry.proofs.Checks.{size-passed, position-passed}
 use Rattle.corner.specs.Bounds.{wideRadius}
 use Rattle.corner_radii.specs.CornerRadii.{radiiCheck}

@@ -6,7 +6,6 @@ use geometry::Point;
 use geometry::Size;
 use libc::STDOUT_FILENO;
 use netpbm::WriteAnswer;
-use paint::PaintAnswer;
 use rectangle::Rectangle;
 use rounded_rectangle::RoundedRectangle;
 use style::Paint;

@@ -9,11 +9,11 @@ use lib.Dec.{ltb}
 use Rattle.geometry.specs.declared.Size.{Size}
 use Rattle.ellipse_quadrant.specs.Quadrant.{inQuadrant}
 
-and-first : (a b : Bool) → a && b ≡ true → a ≡ true
+pub and-first : (a b : Bool) → a && b ≡ true → a ≡ true
 and-first true b e = refl
 and-first false b e = absurd (false≢true e)
 
-and-second : (a b : Bool) → a && b ≡ true → b ≡ true
+pub and-second : (a b : Bool) → a && b ≡ true → b ≡ true
 and-second true b e = e
 and-second false b e = absurd (false≢true e)
 

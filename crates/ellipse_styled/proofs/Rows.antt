@@ -10,7 +10,6 @@ use Rattle.signed.proofs.Laws.{int, add-law, sub-law}
 use Rattle.geometry.specs.declared.Size.{Size}
 use Rattle.rectangle.specs.declared.Rectangle.{Rectangle}
 use Rattle.scanline.specs.declared.Row.{Row}
-use Rattle.scanline.specs.declared.Row.the-variants as row-of
 use Rattle.scanline.specs.declared.StyledRow.the-variants.{Runs, NoRow}
 use Rattle.scanline.specs.declared.Place.{Place}
 use Rattle.scanline.specs.declared.Place.the-variants.{At, Nowhere}

@@ -2,7 +2,7 @@
 -- them are alike.
 -- Assumes nothing.
 use mathlib.Core.Path.{_≡_, refl, sym, ap, subst, _∙_}
-use Prim.Native.Nat.{ℕ, _+_, _-_, _*_, _≤_, _<_, min}
+use Prim.Native.Nat.{ℕ, _+_, _-_, _*_, _≤_, _<_}
 use native.Mathlib.Omega.{arith}
 use lib.IntN.{ℤ, pos, _+ℤ_}
 use Rattle.signed.proofs.Laws.{int, add-law}
@@ -11,18 +11,15 @@ use Rattle.range.specs.declared.Range.{Range}
 use Rattle.scanline.specs.declared.Row.{Row}
 use Rattle.scanline.specs.declared.Row.the-variants.{Run}
 use Rattle.scanline.specs.declared.StyledRow.the-variants.{Runs}
-use Rattle.scanline.specs.declared.Place.the-variants.{At}
-use Rattle.scanline.specs.Places.{Placed}
 use Rattle.scanline.proofs.Placed.{placed-before, placed-after}
 use Rattle.rounded_rectangle.specs.declared.Insets.{Insets}
-use Rattle.rounded_rectangle.specs.declared.RoundedRectangle.{RoundedRectangle}
 use Rattle.rounded_rectangle.specs.Relative.{inset, sideInset, rowInsets, runBetween}
 use Rattle.ellipse_quadrant.proofs.Insets.{side-by-upper, side-by-lower, side-straight}
 use Rattle.rounded_rectangle.proofs.Rows.{row-placed}
 use Rattle.box_columns.specs.Columns.{covered, leftOut}
 use Rattle.box_columns.proofs.Searches.{by-order}
 use Rattle.box_columns.proofs.Skips.{covered-le}
-use Rattle.box_rows.specs.Sides.{Between, StraightFor}
+use Rattle.box_rows.specs.Sides.{Between}
 use Rattle.box_rows.proofs.Even.{between-upper, between-lower, covered-none}
 use Rattle.box_fill.specs.BoxFill.{fillRun}
 use Rattle.box_fill.proofs.Rows.{fill-off-rows, fill-relative}

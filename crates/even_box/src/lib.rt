@@ -120,55 +120,55 @@ fn corner_left_out(corner: EllipseQuadrant, e: u32, hint: u32) -> u32
     k
 }
 
-// The box with even corners, if it is one: the corners in each area are alike, those on one row of the
-// fill area do not overlap, and the rows that corners or the border have at the top and at the bottom
-// do not meet.
-pub fn even_box(b: StyledBox) -> Evenness
-    requires { ⌜ ReadyStyledBox b ⌝ }
-    ensures { λ r. ⌜ EvenOf b r ⌝ }
-{
-    let stroke = b.stroke;
-    let fill = b.fill;
-    if !corners_alike(stroke) {
-        return Evenness::Uneven;
-    }
-    if !corners_alike(fill) {
-        return Evenness::Uneven;
-    }
-    let area = b.area;
-    let top_left = area.top_left;
-    let size = area.size;
-    let inner = b.inner;
-    let inner_top_left = inner.top_left;
-    let inner_size = inner.size;
-    let Place::At(border) = scanline::place_of(top_left.y, size.height, inner_top_left.y) else {
-        return Evenness::Uneven;
-    };
-    if inner_size.height + 2 * border != size.height {
-        return Evenness::Uneven;
-    }
-    let corner = stroke.top_left;
-    let inner_corner = fill.top_left;
-    let radius = corner.radius;
-    let inner_radius = inner_corner.radius;
-    if inner_size.width < 2 * inner_radius.width {
-        return Evenness::Uneven;
-    }
-    let corner_rows = signed::most(radius.height, border + inner_radius.height);
-    if size.height < 2 * corner_rows {
-        return Evenness::Uneven;
-    }
-    Evenness::Even(EvenBox {
-        area: area,
-        corner: corner,
-        inner: inner,
-        inner_corner: inner_corner,
-        border: border,
-        corner_rows: corner_rows,
-    })
-}
-
 impl EvenBox {
+    // The box with even corners, if it is one: the corners in each area are alike, those on one row of the
+    // fill area do not overlap, and the rows that corners or the border have at the top and at the bottom
+    // do not meet.
+    pub fn new(b: StyledBox) -> Evenness
+        requires { ⌜ ReadyStyledBox b ⌝ }
+        ensures { λ r. ⌜ EvenOf b r ⌝ }
+    {
+        let stroke = b.stroke;
+        let fill = b.fill;
+        if !corners_alike(stroke) {
+            return Evenness::Uneven;
+        }
+        if !corners_alike(fill) {
+            return Evenness::Uneven;
+        }
+        let area = b.area;
+        let top_left = area.top_left;
+        let size = area.size;
+        let inner = b.inner;
+        let inner_top_left = inner.top_left;
+        let inner_size = inner.size;
+        let Place::At(border) = scanline::place_of(top_left.y, size.height, inner_top_left.y) else {
+            return Evenness::Uneven;
+        };
+        if inner_size.height + 2 * border != size.height {
+            return Evenness::Uneven;
+        }
+        let corner = stroke.top_left;
+        let inner_corner = fill.top_left;
+        let radius = corner.radius;
+        let inner_radius = inner_corner.radius;
+        if inner_size.width < 2 * inner_radius.width {
+            return Evenness::Uneven;
+        }
+        let corner_rows = signed::most(radius.height, border + inner_radius.height);
+        if size.height < 2 * corner_rows {
+            return Evenness::Uneven;
+        }
+        Evenness::Even(EvenBox {
+            area: area,
+            corner: corner,
+            inner: inner,
+            inner_corner: inner_corner,
+            border: border,
+            corner_rows: corner_rows,
+        })
+    }
+
     // The fill of the row dy of the stroke area, none of the lower corners', where `run` is the stroke
     // area's; and where the next row's is looked for.
     fn fill(self, dy: u32, run: Range, hint: u32) -> Filled

@@ -96,11 +96,9 @@ impl Figure {
         ensures { λ r. ⌜ figureOutcome r ≡ ellipseWithCenterCall center size ⌝ }
     {
         let made = Rectangle::with_center(center, size);
-        match made {
-            RectangleAnswer::Refused(refusal) => FigureAnswer::Refused(refusal),
-            RectangleAnswer::Answered(rectangle) => FigureAnswer::Answered(Figure::Ellipse(
-                rectangle,
-            )),
-        }
+        let RectangleAnswer::Answered(rectangle) = made else {
+            return FigureAnswer::Refused(made.refusal());
+        };
+        FigureAnswer::Answered(Figure::Ellipse(rectangle))
     }
 }

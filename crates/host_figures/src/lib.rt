@@ -16,7 +16,6 @@ use host_values::put_radii;
 use host_values::put_row;
 use record_numbers::figure_of;
 use record_numbers::is_figure;
-ghost use mathlib.Core.Path.{_≡_};
 ghost use Rattle.host_answers.specs.HostAnswers.{Tells};
 ghost use Rattle.host_figures.specs.Figures.{containsSaid, rowSaid, offsetSaid, confinedRadiiSaid, ellipseWithCenterSaid};
 

@@ -17,7 +17,7 @@ use Rattle.book.proofs.Tests.{and-true-parts}
 use Rattle.drawing.specs.Drawing.{styledFigure}
 use Rattle.layers.specs.declared.Layer.{Layer}
 use Rattle.layers.specs.Layers.{blankLayer}
-use Rattle.sheet.specs.Sheet.{openedSheet, sheetAnswer, withLayer, addedLayer, paintedLayer, carriedOutSheet, sheetAfter}
+use Rattle.sheet.specs.Sheet.{openedSheet, sheetAnswer, withLayer, addedLayer, carriedOutSheet, sheetAfter}
 use Rattle.record_numbers.specs.RecordNumbers.{isFigure, isStyle, listFrom, allFrom, noneNegative, figureOf, styleOf, paintOf, alignmentOf}
 use Rattle.record_numbers.proofs.Records.{figure-length, style-length}
 use Rattle.sheet_record.specs.SheetRecord.{isSheet, holdsRecords, sheetOf, placeAt, layerPut}

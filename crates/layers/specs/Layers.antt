@@ -4,7 +4,7 @@
 use mathlib.Core.Bool.{false}
 use mathlib.Core.List.{List, [], _∷_, _++_, map}
 use Prim.Native.Nat.{ℕ}
-use lib.IntN.{ℤ, pos, _+ℤ_}
+use lib.IntN.{pos, _+ℤ_}
 use lib.ListN.{take, replicate}
 use Rattle.figure.specs.declared.Figure.the-variants as figure-of
 use Rattle.style.specs.declared.Paint.the-variants as paint-of

@@ -118,7 +118,7 @@ fn whole_even_box(b: StyledBox, y: i32, count: u32) -> Evenness
     if count != sides.height {
         return Evenness::Uneven;
     }
-    let Evenness::Even(even) = even_box::even_box(b) else {
+    let Evenness::Even(even) = EvenBox::new(b) else {
         return Evenness::Uneven;
     };
     Evenness::Even(even)

@@ -7,8 +7,8 @@ use ellipse_styled::EllipseHints;
 use ellipse_styled::StyledEllipse;
 use scanline::StyledRow;
 use style::Style;
+use styled_box::RowHints;
 use styled_box::StyledBox;
-use styled_box::no_hints;
 ghost use mathlib.Core.Path.{_≡_};
 ghost use Prim.Native.Nat.{_*_, _≤_};
 ghost use lib.ListN.{length};
@@ -137,7 +137,7 @@ pub fn paint_box_rows(
     requires { ⌜ Near wideAreaPosition y × (count ≤ wideStrokeSide) ⌝ }
     ensures { λ _. ⌜ now (canvas .exit) ≡ rowsBy (boxStyledRow (strokeBox b) (fillBox b)) style (size .width) (size .height) y count (now (canvas .entry)) ⌝ }
 {
-    let mut hints = no_hints();
+    let mut hints = RowHints::none();
     let mut dy: u32 = 0;
     while dy < count {
         let row_y = signed::add(y, signed::from_u32(dy));

@@ -2,7 +2,7 @@
 -- that they are. The two are equal.
 -- Assumes nothing.
 use mathlib.Core.Path.{_≡_, refl, sym, ap, subst, _∙_}
-use mathlib.Core.Bool.{Bool, true, false, _&&_, _||_, false≢true}
+use mathlib.Core.Bool.{Bool, true, false, _&&_, _||_}
 use mathlib.Core.List.{List, [], _∷_}
 use Prim.Native.Nat.{ℕ, zero, suc, _+_, _-_, _≤_, _<_, _^_}
 use native.Mathlib.Omega.{arith}
@@ -14,9 +14,7 @@ use mir.Syntax.{w32}
 use mir.Val.{hbits}
 use Rattle.signed.specs.Signed.{floor0, Near}
 use Rattle.signed.proofs.Laws.{int, magnitude-law}
-use Rattle.refusal.specs.declared.Checked.{Checked}
 use Rattle.refusal.specs.declared.Checked.the-variants.{Passed}
-use Rattle.refusal.specs.Refusal.{orElse}
 use Rattle.refusal.proofs.Checks.{passed-first, passed-next}
 use Rattle.geometry.specs.Checks.{sizeCheck, positionCheck}
 use Rattle.geometry.proofs.Checks.{size-passed, position-passed}

@@ -15,6 +15,8 @@ use Rattle.rectangle.specs.declared.RectangleAnswer.the-variants as rect
 use Rattle.refusal.specs.declared.Checked.{Checked}
 use Rattle.geometry.specs.Checks.{sizeCheck, positionCheck, offsetCheck}
 use Rattle.rectangle.specs.Rectangle.{center, withCenter, rows, columns, offset}
+use Rattle.refusal.specs.declared.Refusal.{Refusal}
+use Rattle.refusal.specs.declared.Refusal.the-variants.{Side}
 use Rattle.refusal.specs.Refusal.{number, orElse, Outcome, refused, answered, unless}
 
 -- a point's x and y
@@ -41,6 +43,11 @@ rangeOutcome (range-answer.Answered r) = answered (rangeValues r)
 abbrev pub rectangleOutcome : RectangleAnswer → Outcome
 rectangleOutcome (rectangle-answer.Refused refusal) = refused (number refusal)
 rectangleOutcome (rectangle-answer.Answered r) = answered (rectangleValues r)
+
+-- the refusal of an answer; of one that has a rectangle nobody asks for it
+abbrev pub rectangleRefusal : RectangleAnswer → Refusal
+rectangleRefusal (rectangle-answer.Refused refusal) = refusal
+rectangleRefusal (rectangle-answer.Answered r) = Side
 
 -- 1 and 3 of a rectangle
 unfoldable pub rectangleCheck : Rectangle → Checked

@@ -16,7 +16,7 @@ pub mod bounded;
 ghost use mathlib.Core.Path.{_≡_};
 ghost use Rattle.refusal.specs.Refusal.{unless};
 ghost use Rattle.geometry.specs.Checks.{positionCheck};
-ghost use Rattle.rectangle.specs.Calls.{rectangleCheck, rectangleValues, pointOutcome, rangeOutcome, rectangleOutcome, centerCall, rowsCall, columnsCall, withCenterCall, offsetCall};
+ghost use Rattle.rectangle.specs.Calls.{rectangleCheck, rectangleValues, pointOutcome, rangeOutcome, rectangleOutcome, rectangleRefusal, centerCall, rowsCall, columnsCall, withCenterCall, offsetCall};
 
 pub struct Rectangle {
     pub top_left: Point,
@@ -36,6 +36,18 @@ pub enum RangeAnswer {
 pub enum RectangleAnswer {
     Refused(Refusal),
     Answered(Rectangle),
+}
+
+impl RectangleAnswer {
+    // The refusal, for a call that passes it on where there is no rectangle.
+    pub fn refusal(self) -> Refusal
+        ensures { λ r. ⌜ r ≡ rectangleRefusal self ⌝ }
+    {
+        match self {
+            RectangleAnswer::Refused(refusal) => refusal,
+            RectangleAnswer::Answered(_) => Refusal::Side,
+        }
+    }
 }
 
 // The rectangle, or refusal 3 of its position.

@@ -15,13 +15,12 @@ use scanline::Place;
 use scanline::Row;
 ghost use mathlib.Core.Path.{_≡_};
 ghost use Prim.Native.Nat.{_<_, _≤_};
-ghost use lib.IntN.{pos, _+ℤ_};
 ghost use Rattle.signed.specs.Signed.{Near};
 ghost use Rattle.geometry.specs.Bounds.{widePoint, wideSide, PointNear, SizeUpTo};
 ghost use Rattle.scanline.specs.Points.{RowWithin};
 ghost use Rattle.corner.specs.Bounds.{wideRadius, wideStrokeSide};
 ghost use Rattle.corner_radii.specs.Bounds.{RadiiUpTo};
-ghost use Rattle.rounded_rectangle.specs.RoundedRectangle.{contains as RoundedRectangle·contains, run as RoundedRectangle·run, row as RoundedRectangle·row};
+ghost use Rattle.rounded_rectangle.specs.RoundedRectangle.{contains as RoundedRectangle·contains, row as RoundedRectangle·row};
 ghost use Rattle.rounded_rectangle.specs.Relative.{BoundedBox, ReadyBox, radii, containsAt, rowInsets, runBetween};
 
 pub struct RoundedRectangle {

@@ -45,10 +45,6 @@ pub answer-or-else : (a b : Checked) → answerOf (firstOf a b) ≡ (answerOf a 
 answer-or-else (Refused refusal) b = refl
 answer-or-else Passed b = refl
 
-or-else-accepted : (a : Answer) → (a orElse accepted) ≡ a
-or-else-accepted accepted = refl
-or-else-accepted (refused n) = refl
-
 module _ (W H count : ℕ) (places : List Layer) (sixteen : length places ≡ 16) where
   abbrev kept : Bool
   kept = keepsRules drawing W H (layersOf count places)
@@ -73,15 +69,6 @@ module _ (W H count : ℕ) (places : List Layer) (sixteen : length places ≡ 16
       pub add-free : count < 16 → added ≡ (drawing .refuse item orElse accepted)
       unfolding answer
       add-free free = rw (rules, lt-leb maxLayers (length (layersOf count places)) (omega (arith, many)))
-
-    -- accepted, there is room for a layer
-    pub added-rules : added ≡ accepted → kept ≡ true
-    unfolding answer
-    added-rules e =
-        let full : Answer = refuseIf (leb maxLayers (length (layersOf count places))) layersFull in
-        let p = or-else-accepted-parts (drawing .refuse item) (refuseIf (not kept) brokenSheet orElse full) e in
-        let q = or-else-accepted-parts (refuseIf (not kept) brokenSheet) full (p .1) in
-        not-false kept (refuse-if-accepted (not kept) brokenSheet refused-apart (q .0))
 
     pub added-room : added ≡ accepted → count < 16
     unfolding answer

@@ -9,14 +9,14 @@ use native.Mathlib.Numerals.{add-one}
 use lib.ListN.{length, take, set, getD, length-set}
 use lib.Seq.{take-suc-set, take-set-lt}
 use Rattle.book.specs.Book.{Answer, accepted, refused, ifAccepted, Call, add, paint}
-use Rattle.book.specs.Sheet.{Layers, State, answer, carriedOut, after, paintRow, opened}
+use Rattle.book.specs.Sheet.{Layers, State, answer, carriedOut, after, paintRow}
 use Rattle.book.proofs.Lists.{set-map}
 use Rattle.book.proofs.LowestNumber.{add-any-canvas, refused-changes-nothing, accepted-is-carried-out}
 use Rattle.drawing.specs.Drawing.{StyledFigure, styledFigure, drawing}
 use Rattle.layers.specs.declared.Layer.{Layer}
 use Rattle.layers.specs.Layers.{layerOf, blankLayer, layersOf}
 use Rattle.sheet.specs.declared.Sheet.{Sheet}
-use Rattle.sheet.specs.Sheet.{stateOf, openedSheet, sheetAnswer, addedLayer, paintedLayer, carriedOutSheet, sheetAfter, canvasAfter}
+use Rattle.sheet.specs.Sheet.{stateOf, sheetAnswer, addedLayer, paintedLayer, carriedOutSheet, sheetAfter, canvasAfter}
 use Rattle.sheet.specs.SheetDemand3.{AddTakesNoCanvas}
 use Rattle.sheet.proofs.Places.{layers-are, layer-at, kept-few}
 use Rattle.sheet.proofs.Answers.{added-room, PaintAccepted, painted-accepted}
@@ -140,7 +140,3 @@ add-takes-no-canvas s canvas item =
       canvas-kept = ap (λ (t : State StyledFigure). t .canvas)
           (add-any-canvas drawing (s .width) (s .height) (stateOf s canvas) item []);
     }
-
--- ---- A sheet just opened.
-pub opened-state : (W H : ℕ) (canvas : List ℕ) → stateOf (openedSheet W H) canvas ≡ opened drawing canvas
-opened-state W H canvas = refl

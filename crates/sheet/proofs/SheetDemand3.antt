@@ -9,6 +9,7 @@ use lib.ListN.{length}
 use Rattle.book.specs.Book.{Answer, Call, bookAfterAll}
 use Rattle.book.specs.Sheet.{State, Rules, answer, answers, afterAll}
 use Rattle.book.specs.Demand3.{AfterCalls}
+use Rattle.book.proofs.Demand3.{demand3}
 use Rattle.book.proofs.RulesKept.{rules-kept-by-all}
 use Rattle.drawing.specs.Drawing.{StyledFigure, answerOf, drawing}
 use Rattle.sheet.proofs.Places.{sides-pass}
@@ -17,7 +18,6 @@ use Rattle.sheet.specs.Sheet.{stateOf, openedSheet, sheetAnswer, sheetAf
 use Rattle.sheet.specs.SheetDemand3.{sheetAnswers, sheetAfterAll, canvasAfterAll, sheetReached, canvasReached}
 use Rattle.sheet.specs.SheetDemand3.{SheetDemand3, SheetRulesKept}
 use Rattle.sheet.proofs.Records.{state-after, same-frame-after}
-use Rattle.sheet.proofs.Figures.{figures-demand3}
 
 -- ---- a list of calls on any record, by `book`'s definitions
 pub record CallsMade (s : Sheet) (canvas : List ℕ) (calls : List (Call StyledFigure)) : Type 0 where
@@ -52,7 +52,7 @@ calls-made (call ∷ calls) s sixteen canvas =
 -- ---- from a sheet just opened
 pub sheet-demand3 : SheetDemand3
 sheet-demand3 W H width height lent size calls =
-    let demand = figures-demand3 W H width height lent size calls in
+    let demand = demand3 drawing W H width height lent size calls in
     let made = calls-made calls (openedSheet W H) refl lent in
     let state : State StyledFigure = stateOf (sheetReached W H lent calls) (canvasReached W H lent calls) in
     record {

@@ -23,7 +23,7 @@ layerLength = 18
 
 -- how many numbers a sheet has
 abbrev pub sheetLength : ℕ
-sheetLength = 291
+sheetLength = 3 + layerLength * maxLayers
 
 -- where place j begins
 abbrev pub placeAt : ℕ → ℕ

@@ -19,7 +19,7 @@ ghost use Rattle.sheet_record.specs.SheetRecord.{layerLength, sheetLengt
 // How many numbers a layer has, and a sheet.
 pub const LAYER_LENGTH: usize = 18;
 
-pub const SHEET_LENGTH: usize = 291;
+pub const SHEET_LENGTH: usize = 3 + LAYER_LENGTH * Layer::PLACES;
 
 // Whether the numbers are a layer's.
 fn is_layer(numbers: &[i32]) -> bool
@@ -135,7 +135,7 @@ pub fn sheet_of(numbers: &[i32]) -> Sheet
 
 // Puts a layer's numbers in a place.
 pub fn put_layer(numbers: &mut [i32], place: usize, figure: &[i32], style: &[i32], row: i32)
-    requires { ⌜ (length (now numbers) ≡ sheetLength) × (place < 16) ⌝ }
+    requires { ⌜ (length (now numbers) ≡ sheetLength) × (place < maxLayers) ⌝ }
     requires { ⌜ (length (now figure) ≡ figureLength) × (length (now style) ≡ styleLength) ⌝ }
     ensures { λ _. ⌜ now (numbers .exit) ≡ layerPut (now (numbers .entry)) place (now (figure .entry)) (now (style .entry)) row ⌝ }
 {

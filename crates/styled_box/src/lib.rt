@@ -38,17 +38,19 @@ pub struct StyledBox {
     pub fill: RoundedRectangleContains,
 }
 
-// No hints: for the first row of a scan.
-pub fn no_hints() -> RowHints
-    ensures { λ r. ⌜ r ≡ noHints ⌝ }
-{
-    let unknown = Hints {
-        left: ANYWHERE,
-        right: ANYWHERE,
-    };
-    RowHints {
-        stroke: unknown,
-        fill: unknown,
+impl RowHints {
+    // No hints: for the first row of a scan.
+    pub fn none() -> RowHints
+        ensures { λ r. ⌜ r ≡ noHints ⌝ }
+    {
+        let unknown = Hints {
+            left: ANYWHERE,
+            right: ANYWHERE,
+        };
+        RowHints {
+            stroke: unknown,
+            fill: unknown,
+        }
     }
 }
 

@@ -1,23 +1,28 @@
--- `box_rows::are_alike` meets its contract: sizes with the same width and the same height are one size.
+-- `box_rows::are_alike` meets its contract: the tests made are those of the definition.
 -- Assumes nothing.
-use mathlib.Core.Path.{_≡_}
-use mathlib.Core.Bool.{false≢true}
 use native.Mathlib.Omega.{arith}
-use Rattle.geometry.specs.declared.Size.{Size}
+use borrow.Author.Tests.{eq-eqb, ne-eqb}
+use Rattle.box_rows.specs.Sides.{alike}
 use Rattle.box_rows.proofs.are_alike.Statement.{statement}
 use Rattle.box_rows.proofs.are_alike.Tie as tie
 
 returns : tie.Need-returns
-returns c = λ e. absurd (false≢true e)
+unfolding alike
+returns c =
+    let a = c .before .before .before .args in
+    rw (ne-eqb (a .a .width) (a .b .width) (λ e. omega arith))
 
 returns-2 : tie.Need-returns-2
-returns-2 c = λ e. absurd (false≢true e)
-
-size-by-sides : {a b : Size} → a .width ≡ b .width → a .height ≡ b .height → a ≡ b
-size-by-sides p q i = record { width = p i; height = q i }
+unfolding alike
+returns-2 c =
+    let a = c .before .before .before .before .before .before .args in
+    rw (eq-eqb (a .a .width) (a .b .width) (omega arith), ne-eqb (a .a .height) (a .b .height) (λ e. omega arith))
 
 returns-3 : tie.Need-returns-3
-returns-3 c = λ _. size-by-sides (omega arith) (omega arith)
+unfolding alike
+returns-3 c =
+    let a = c .before .before .before .before .before .before .args in
+    rw (eq-eqb (a .a .width) (a .b .width) (omega arith), eq-eqb (a .a .height) (a .b .height) (omega arith))
 
 pub are-alike-spec : {M : Type 1} → statement M
 are-alike-spec = tie.close (tie.spec returns returns-2 returns-3)

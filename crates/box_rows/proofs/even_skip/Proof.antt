@@ -6,7 +6,7 @@ use Prim.Native.Nat.{_*_, _-_, _≤_, max}
 use native.Mathlib.Omega.{arith}
 use Rattle.rounded_rectangle.specs.Relative.{radii}
 use Rattle.box_columns.specs.Columns.{covered, leftOut}
-use Rattle.box_rows.proofs.Even.{between-upper, between-lower, cover-small}
+use Rattle.box_rows.proofs.Even.{alike-equal, between-upper, between-lower, cover-small}
 use borrow.Author.Needs.{needs}
 use Rattle.box_rows.proofs.even_skip.Statement.{statement}
 use Rattle.box_rows.proofs.even_skip.Tie as tie
@@ -55,7 +55,7 @@ returns c =
     let cover = c .before .before .before .before .before .before .before .before .before .before .before .covered .ensures in
     let half : 2 * covered (b .«top_left» .radius) dy ≤ b .size .width = omega (arith, cover, c .before .if3 .taken) in
     let none = sym (c .before .before .before .before .before .before .most2 .ensures ∙ ap₂ max (c .before .before .before .before .before .before .before .before .before .before .covered2 .ensures) (c .before .before .before .before .before .before .before .covered4 .ensures)) ∙ c .before .before .before .before .before .if1 .taken in
-    between-upper (radii b) (b .size) dy (c .left-out .result) (c .before .before .before .before .are-alike .ensures (c .before .before .before .if2 .taken)) half none
+    between-upper (radii b) (b .size) dy (c .left-out .result) (alike-equal (c .before .before .before .before .are-alike .ensures) (c .before .before .before .if2 .taken)) half none
     (c .left-out .ensures ∙ ap (leftOut (b .«top_left» .radius) dy) cover)
 
 returns-2 : tie.Need-returns-2
@@ -85,7 +85,7 @@ returns-4 c =
     let cover = c .before .before .before .before .before .before .before .before .before .before .before .covered2 .ensures in
     let half : 2 * covered (b .«bottom_left» .radius) below ≤ b .size .width = omega (arith, cover, c .before .if6 .taken) in
     let none = sym (c .before .before .before .before .before .before .before .before .before .most .ensures ∙ ap₂ max (c .before .before .before .before .before .before .before .before .before .before .before .before .covered .ensures) (c .before .before .before .before .before .before .before .before .before .before .covered3 .ensures)) ∙ c .before .before .before .before .before .if4 .taken in
-    between-lower (radii b) (b .size) dy (c .left-out2 .result) (c .before .before .before .before .are-alike2 .ensures (c .before .before .before .if5 .taken)) half none
+    between-lower (radii b) (b .size) dy (c .left-out2 .result) (alike-equal (c .before .before .before .before .are-alike2 .ensures) (c .before .before .before .if5 .taken)) half none
     (c .left-out2 .ensures ∙ ap (leftOut (b .«bottom_left» .radius) below) cover)
 
 returns-5 : tie.Need-returns-5

@@ -2,7 +2,7 @@
 -- Assumes nothing.
 use borrow.Author.Needs.{needs}
 use Rattle.rounded_rectangle.specs.Relative.{radii}
-use Rattle.box_rows.proofs.Even.{insets-alike, side-wide}
+use Rattle.box_rows.proofs.Even.{alike-equal, insets-alike, side-wide}
 use Rattle.box_rows.proofs.row_insets.Statement.{statement}
 use Rattle.box_rows.proofs.row_insets.Tie as tie
 
@@ -23,7 +23,7 @@ returns c =
     let entry = c .before .before .before .before .before .before .before .before .before .before in
     let a = entry .args in
     let inset = c .side-inset .ensures in
-    (insets-alike (radii (a .b)) (a .b .size .width) (a .b .size .height) (a .dy) (c .side-inset .result) (c .before .before .before .before .before .are-alike .ensures (c .before .before .before .before .if1 .taken)) (c .before .before .before .are-alike2 .ensures (c .before .before .if2 .taken)) (inset .0), inset .1, inset .1)
+    (insets-alike (radii (a .b)) (a .b .size .width) (a .b .size .height) (a .dy) (c .side-inset .result) (alike-equal (c .before .before .before .before .before .are-alike .ensures) (c .before .before .before .before .if1 .taken)) (alike-equal (c .before .before .before .are-alike2 .ensures) (c .before .before .if2 .taken)) (inset .0), inset .1, inset .1)
 
 insets-requires : tie.Need-insets-requires
 insets-requires c κs = search needs

@@ -3,7 +3,6 @@
 use Prim.Native.Nat.{_≤_, _-_}
 use lib.ListN.{length}
 use borrow.Author.Needs.{needs}
-use native.Mathlib.Omega.{arith}
 use Rattle.cafe.proofs.are_equal.Statement.{statement}
 use Rattle.cafe.proofs.are_equal.Tie as tie
 

@@ -1,12 +1,10 @@
 -- `canvas::merged` meets its contract: runs that are nested paint the same as the whole run and the fill.
 -- Assumes nothing.
-use mathlib.Core.Path.{_≡_, ap, _∙_}
-use lib.IntN.{ℤ}
+use mathlib.Core.Path.{_∙_}
 use mir.Syntax.{w32}
 use mir.Val.{SFits}
 use mir.Facts.{toZ-ofZ}
 use borrow.Author.Tests.{not-false}
-use Rattle.scanline.specs.declared.StyledRuns.{StyledRuns}
 use Rattle.canvas.specs.Canvas.{overpaintRuns}
 use Rattle.canvas.proofs.Nested.{merged-row}
 use borrow.Author.Needs.{needs}

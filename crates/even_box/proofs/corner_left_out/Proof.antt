@@ -2,7 +2,7 @@
 -- Assumes nothing.
 use borrow.Author.Needs.{needs}
 use native.Mathlib.Omega.{arith}
-use mathlib.Core.Path.{_≡_, sym, ap, _∙_}
+use mathlib.Core.Path.{sym, ap, _∙_}
 use Rattle.box_columns.specs.Columns.{placeElse, covered, leftOut}
 use Rattle.box_columns.proofs.Skips.{covered-row, covered-le, left-out-none}
 use Rattle.even_box.proofs.corner_left_out.Statement.{statement}

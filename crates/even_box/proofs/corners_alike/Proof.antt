@@ -1,5 +1,6 @@
 -- `even_box::corners_alike` meets its contract: a box each of whose corners is like the top-left one has four alike.
 -- Assumes nothing.
+use Rattle.box_rows.proofs.Even.{alike-equal}
 use borrow.Author.Needs.{needs}
 use mathlib.Core.Path.{_≡_, sym}
 use mathlib.Core.Bool.{false≢true}
@@ -25,8 +26,8 @@ are-alike-requires-3 c κs = search needs
 
 returns : tie.Need-returns
 returns c =
-    λ e. four-alike _ (c .before .before .before .before .are-alike .ensures (c .before .before .before .if1 .taken))
-    (c .before .before .are-alike2 .ensures (c .before .if2 .taken)) (c .are-alike3 .ensures e)
+    λ e. four-alike _ (alike-equal (c .before .before .before .before .are-alike .ensures) (c .before .before .before .if1 .taken))
+    (alike-equal (c .before .before .are-alike2 .ensures) (c .before .if2 .taken)) (alike-equal (c .are-alike3 .ensures) e)
 
 returns-2 : tie.Need-returns-2
 returns-2 c = λ e. absurd (false≢true e)

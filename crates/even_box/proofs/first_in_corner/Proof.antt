@@ -1,7 +1,7 @@
 -- `even_box::first_in_corner` meets its contract: the test is that of the corner's ellipse, at the row's distance from its middle.
 -- Assumes nothing.
 use borrow.Author.Needs.{needs}
-use mathlib.Core.Path.{_≡_, _∙_}
+use mathlib.Core.Path.{_∙_}
 use Prim.Native.Nat.{_*_}
 use Rattle.scanline.specs.Places.{findFrom}
 use Rattle.ellipse_search.specs.Search.{columnInside}

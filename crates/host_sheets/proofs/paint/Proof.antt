@@ -4,7 +4,6 @@ use mathlib.Core.Path.{_≡_, refl, sym, ap, _∙_}
 use mathlib.Core.Bool.{true}
 use borrow.Author.Needs.{needs}
 use borrow.Author.Tests.{not-true, not-false}
-use lib.ListN.{length-set}
 use Rattle.refusal.specs.Refusal.{number}
 use Rattle.refusal.proofs.Checks.{refusal-found}
 use Rattle.book.specs.Book.{accepted, paint as Call·paint}

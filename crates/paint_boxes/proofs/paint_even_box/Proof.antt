@@ -9,16 +9,13 @@ use Prim.Native.Nat.{ℕ, _+_, _-_, _<_}
 use lib.IntN.{ℤ, pos, _+ℤ_}
 use lib.ListN.{length}
 use mir.Facts.{toZ-ofZ}
-use mir.Syntax.{w32}
-use mir.Val.{toZ, ofZ}
 use Rattle.signed.specs.Signed.{Near}
 use Rattle.signed.proofs.Laws.{int, add-law}
-use Rattle.corner.specs.Bounds.{wideStrokeSide}
 use Rattle.box_columns.proofs.Searches.{by-order}
 use Rattle.shape_row.specs.StyledRow.{boxStyledRow}
 use Rattle.even_box.specs.EvenBox.{evenStroke, evenFill}
 use Rattle.even_box.proofs.Rows.{row-mirrored, rows-between}
-use Rattle.paint_rows.specs.Rows.{widePainted, rowsBy}
+use Rattle.paint_rows.specs.Rows.{widePainted}
 use Rattle.paint_rows.proofs.Mirror.{RowsBetween, between-start, between-end}
 use Rattle.paint_boxes.specs.Spaced.{spacedBy, SpacedNear}
 use Rattle.paint_boxes.proofs.Turns.{row-near, step-small, turn-further, rows-near, turn-pair, turn-rest}

@@ -14,7 +14,7 @@ use Rattle.signed.specs.Signed.{Near}
 use Rattle.signed.proofs.Laws.{int, add-law}
 use Rattle.paint_rows.specs.Rows.{widePainted}
 use Rattle.paint_rows.proofs.InTurn.{painted-near}
-use Rattle.paint_boxes.specs.Spaced.{spacedBy, SpacedNear}
+use Rattle.paint_boxes.specs.Spaced.{spacedBy}
 use Rattle.paint_boxes.proofs.Turns.{SpacedLeft, first-near, spaced-turn, spaced-end}
 use Rattle.paint_boxes.proofs.paint_spaced_rows.Statement.{statement}
 use Rattle.paint_boxes.proofs.paint_spaced_rows.Tie as tie

@@ -19,8 +19,8 @@ returns-2 c = search needs
 returns-3 : tie.Need-returns-3
 returns-3 c = search needs
 
-even-box-requires : tie.Need-even-box-requires
-even-box-requires c κs = search needs
+new-requires : tie.Need-new-requires
+new-requires c κs = search needs
 
 enum-known-even : tie.Need-enum-known-even
 enum-known-even c = search needs
@@ -38,7 +38,7 @@ returns-5 c =
     let top-fits : SFits w32 (entry .args .b .area .«top_left» .y) = entry .pre .area .at .y .fits in
     let not-above = tested .before .before .before .before .before .if1 .left in
     let not-below = tested .before .before .if2 .left in (
-      subst (EvenOf (entry .args .b)) (c .before .even .given .1) (c .before .before .before .even-box .ensures),
+      subst (EvenOf (entry .args .b)) (c .before .even .given .1) (c .before .before .before .new .ensures),
       omega
           (arith, int),
       omega (arith, tested .if3 .left),
@@ -51,7 +51,7 @@ whole-even-box-spec =
     returns
     returns-2
     returns-3
-    even-box-requires
+    new-requires
     enum-known-even
     enum-told
     returns-4

@@ -49,8 +49,8 @@ row-near c =
       fits = c .add .ensures .fits;
     }
 
-no-hints-requires : tie.Need-no-hints-requires Inv-loop μ-loop
-no-hints-requires c κs = search needs
+none-requires : tie.Need-none-requires Inv-loop μ-loop
+none-requires c κs = search needs
 
 loop-holds : tie.Need-loop-holds Inv-loop μ-loop
 loop-holds c = rows-start _ _ _ _ _ _ _ (c .before .before .pre .0)
@@ -142,7 +142,7 @@ paint-box-rows-spec =
     (tie.spec
     Inv-loop
     μ-loop
-    no-hints-requires
+    none-requires
     loop-holds
     from-u32-requires
     add-requires

@@ -1,19 +1,15 @@
 -- `record_paint::paint_next` meets its contract: a call that is accepted has a layer within bounds, whose row is painted.
 -- Assumes nothing.
-use mathlib.Core.Path.{_≡_, refl, sym, ap, ap₂, subst, _∙_}
+use mathlib.Core.Path.{_≡_, sym, ap, ap₂, subst, _∙_}
 use mathlib.Core.List.{List}
 use Prim.Native.Nat.{ℕ, _+_, _*_, _<_, _≤_}
 use native.Mathlib.Omega.{arith}
 use borrow.Author.Needs.{needs}
 use lib.IntN.{ℤ, pos, _+ℤ_}
-use lib.ListN.{length, set, getD, length-set}
-use mir.Syntax.{w32}
-use mir.Val.{toZ, ofZ}
+use lib.ListN.{set, getD, length-set}
 use mir.Facts.{toZ-ofZ}
-use Rattle.signed.specs.Signed.{Near}
 use Rattle.signed.proofs.Laws.{int}
-use Rattle.geometry.specs.Bounds.{widePoint, wideSide}
-use Rattle.figure.specs.Bounds.{wideOffset, OwnFigure}
+use Rattle.geometry.specs.Bounds.{wideSide}
 use Rattle.book.specs.Sheet.{paintRow}
 use Rattle.drawing.specs.Drawing.{styledFigure, drawing}
 use Rattle.layers.specs.declared.Layer.{Layer}
@@ -23,7 +19,7 @@ use Rattle.sheet.proofs.Places.{kept-few, kept-layer, kept-width}
 use Rattle.sheet.proofs.Answers.{PaintAccepted, painted-accepted}
 use Rattle.sheet.specs.declared.Sheet.{Sheet}
 use Rattle.sheet.proofs.Records.{painted-canvas}
-use Rattle.sheet_record.specs.SheetRecord.{layerOf, placeAt, placeNumbers, sheetOf}
+use Rattle.sheet_record.specs.SheetRecord.{placeAt, sheetOf}
 use Rattle.sheet_record.proofs.Parts.{sixteen}
 use Rattle.sheet_record.proofs.ReadBack.{layer-in-place}
 use Rattle.record_paint.proofs.paint_next.Statement.{statement}

@@ -4,8 +4,6 @@ use mathlib.Core.Path.{sym, ap, _∙_}
 use lib.IntN.{ℤ}
 use Rattle.signed.specs.Signed.{floor0}
 use Rattle.record_numbers.proofs.Walks.{read-back}
-use native.Mathlib.Omega.{arith}
-use Rattle.signed.proofs.Laws.{int}
 use borrow.Author.Needs.{needs}
 use Rattle.sheet_record.proofs.count_of.Statement.{statement}
 use Rattle.sheet_record.proofs.count_of.Tie as tie

@@ -1,7 +1,7 @@
 -- `sheet_record::holds_records` meets its contract: the first three numbers, and what is asked of all used places is asked of those
 -- that are left.
 -- Assumes nothing.
-use mathlib.Core.Path.{_≡_, refl, sym, ap, _∙_}
+use mathlib.Core.Path.{_≡_, sym, ap, _∙_}
 use mathlib.Core.Bool.{Bool, true, false, _&&_}
 use mathlib.Core.List.{List}
 use Prim.Native.Nat.{ℕ, _+_, _-_, _≤_, min}
@@ -15,7 +15,6 @@ use Rattle.record_numbers.proofs.Walks.{read-back, all-from-here, all-from-past
 use Rattle.sheet_record.specs.SheetRecord.{placeNumbers, isLayer, holdsRecords}
 use Rattle.sheet_record.proofs.Parts.{place-part, place-part-length}
 use native.Mathlib.Omega.{arith}
-use Rattle.signed.proofs.Laws.{int}
 use Rattle.sheet_record.proofs.holds_records.Statement.{statement}
 use Rattle.sheet_record.proofs.holds_records.Tie as tie
 

@@ -1,6 +1,6 @@
 -- `sheet_record::layer_at` meets its contract: the part that is lent is the place's.
 -- Assumes nothing.
-use mathlib.Core.Path.{_≡_, ap, _∙_}
+use mathlib.Core.Path.{ap, _∙_}
 use mathlib.Core.List.{List}
 use lib.IntN.{ℤ}
 use Rattle.sheet_record.specs.SheetRecord.{layerOf}

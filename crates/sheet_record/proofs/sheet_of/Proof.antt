@@ -1,6 +1,5 @@
 -- `sheet_record::sheet_of` meets its contract: each part is read by itself.
 -- Assumes nothing.
-use mathlib.Core.Path.{_≡_}
 use borrow.Author.Needs.{needs}
 use Rattle.sheet_record.specs.SheetRecord.{sheetOf}
 use Rattle.sheet_record.proofs.sheet_of.Statement.{statement}

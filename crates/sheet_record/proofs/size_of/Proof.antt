@@ -1,6 +1,6 @@
 -- `sheet_record::size_of` meets its contract: the first two numbers are the sides.
 -- Assumes nothing.
-use mathlib.Core.Path.{_≡_, ap, _∙_}
+use mathlib.Core.Path.{ap, _∙_}
 use lib.IntN.{ℤ}
 use Rattle.signed.specs.Signed.{floor0}
 use Rattle.record_numbers.proofs.Walks.{read-back}

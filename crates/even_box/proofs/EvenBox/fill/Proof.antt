@@ -1,8 +1,7 @@
 -- `EvenBox::fill` meets its contract: above the fill area's rows there is none, and on them one search tells what both corners
 -- leave out.
 -- Assumes nothing.
-use borrow.Author.Needs.{needs}
-use mathlib.Core.Path.{_≡_, ap, _∙_}
+use mathlib.Core.Path.{ap, _∙_}
 use lib.IntN.{ℤ}
 use mir.Facts.{toZ-ofZ}
 use Rattle.range.proofs.Fields.{range-by-fields}

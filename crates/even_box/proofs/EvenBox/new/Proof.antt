@@ -1,4 +1,4 @@
--- `even_box::even_box` meets its contract: the tests on the way say each thing that is asked of an even box.
+-- `even_box::EvenBox::new` meets its contract: the tests on the way say each thing that is asked of an even box.
 -- Assumes nothing.
 use borrow.Author.Needs.{needs}
 use borrow.Author.Tests.{not-false}
@@ -12,8 +12,8 @@ use Rattle.scanline.specs.declared.Place.the-variants.{At}
 use Rattle.scanline.specs.Places.{Placed}
 use Rattle.scanline.proofs.Placed.{placed-told}
 use Rattle.figure.proofs.Within.{area-bounded}
-use Rattle.even_box.proofs.even_box.Statement.{statement}
-use Rattle.even_box.proofs.even_box.Tie as tie
+use Rattle.even_box.proofs.EvenBox.new.Statement.{statement}
+use Rattle.even_box.proofs.EvenBox.new.Tie as tie
 
 -- ---- how far below the top the fill area begins
 abbrev entry : tie.After-known-told → tie.Start
@@ -136,8 +136,8 @@ returns-7 c =
       },
     )
 
-pub even-box-spec : {M : Type 1} → statement M
-even-box-spec =
+pub new-spec : {M : Type 1} → statement M
+new-spec =
     tie.close
     (tie.spec
     corners-alike-requires
