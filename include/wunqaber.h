@@ -1,7 +1,7 @@
 /* Wunqaber for C: rounded boxes and ovals on a canvas of bytes.
  *
- * Link target/staticlib/libexports.a, which `rt staticlib exports` proves and builds. What each call
- * promises stands in crates/exports: for every list of numbers and every length, an equation for the
+ * Link target/staticlib/libwunqaber.a, which `rt staticlib wunqaber` proves and builds. What each call
+ * promises stands in crates/wunqaber: for every list of numbers and every length, an equation for the
  * answer and for each buffer lent.
  *
  * Numbers go in and out as int32_t, records as runs of them in the order of the structs below; every

@@ -38,8 +38,8 @@ if [ "$(uname -m)" != x86_64 ]; then
     exit 0
 fi
 if [ -z "$library" ]; then
-    quietly 'exports is not proved, or its library is not built' sh "$root/tests/library.sh"
-    library=$root/target/staticlib/libexports.a
+    quietly 'wunqaber is not proved, or its library is not built' sh "$root/tests/library.sh"
+    library=$root/target/staticlib/libwunqaber.a
 fi
 [ -f "$library" ] || fail "there is no library '$library'"
 

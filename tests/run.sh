@@ -84,11 +84,11 @@ said netpbm.sh
 # The library is compiled for x86-64 alone.
 if [ "$(uname -m)" = x86_64 ]; then
     built=$(date +%s)
-    rt staticlib exports > "$work/library" 2>&1 || {
+    rt staticlib wunqaber > "$work/library" 2>&1 || {
         tail -n 20 "$work/library" >&2
         fail 'the static library is not built'
     }
-    WUNQABER_LIBRARY=$PWD/target/staticlib/libexports.a
+    WUNQABER_LIBRARY=$PWD/target/staticlib/libwunqaber.a
     export WUNQABER_LIBRARY
     took 'static library' "$built"
 
