@@ -35,13 +35,12 @@ static void expect(const char *what, uint32_t expected, uint32_t found)
 }
 
 /* Puts a figure on top, in a border of 2 pixels. */
-static void add(wunqaber_figure figure, int32_t fill)
+static void add(const wunqaber_figure *figure, int32_t fill)
 {
     wunqaber_style style = {40, WUNQABER_ABSENT, 2, WUNQABER_INSIDE};
 
     style.fill = fill;
-    expect("sheet_add", WUNQABER_DONE,
-           wunqaber_sheet_add(WUNQABER_NUMBERS(sheet), WUNQABER_NUMBERS(figure), WUNQABER_NUMBERS(style)));
+    expect("add", WUNQABER_DONE, wunqaber_add(&sheet, figure, &style));
 }
 
 /* A box 64 by 48 with corners of radius 12, and an oval 24 by 24 in its middle: filled for a person who is
@@ -55,8 +54,8 @@ static void add_tile(int32_t x, int32_t y, int clocked_in)
     tile.y = y;
     oval.x = x + 20;
     oval.y = y + 12;
-    add(tile, 220);
-    add(oval, clocked_in ? 40 : WUNQABER_ABSENT);
+    add(&tile, 220);
+    add(&oval, clocked_in ? 40 : WUNQABER_ABSENT);
 }
 
 /* Paints a row of each layer in every round, the uppermost first. */
@@ -67,13 +66,13 @@ static void paint(void)
 
     for (round = 0; round < ROUNDS; round++) {
         for (layer = LAYERS; layer-- > 0;) {
-            uint32_t answer = wunqaber_sheet_paint(WUNQABER_NUMBERS(sheet), (uint32_t)layer, canvas, sizeof canvas);
+            uint32_t answer = wunqaber_paint_next_row(&sheet, (uint32_t)layer, canvas, sizeof canvas);
 
             switch (answer) {
             case WUNQABER_DONE: painted++; break;
             case WUNQABER_NO_ROW_LEFT: without_row++; break;
             case WUNQABER_ROW_OWED: owed++; break;
-            default: expect("sheet_paint", WUNQABER_DONE, answer);
+            default: expect("paint_next_row", WUNQABER_DONE, answer);
             }
         }
     }
@@ -87,7 +86,7 @@ int main(void)
     int32_t length = 0;
 
     memset(canvas, 255, sizeof canvas);
-    expect("sheet_open", WUNQABER_DONE, wunqaber_sheet_open(WIDTH, HEIGHT, WUNQABER_NUMBERS(sheet)));
+    expect("open", WUNQABER_DONE, wunqaber_open(WIDTH, HEIGHT, &sheet));
     add_tile(8, 8, 1);
     add_tile(84, 8, 0);
     add_tile(160, 8, 1);
@@ -95,8 +94,8 @@ int main(void)
     add_tile(84, 64, 0);
     add_tile(160, 64, 1);
     paint();
-    expect("write_p5", WUNQABER_DONE,
-           wunqaber_write_p5(WIDTH, HEIGHT, canvas, sizeof canvas, file, sizeof file, &length, 1));
+    expect("encode_p5", WUNQABER_DONE,
+           wunqaber_encode_p5(WIDTH, HEIGHT, canvas, sizeof canvas, file, sizeof file, &length));
     expect("length of the file", sizeof file, (uint32_t)length);
     if (fwrite(file, 1, sizeof file, stdout) != sizeof file || fflush(stdout) != 0) {
         fputs("page: the file could not be written\n", stderr);

@@ -1,7 +1,8 @@
 /* Makes every call of include/wunqaber.h once as it is accepted and once for each answer that the header
  * names for it, from a table: a call, what is changed in its arguments, and the answer. The answer must be
  * the one in the table, and all buffers lent must be as expected: the numbers and bytes written below where
- * the call is accepted, else unchanged. */
+ * the call is accepted, else unchanged. Each call is made on numbers; and by its typed form, unless a length is
+ * changed that this does not take: the answer and every buffer must then be the same. */
 #include <stdio.h>
 #include <string.h>
 
@@ -18,11 +19,13 @@ static const char *const names[] = {
 };
 
 /* What is changed in the arguments: one of them gets the table's value. A length of the sheet, of a list or
- * of a buffer is the length that the call is told. */
+ * of a buffer is the length that the call is told. UNEVEN_BOX, BORDERED and OBLONG are another figure, another
+ * style and a canvas 8 by 2, for which numbers exchanged with each other would show. */
 enum change {
-    AS_IS, KIND, X, WIDTH, RADIUS, FIGURE_LENGTH, STROKE, FILL, STROKE_WIDTH, ALIGNMENT, STYLE_LENGTH, ASKED,
-    CENTER_X, CENTER_WIDTH, CANVAS_WIDTH, CANVAS_LENGTH, LIST_LENGTH, FILE_LENGTH, OUT_LENGTH, ANSWERS_LENGTH,
-    SHEET_COUNT, SHEET_NEXT_ROW, SHEET_LAYER_KIND, SHEET_LENGTH, LAYER, CALL_KIND, CALL_LAYER, CALLS_LENGTH
+    AS_IS, UNEVEN_BOX, BORDERED, OBLONG, KIND, X, WIDTH, RADIUS, FIGURE_LENGTH, STROKE, FILL, STROKE_WIDTH,
+    ALIGNMENT, STYLE_LENGTH, ASKED, CENTER_X, CENTER_WIDTH, CANVAS_WIDTH, CANVAS_LENGTH, LIST_LENGTH,
+    FILE_LENGTH, OUT_LENGTH, ANSWERS_LENGTH, SHEET_COUNT, SHEET_NEXT_ROW, SHEET_LAYER_KIND, SHEET_LENGTH,
+    LAYER, CALL_KIND, CALL_LAYER, CALLS_LENGTH
 };
 
 /* The arguments of all calls. The figure is the oval 4 by 4 at (0, 0), or a box for the call that asks for
@@ -58,6 +61,7 @@ typedef struct {
 
 static const check checks[] = {
     {CONTAINS, AS_IS, 0, 0},
+    {CONTAINS, X, -2, 0},
     {CONTAINS, WIDTH, 1025, 1},
     {CONTAINS, RADIUS, 1025, 2},
     {CONTAINS, X, -4097, 3},
@@ -87,6 +91,7 @@ static const check checks[] = {
     {POINTS, KIND, 3, 100},
 
     {OFFSET, AS_IS, 0, 0},
+    {OFFSET, UNEVEN_BOX, 0, 0},
     {OFFSET, WIDTH, 1025, 1},
     {OFFSET, RADIUS, 1025, 2},
     {OFFSET, X, -4097, 3},
@@ -95,6 +100,7 @@ static const check checks[] = {
     {OFFSET, KIND, 3, 100},
 
     {CONFINED_RADII, AS_IS, 0, 0},
+    {CONFINED_RADII, UNEVEN_BOX, 0, 0},
     {CONFINED_RADII, WIDTH, 1025, 1},
     {CONFINED_RADII, RADIUS, 1025, 2},
     {CONFINED_RADII, X, -4097, 3},
@@ -103,11 +109,13 @@ static const check checks[] = {
     {CONFINED_RADII, KIND, WUNQABER_ELLIPSE, 101},
 
     {ELLIPSE_WITH_CENTER, AS_IS, 0, 0},
+    {ELLIPSE_WITH_CENTER, CENTER_X, 9, 0},
     {ELLIPSE_WITH_CENTER, CENTER_WIDTH, 1025, 1},
     {ELLIPSE_WITH_CENTER, CENTER_X, 4100, 3},
     {ELLIPSE_WITH_CENTER, OUT_LENGTH, 4, 13},
 
     {STYLED_ROW, AS_IS, 0, 0},
+    {STYLED_ROW, BORDERED, 0, 0},
     {STYLED_ROW, WIDTH, 1025, 1},
     {STYLED_ROW, RADIUS, 1025, 2},
     {STYLED_ROW, X, -4097, 3},
@@ -123,6 +131,7 @@ static const check checks[] = {
     {STYLED_ROW, ASKED, -1, 101},
 
     {STYLED_BOUNDING_BOX, AS_IS, 0, 0},
+    {STYLED_BOUNDING_BOX, UNEVEN_BOX, 0, 0},
     {STYLED_BOUNDING_BOX, WIDTH, 1025, 1},
     {STYLED_BOUNDING_BOX, RADIUS, 1025, 2},
     {STYLED_BOUNDING_BOX, X, -4097, 3},
@@ -131,6 +140,7 @@ static const check checks[] = {
     {STYLED_BOUNDING_BOX, ALIGNMENT, -1, 100},
 
     {PAINT_FIGURE, AS_IS, 0, 0},
+    {PAINT_FIGURE, OBLONG, 0, 0},
     {PAINT_FIGURE, WIDTH, 1025, 1},
     {PAINT_FIGURE, RADIUS, 1025, 2},
     {PAINT_FIGURE, X, -4097, 3},
@@ -141,6 +151,7 @@ static const check checks[] = {
     {PAINT_FIGURE, STYLE_LENGTH, 5, 100},
 
     {SHEET_OPEN, AS_IS, 0, 0},
+    {SHEET_OPEN, OBLONG, 0, 0},
     {SHEET_OPEN, CANVAS_WIDTH, 0, 6},
     {SHEET_OPEN, SHEET_LENGTH, 290, 13},
 
@@ -168,6 +179,7 @@ static const check checks[] = {
     {SHEET_PAINT, SHEET_LENGTH, 290, 100},
 
     {RUN_CALLS, AS_IS, 0, 0},
+    {RUN_CALLS, OBLONG, 0, 0},
     {RUN_CALLS, CANVAS_WIDTH, 1025, 6},
     {RUN_CALLS, CANVAS_LENGTH, 17, 8},
     {RUN_CALLS, ANSWERS_LENGTH, 2, 13},
@@ -176,6 +188,7 @@ static const check checks[] = {
     {RUN_CALLS, CALL_LAYER, -1, 100},
 
     {WRITE_P5, AS_IS, 0, 0},
+    {WRITE_P5, OBLONG, 0, 0},
     {WRITE_P5, CANVAS_WIDTH, 0, 6},
     {WRITE_P5, CANVAS_LENGTH, 15, 8},
     {WRITE_P5, FILE_LENGTH, 26, 13},
@@ -184,7 +197,9 @@ static const check checks[] = {
 
 static const wunqaber_figure oval = {WUNQABER_ELLIPSE, 0, 0, 4, 4, {0, 0, 0, 0, 0, 0, 0, 0}};
 static const wunqaber_figure crate_box = {WUNQABER_CRATE_BOX, 0, 0, 10, 100, {9, 60, 9, 60, 9, 60, 9, 60}};
+static const wunqaber_figure uneven_box = {WUNQABER_CRATE_BOX, 5, 7, 10, 100, {1, 11, 2, 12, 3, 13, 4, 14}};
 static const wunqaber_style filled = {WUNQABER_ABSENT, 9, 0, WUNQABER_CENTER};
+static const wunqaber_style bordered = {40, 9, 1, WUNQABER_INSIDE};
 
 /* The arguments as they are accepted. Calls that may be refused for a radius get the box. */
 static arguments accepted(const check *c)
@@ -243,6 +258,12 @@ static void change(const check *c, arguments *a, buffers *b)
 
     switch (c->change) {
     case AS_IS: break;
+    case UNEVEN_BOX: a->figure = uneven_box; break;
+    case BORDERED: a->style = bordered; break;
+    case OBLONG:
+        a->width = 8;
+        a->height = 2;
+        break;
     case KIND: a->figure.kind = value; break;
     case X: a->figure.x = value; break;
     case WIDTH: a->figure.width = value; break;
@@ -321,39 +342,197 @@ static uint32_t make(enum call call, const arguments *a, buffers *b)
     return UINT32_MAX;
 }
 
+/* Whether the typed form can make the call too: it takes no length of a record, and lists of whole calls alone. */
+static int has_typed_form(const check *c)
+{
+    switch (c->change) {
+    case FIGURE_LENGTH: case STYLE_LENGTH: case OUT_LENGTH: case SHEET_LENGTH: case CALLS_LENGTH: return 0;
+    default: return 1;
+    }
+}
+
+static void put_figure(int32_t *out, const wunqaber_figure *figure)
+{
+    out[0] = figure->kind;
+    out[1] = figure->x;
+    out[2] = figure->y;
+    out[3] = figure->width;
+    out[4] = figure->height;
+    memcpy(out + 5, figure->radii, sizeof figure->radii);
+}
+
+/* The same call by its typed form. What it may give holds what stands in the buffers before, and goes back there
+ * field by field. */
+static uint32_t make_typed(enum call call, const arguments *a, buffers *b)
+{
+    uint32_t answer = UINT32_MAX;
+    int32_t *out = b->out;
+
+    switch (call) {
+    case CONTAINS:
+        return wunqaber_test_point(&a->figure, a->asked, 0, out);
+    case ROW: {
+        wunqaber_scanline row;
+
+        memcpy(&row, out, sizeof row);
+        answer = wunqaber_find_row(&a->figure, a->asked, &row);
+        out[0] = row.y;
+        out[1] = row.start;
+        out[2] = row.end;
+        return answer;
+    }
+    case POINTS: {
+        wunqaber_point points[14];
+        size_t i;
+
+        memcpy(points, b->list, sizeof points);
+        answer = wunqaber_list_points(&a->figure, points, a->list_length / 2, out);
+        for (i = 0; i < 14; i++) {
+            b->list[2 * i] = points[i].x;
+            b->list[2 * i + 1] = points[i].y;
+        }
+        return answer;
+    }
+    case OFFSET: {
+        wunqaber_figure grown;
+
+        memcpy(&grown, out, sizeof grown);
+        answer = wunqaber_grow(&a->figure, a->asked, &grown);
+        put_figure(out, &grown);
+        return answer;
+    }
+    case CONFINED_RADII: {
+        wunqaber_radii radii;
+
+        memcpy(&radii, out, sizeof radii);
+        answer = wunqaber_confine_radii(&a->figure, &radii);
+        out[0] = radii.top_left_width;
+        out[1] = radii.top_left_height;
+        out[2] = radii.top_right_width;
+        out[3] = radii.top_right_height;
+        out[4] = radii.bottom_right_width;
+        out[5] = radii.bottom_right_height;
+        out[6] = radii.bottom_left_width;
+        out[7] = radii.bottom_left_height;
+        return answer;
+    }
+    case ELLIPSE_WITH_CENTER: {
+        wunqaber_figure ellipse;
+
+        memcpy(&ellipse, out, sizeof ellipse);
+        answer = wunqaber_center_ellipse(a->center_x, a->center_y, a->center_width, a->center_height, &ellipse);
+        put_figure(out, &ellipse);
+        return answer;
+    }
+    case STYLED_ROW: {
+        wunqaber_styled_scanline row;
+
+        memcpy(&row, out, sizeof row);
+        answer = wunqaber_find_styled_row(&a->figure, &a->style, a->asked, &row);
+        out[0] = row.y;
+        out[1] = row.left_start;
+        out[2] = row.left_end;
+        out[3] = row.fill_start;
+        out[4] = row.fill_end;
+        out[5] = row.right_start;
+        out[6] = row.right_end;
+        return answer;
+    }
+    case STYLED_BOUNDING_BOX: {
+        wunqaber_rectangle bounds;
+
+        memcpy(&bounds, out, sizeof bounds);
+        answer = wunqaber_find_bounds(&a->figure, &a->style, &bounds);
+        out[0] = bounds.x;
+        out[1] = bounds.y;
+        out[2] = bounds.width;
+        out[3] = bounds.height;
+        return answer;
+    }
+    case PAINT_FIGURE:
+        return wunqaber_paint(&a->figure, &a->style, a->width, a->height, b->canvas, a->canvas_length);
+    case SHEET_OPEN:
+        return wunqaber_open(a->width, a->height, &b->sheet);
+    case SHEET_ADD:
+        return wunqaber_add(&b->sheet, &a->figure, &a->style);
+    case SHEET_PAINT:
+        return wunqaber_paint_next_row(&b->sheet, a->layer, b->canvas, a->canvas_length);
+    case RUN_CALLS: {
+        wunqaber_call calls[3];
+
+        calls[0] = wunqaber_make_add(&oval, &filled);
+        calls[1] = wunqaber_make_paint(a->calls[1][1]);
+        calls[2] = wunqaber_make_paint(a->calls[2][1]);
+        calls[2].kind = a->calls[2][0];
+        /* The numbers that are looked at: kind, figure and style of the first, kind and layer of the others. */
+        if (memcmp(&calls[0], a->calls[0], 18 * sizeof(int32_t)) != 0
+            || memcmp(&calls[1], a->calls[1], 2 * sizeof(int32_t)) != 0
+            || memcmp(&calls[2], a->calls[2], 2 * sizeof(int32_t)) != 0)
+            return UINT32_MAX;
+        return wunqaber_run(a->width, a->height, calls, 3, b->canvas, a->canvas_length,
+                            b->answers, a->answers_length);
+    }
+    case WRITE_P5:
+        return wunqaber_encode_p5(a->width, a->height, b->canvas, a->canvas_length, b->file, a->file_length, out);
+    }
+    return answer;
+}
+
+/* What the typed form writes and the call on numbers does not: 0 for the radii of an ellipse that is given. */
+static void written_typed(const check *c, buffers *b)
+{
+    if ((c->call == OFFSET || c->call == ELLIPSE_WITH_CENTER) && b->out[0] == WUNQABER_ELLIPSE)
+        memset(b->out + 5, 0, 8 * sizeof(int32_t));
+}
+
 /* What each call writes into the buffers where it is accepted. */
-static void written(enum call call, buffers *b)
+static void written(const check *c, buffers *b)
 {
     static const int32_t row[] = {1, 0, 4};
     static const int32_t points[] = {1, 0, 2, 0, 0, 1, 1, 1, 2, 1, 3, 1, 0, 2, 1, 2, 2, 2, 3, 2, 1, 3, 2, 3};
     static const int32_t offset[] = {WUNQABER_ELLIPSE, -1, -1, 6, 6};
+    static const int32_t offset_box[] = {WUNQABER_CRATE_BOX, 4, 6, 12, 102, 2, 12, 3, 13, 4, 14, 5, 15};
     static const int32_t radii[] = {7, 50, 7, 50, 7, 50, 7, 50};
     static const int32_t about[] = {WUNQABER_ELLIPSE, 4, 4, 4, 3};
     static const int32_t styled[] = {1, 0, 0, 0, 4, 4, 4};
+    static const int32_t styled_border[] = {1, 0, 1, 1, 3, 3, 4};
     static const int32_t bounds[] = {0, 0, 4, 4};
-    static const char header[] = "P5\n4 4\n255\n";
+    static const int32_t bounds_of_box[] = {5, 7, 10, 100};
+    static const char header[] = "P5\n4 4\n255\n", header_oblong[] = "P5\n8 2\n255\n";
     static const uint8_t pixels[] = {1, 2, 4, 5, 6, 7, 8, 9, 10, 11, 13, 14};
+    static const uint8_t pixels_oblong[] = {1, 2, 8, 9, 10, 11};
+    int uneven = c->change == UNEVEN_BOX, oblong = c->change == OBLONG;
     size_t i;
 
-    switch (call) {
-    case CONTAINS: b->out[0] = 1; break;
+    switch (c->call) {
+    case CONTAINS: b->out[0] = c->change == AS_IS; break;
     case ROW: memcpy(b->out, row, sizeof row); break;
     case POINTS:
         memcpy(b->list, points, sizeof points);
         b->out[0] = 12;
         break;
-    case OFFSET: memcpy(b->out, offset, sizeof offset); break;
-    case CONFINED_RADII: memcpy(b->out, radii, sizeof radii); break;
-    case ELLIPSE_WITH_CENTER: memcpy(b->out, about, sizeof about); break;
-    case STYLED_ROW: memcpy(b->out, styled, sizeof styled); break;
-    case STYLED_BOUNDING_BOX: memcpy(b->out, bounds, sizeof bounds); break;
+    case OFFSET:
+        if (uneven)
+            memcpy(b->out, offset_box, sizeof offset_box);
+        else
+            memcpy(b->out, offset, sizeof offset);
+        break;
+    case CONFINED_RADII: memcpy(b->out, uneven ? uneven_box.radii : radii, sizeof radii); break;
+    case ELLIPSE_WITH_CENTER:
+        memcpy(b->out, about, sizeof about);
+        if (c->change == CENTER_X)
+            b->out[1] = 8;
+        break;
+    case STYLED_ROW: memcpy(b->out, c->change == BORDERED ? styled_border : styled, sizeof styled); break;
+    case STYLED_BOUNDING_BOX: memcpy(b->out, uneven ? bounds_of_box : bounds, sizeof bounds); break;
     case PAINT_FIGURE:
-        for (i = 0; i < sizeof pixels; i++)
-            b->canvas[pixels[i]] = 9;
+        for (i = 0; i < (oblong ? sizeof pixels_oblong : sizeof pixels); i++)
+            b->canvas[oblong ? pixels_oblong[i] : pixels[i]] = 9;
         break;
     case SHEET_OPEN:
         memset(&b->sheet, 0, sizeof b->sheet);
-        b->sheet.width = b->sheet.height = 4;
+        b->sheet.width = oblong ? 8 : 4;
+        b->sheet.height = oblong ? 2 : 4;
         for (i = 0; i < 16; i++)
             b->sheet.layers[i].style.stroke = b->sheet.layers[i].style.fill = WUNQABER_ABSENT;
         break;
@@ -373,40 +552,59 @@ static void written(enum call call, buffers *b)
         b->answers[2] = WUNQABER_NO_LAYER;
         break;
     case WRITE_P5:
-        memcpy(b->file, header, sizeof header - 1);
+        memcpy(b->file, oblong ? header_oblong : header, sizeof header - 1);
         memcpy(b->file + sizeof header - 1, b->canvas, 16);
         b->out[0] = 27;
         break;
     }
 }
 
+/* Whether a call has answered as the table says and left the buffers as expected; says what has not. */
+static int is_right(const check *c, const char *form, uint32_t answer, const buffers *expected, const buffers *found)
+{
+    unsigned long line = (unsigned long)(c - checks) + 1;
+
+    if (answer != c->answer) {
+        fprintf(stderr, "refusals: line %lu, %s%s: expected %lu, found %lu\n", line, names[c->call], form,
+                (unsigned long)c->answer, (unsigned long)answer);
+        return 0;
+    }
+    if (memcmp(expected, found, sizeof *found) != 0) {
+        fprintf(stderr, "refusals: line %lu, %s%s, answered %lu: a buffer is not as expected\n", line, names[c->call],
+                form, (unsigned long)answer);
+        return 0;
+    }
+    return 1;
+}
+
 int main(void)
 {
-    size_t i, count = sizeof checks / sizeof checks[0];
+    size_t i, count = sizeof checks / sizeof checks[0], typed_count = 0;
 
     for (i = 0; i < count; i++) {
         const check *c = &checks[i];
         arguments given = accepted(c);
-        buffers before = lent(c), expected, found;
+        buffers before = lent(c), expected, found, typed;
         uint32_t answer;
 
         change(c, &given, &before);
         memcpy(&expected, &before, sizeof expected);
         memcpy(&found, &before, sizeof found);
+        memcpy(&typed, &before, sizeof typed);
         if (c->answer == WUNQABER_DONE)
-            written(c->call, &expected);
+            written(c, &expected);
         answer = make(c->call, &given, &found);
-        if (answer != c->answer) {
-            fprintf(stderr, "refusals: line %lu, %s: expected %lu, found %lu\n", (unsigned long)i + 1, names[c->call],
-                    (unsigned long)c->answer, (unsigned long)answer);
+        if (!is_right(c, "", answer, &expected, &found))
             return 1;
-        }
-        if (memcmp(&expected, &found, sizeof found) != 0) {
-            fprintf(stderr, "refusals: line %lu, %s, answered %lu: a buffer is not as expected\n", (unsigned long)i + 1,
-                    names[c->call], (unsigned long)answer);
+        if (!has_typed_form(c))
+            continue;
+        if (answer == WUNQABER_DONE)
+            written_typed(c, &found);
+        if (!is_right(c, " by its typed form", make_typed(c->call, &given, &typed), &found, &typed))
             return 1;
-        }
+        typed_count++;
     }
-    printf("refusals: %lu calls answered as the header says\n", (unsigned long)count);
+    printf("refusals: %lu calls answered as the header says, and %lu of them alike by the typed form\n",
+           (unsigned long)count, (unsigned long)typed_count);
     return 0;
 }

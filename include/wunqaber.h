@@ -1,12 +1,14 @@
 /* Wunqaber for C: rounded boxes and ovals on a canvas of bytes.
  *
- * Link target/staticlib/libexports.a, which `rt staticlib exports` proves and builds. What each call
- * promises stands in crates/exports: for every list of numbers and every length, an equation for the
- * answer and for each buffer lent.
+ * Link target/staticlib/libwunqaber.a, which `rt staticlib wunqaber` proves and builds. What each call
+ * promises stands in crates/wunqaber: for every list of numbers and every length, an equation for the
+ * answer and for each buffer lent (for wunqaber_run_calls, that answers and canvas are those of a plain book).
  *
- * Numbers go in and out as int32_t, records as runs of them in the order of the structs below; every
- * buffer is a pointer and its length in elements. Pointers are not NULL, except where the length is 0,
- * and a buffer that is written overlaps no other. That is all that a caller has to see to.
+ * Each call stands here twice. The library's own take numbers: int32_t in and out, records as runs of them in
+ * the order of the structs below. The typed forms at the end take the structs themselves, and are what a host
+ * writes; docs/C.md has a table of both. Every buffer is a pointer and its length in elements. Pointers are
+ * not NULL, except where the length is 0, and a buffer that is written overlaps no other. That is all that a
+ * caller has to see to.
  *
  * Every call answers
  *     0           done
@@ -58,7 +60,7 @@ typedef struct {
     int32_t stroke, fill, stroke_width, alignment;
 } wunqaber_style;
 
-/* 291 numbers, made by wunqaber_sheet_open. Places from `count` on are not looked at. */
+/* 291 numbers, made by wunqaber_sheet_open or wunqaber_open. Places from `count` on are not looked at. */
 typedef struct {
     int32_t width, height, count;
     struct {
@@ -68,12 +70,67 @@ typedef struct {
     } layers[16];
 } wunqaber_sheet;
 
-/* The two arguments for a record: where its numbers are and how many. */
+/* 20 numbers: a call in a list of them (crates/call_numbers/specs/CallNumbers.antt). To add it has a figure and
+ * a style; to paint it has a layer, counted from 0, and the numbers behind that are not looked at. Nor are the
+ * last two of any call. wunqaber_make_add and wunqaber_make_paint fill it. */
+enum { WUNQABER_CALL_ADD = 0, WUNQABER_CALL_PAINT = 1 };
+typedef struct {
+    int32_t kind;
+    union {
+        wunqaber_figure figure;
+        int32_t layer;
+    } subject;
+    wunqaber_style style;
+    int32_t unused[2];
+} wunqaber_call;
+
+/* What calls give: a point; a row, whose run has the columns from start up to but not end; a styled row with
+ * three such runs; a rectangle; the radii of a box, corner by corner. */
+typedef struct {
+    int32_t x, y;
+} wunqaber_point;
+
+typedef struct {
+    int32_t y, start, end;
+} wunqaber_scanline;
+
+typedef struct {
+    int32_t y, left_start, left_end, fill_start, fill_end, right_start, right_end;
+} wunqaber_styled_scanline;
+
+typedef struct {
+    int32_t x, y, width, height;
+} wunqaber_rectangle;
+
+typedef struct {
+    int32_t top_left_width, top_left_height, top_right_width, top_right_height;
+    int32_t bottom_right_width, bottom_right_height, bottom_left_width, bottom_left_height;
+} wunqaber_radii;
+
+/* A record is its numbers and nothing between or behind them, else an array of size -1 ends the compilation:
+ * so a record may be handed on as a run of numbers. */
+#define WUNQABER_HAS(record, count) \
+    typedef char record##_has_##count##_numbers[sizeof(record) == (count) * sizeof(int32_t) ? 1 : -1]
+WUNQABER_HAS(wunqaber_figure, 13);
+WUNQABER_HAS(wunqaber_style, 4);
+WUNQABER_HAS(wunqaber_sheet, 291);
+WUNQABER_HAS(wunqaber_call, 20);
+WUNQABER_HAS(wunqaber_point, 2);
+WUNQABER_HAS(wunqaber_scanline, 3);
+WUNQABER_HAS(wunqaber_styled_scanline, 7);
+WUNQABER_HAS(wunqaber_rectangle, 4);
+WUNQABER_HAS(wunqaber_radii, 8);
+#undef WUNQABER_HAS
+
+/* The two arguments for a record: where its numbers are and how many. The second is for a record that is const. */
 #define WUNQABER_NUMBERS(record) ((int32_t *)&(record)), (sizeof(record) / sizeof(int32_t))
+#define WUNQABER_CONST_NUMBERS(record) ((const int32_t *)&(record)), (sizeof(record) / sizeof(int32_t))
 
 #ifdef __cplusplus
 extern "C" {
 #endif
+
+/* The library's calls, on numbers. */
 
 /* 1 or 0: whether the point is inside. Refused by 1, 2, 3, 4, 13. */
 uint32_t wunqaber_contains(const int32_t *figure, size_t figure_length, int32_t x, int32_t y,
@@ -136,6 +193,142 @@ uint32_t wunqaber_run_calls(uint32_t width, uint32_t height, const int32_t *call
 /* The canvas as a Netpbm P5 file, and the file's length. Refused by 6, 8, 13. */
 uint32_t wunqaber_write_p5(uint32_t width, uint32_t height, const uint8_t *canvas, size_t canvas_length,
                            uint8_t *file, size_t file_length, int32_t *out, size_t out_length);
+
+/* The typed forms. Each is one call of the library on the numbers of its structs and answers what that answers;
+ * where it is not 0, nothing that a pointer names differs. 100 then says that a number in a struct is wrong, since
+ * lengths cannot be, and 13 that a list, a file buffer or the room for answers is too short.
+ *
+ * Their names begin with a verb, and go on with what it is about where the verb leaves that open:
+ * wunqaber_paint, wunqaber_find_row. None is a name that the library exports; those are the proved boundary and
+ * stay as they are. Values are given through the last pointers. */
+
+/* `inside`: 1 or 0. */
+static inline uint32_t wunqaber_test_point(const wunqaber_figure *figure, int32_t x, int32_t y, int32_t *inside)
+{
+    return wunqaber_contains(WUNQABER_CONST_NUMBERS(*figure), x, y, inside, 1);
+}
+
+/* Row y and its run; or 101. */
+static inline uint32_t wunqaber_find_row(const wunqaber_figure *figure, int32_t y, wunqaber_scanline *row)
+{
+    return wunqaber_row(WUNQABER_CONST_NUMBERS(*figure), y, WUNQABER_NUMBERS(*row));
+}
+
+/* The points, and how many they are. `points_length` is in points. */
+static inline uint32_t wunqaber_list_points(const wunqaber_figure *figure,
+                                            wunqaber_point *points, size_t points_length, int32_t *count)
+{
+    return wunqaber_points(WUNQABER_CONST_NUMBERS(*figure), (int32_t *)points, 2 * points_length, count, 1);
+}
+
+/* The figure offset by k: larger by k on each side, or smaller where k is negative. An ellipse's radii are 0, so
+ * that it can be handed on. */
+static inline uint32_t wunqaber_grow(const wunqaber_figure *figure, int32_t k, wunqaber_figure *grown)
+{
+    wunqaber_figure made = {0, 0, 0, 0, 0, {0, 0, 0, 0, 0, 0, 0, 0}};
+    uint32_t answer = wunqaber_offset(WUNQABER_CONST_NUMBERS(*figure), k, WUNQABER_NUMBERS(made));
+
+    if (answer == WUNQABER_DONE)
+        *grown = made;
+    return answer;
+}
+
+/* The radii as confined to the box; or 101. */
+static inline uint32_t wunqaber_confine_radii(const wunqaber_figure *figure, wunqaber_radii *radii)
+{
+    return wunqaber_confined_radii(WUNQABER_CONST_NUMBERS(*figure), WUNQABER_NUMBERS(*radii));
+}
+
+/* The ellipse of a size about the centre (x, y). Its radii are 0, so that it can be handed on. */
+static inline uint32_t wunqaber_center_ellipse(int32_t x, int32_t y, uint32_t width, uint32_t height,
+                                               wunqaber_figure *ellipse)
+{
+    wunqaber_figure made = {0, 0, 0, 0, 0, {0, 0, 0, 0, 0, 0, 0, 0}};
+    uint32_t answer = wunqaber_ellipse_with_center(x, y, width, height, WUNQABER_NUMBERS(made));
+
+    if (answer == WUNQABER_DONE)
+        *ellipse = made;
+    return answer;
+}
+
+/* Row y with its left stroke, its fill and its right stroke; or 101. */
+static inline uint32_t wunqaber_find_styled_row(const wunqaber_figure *figure, const wunqaber_style *style, int32_t y,
+                                                wunqaber_styled_scanline *row)
+{
+    return wunqaber_styled_row(WUNQABER_CONST_NUMBERS(*figure), WUNQABER_CONST_NUMBERS(*style), y,
+                               WUNQABER_NUMBERS(*row));
+}
+
+/* The rectangle that the styled figure keeps to. */
+static inline uint32_t wunqaber_find_bounds(const wunqaber_figure *figure, const wunqaber_style *style,
+                                            wunqaber_rectangle *bounds)
+{
+    return wunqaber_styled_bounding_box(WUNQABER_CONST_NUMBERS(*figure), WUNQABER_CONST_NUMBERS(*style),
+                                        WUNQABER_NUMBERS(*bounds));
+}
+
+/* The figure painted on the canvas. */
+static inline uint32_t wunqaber_paint(const wunqaber_figure *figure, const wunqaber_style *style,
+                                      uint32_t width, uint32_t height, uint8_t *canvas, size_t canvas_length)
+{
+    return wunqaber_paint_figure(WUNQABER_CONST_NUMBERS(*figure), WUNQABER_CONST_NUMBERS(*style), width, height,
+                                 canvas, canvas_length);
+}
+
+/* A sheet without layers. */
+static inline uint32_t wunqaber_open(uint32_t width, uint32_t height, wunqaber_sheet *sheet)
+{
+    return wunqaber_sheet_open(width, height, WUNQABER_NUMBERS(*sheet));
+}
+
+/* A figure more on top. Figure and style must not lie in the sheet itself: copy them out first. */
+static inline uint32_t wunqaber_add(wunqaber_sheet *sheet, const wunqaber_figure *figure, const wunqaber_style *style)
+{
+    return wunqaber_sheet_add(WUNQABER_NUMBERS(*sheet), WUNQABER_CONST_NUMBERS(*figure),
+                              WUNQABER_CONST_NUMBERS(*style));
+}
+
+/* The next row of a layer, counted from 0, painted. */
+static inline uint32_t wunqaber_paint_next_row(wunqaber_sheet *sheet, uint32_t layer,
+                                               uint8_t *canvas, size_t canvas_length)
+{
+    return wunqaber_sheet_paint(WUNQABER_NUMBERS(*sheet), layer, canvas, canvas_length);
+}
+
+/* A call for a list: to add a figure. */
+static inline wunqaber_call wunqaber_make_add(const wunqaber_figure *figure, const wunqaber_style *style)
+{
+    wunqaber_call call = {WUNQABER_CALL_ADD, {{0, 0, 0, 0, 0, {0, 0, 0, 0, 0, 0, 0, 0}}}, {0, 0, 0, 0}, {0, 0}};
+
+    call.subject.figure = *figure;
+    call.style = *style;
+    return call;
+}
+
+/* A call for a list: to paint the next row of a layer. A negative layer is no call: 100. */
+static inline wunqaber_call wunqaber_make_paint(int32_t layer)
+{
+    wunqaber_call call = {WUNQABER_CALL_PAINT, {{0, 0, 0, 0, 0, {0, 0, 0, 0, 0, 0, 0, 0}}}, {0, 0, 0, 0}, {0, 0}};
+
+    call.subject.layer = layer;
+    return call;
+}
+
+/* A list of calls run from a sheet just opened; the answer of each, 0 for accepted. `calls_length` is in calls. */
+static inline uint32_t wunqaber_run(uint32_t width, uint32_t height, const wunqaber_call *calls, size_t calls_length,
+                                    uint8_t *canvas, size_t canvas_length, uint32_t *answers, size_t answers_length)
+{
+    return wunqaber_run_calls(width, height, (const int32_t *)calls, calls_length * (sizeof *calls / sizeof(int32_t)),
+                              canvas, canvas_length, answers, answers_length);
+}
+
+/* The canvas as a Netpbm P5 file, and the file's length in bytes. */
+static inline uint32_t wunqaber_encode_p5(uint32_t width, uint32_t height,
+                                          const uint8_t *canvas, size_t canvas_length,
+                                          uint8_t *file, size_t file_length, int32_t *length)
+{
+    return wunqaber_write_p5(width, height, canvas, canvas_length, file, file_length, length, 1);
+}
 
 #ifdef __cplusplus
 }

@@ -7,7 +7,7 @@
 #   SOURCE  the folder that holds src/primitives; else $EG_SOURCE; else ../shared/docs/src, taken
 #           from the root of the repository (the folder above this one)
 #   BUILD   where to build; else $ORACLE_BUILD; else the folder `build` beside this file
-#   LIBRARY=FILE         the library that hosts link (libexports.a), for `oracle scale` and `oracle stored`
+#   LIBRARY=FILE         the library that hosts link (libwunqaber.a), for `oracle scale` and `oracle stored`
 #   OVERFLOW_CHECKS=off  for a wrapping build, for speed measurements only: it is NO oracle
 set -eu
 here=$(cd "$(dirname "$0")" && pwd)

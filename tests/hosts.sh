@@ -1,7 +1,7 @@
 #!/bin/sh
-# The library that hosts link: the page of `cafe` drawn from C and from Rust, every call of the header once accepted and once for
-# each refusal, the comparison at scale with the original Rust and the reference, and whether the stored calls of `replay` are the
-# ones that the comparison makes.
+# The library that hosts link: the page of `cafe` drawn from C, from the same file as C++ and from Rust, every call of the header
+# once accepted and once for each refusal, on numbers and by its typed form, the comparison at scale with the original Rust and the
+# reference, and whether the stored calls of `replay` are the ones that the comparison makes.
 #
 #   sh tests/hosts.sh [LIBRARY]      LIBRARY, or $WUNQABER_LIBRARY: a library built before; else tests/library.sh builds it
 #
@@ -38,8 +38,8 @@ if [ "$(uname -m)" != x86_64 ]; then
     exit 0
 fi
 if [ -z "$library" ]; then
-    quietly 'exports is not proved, or its library is not built' sh "$root/tests/library.sh"
-    library=$root/target/staticlib/libexports.a
+    quietly 'wunqaber is not proved, or its library is not built' sh "$root/tests/library.sh"
+    library=$root/target/staticlib/libwunqaber.a
 fi
 [ -f "$library" ] || fail "there is no library '$library'"
 
@@ -60,8 +60,11 @@ echo "hosts.sh: $(cat "$work/log")"
 if command -v "$cxx" > /dev/null; then
     echo '#include "wunqaber.h"' > "$work/header.cc"
     quietly 'include/wunqaber.h is not compiled as C++' "$cxx" -Wall -Wextra -Werror -pedantic -fsyntax-only -I"$root/include" "$work/header.cc"
+    quietly 'hosts/page.c is not compiled as C++98' "$cxx" -std=c++98 -Wall -Wextra -Werror -pedantic -O1 -I"$root/include" \
+        -o "$work/page_cxx" -x c++ "$root/hosts/page.c" -x none "$library"
+    page_is_right page_cxx
 else
-    echo "hosts.sh: skipped, there is no C++ compiler '$cxx': the header read as C++"
+    echo "hosts.sh: skipped, there is no C++ compiler '$cxx': the header and page.c read as C++"
 fi
 
 if ! command -v rustc > /dev/null; then

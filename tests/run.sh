@@ -1,6 +1,7 @@
 #!/bin/sh
 # All tests. The gate, `rt ci`, comes first: it proves every crate, tries every must-fail edit and runs every program. Over what it
-# proved the static library is built; hosts in C and Rust, the comparison at scale and the speed table's self-check go by that.
+# proved the static library is built; hosts in C and Rust, the comparison at scale, the speed table's self-check and the installed
+# library go by that.
 # Each part ends the script where it fails. The last line is that of `rt ci`, and is there only if all parts passed.
 set -eu
 cd "$(dirname "$0")/.."
@@ -84,22 +85,24 @@ said netpbm.sh
 # The library is compiled for x86-64 alone.
 if [ "$(uname -m)" = x86_64 ]; then
     built=$(date +%s)
-    rt staticlib exports > "$work/library" 2>&1 || {
+    rt staticlib wunqaber > "$work/library" 2>&1 || {
         tail -n 20 "$work/library" >&2
         fail 'the static library is not built'
     }
-    WUNQABER_LIBRARY=$PWD/target/staticlib/libexports.a
+    WUNQABER_LIBRARY=$PWD/target/staticlib/libwunqaber.a
     export WUNQABER_LIBRARY
     took 'static library' "$built"
 
     compared=$(date +%s)
     beside speed.sh --check
+    beside install.sh
     sh tests/hosts.sh
     wait
     said speed.sh
-    took 'hosts, comparison and self-check' "$compared"
+    said install.sh
+    took 'hosts, comparison, self-check and install' "$compared"
 else
-    echo 'run.sh: skipped, the library is compiled for x86-64 alone: hosts, comparison and self-check'
+    echo 'run.sh: skipped, the library is compiled for x86-64 alone: hosts, comparison, self-check and install'
 fi
 took 'all tests' "$began"
 echo "$last"

@@ -4,7 +4,7 @@
 #   sh tests/speed.sh [SOURCE]            the table: microseconds a call, and the ratios
 #   sh tests/speed.sh --check [SOURCE]    only that all ways of painting leave the same bytes; no times
 #
-# It proves and builds `exports` (or takes $WUNQABER_LIBRARY, a library built before), builds the original without
+# It proves and builds `wunqaber` (or takes $WUNQABER_LIBRARY, a library built before), builds the original without
 # overflow checks into a folder of its own, and links both into one program. Times are printed and not judged; it fails
 # where bytes differ. Without rustc or the source folder (oracle/build.sh says where it is looked for) it says so and
 # ends with 0.
@@ -26,7 +26,7 @@ trap 'rm -rf "$work"' EXIT
 library=${WUNQABER_LIBRARY:-}
 if [ -z "$library" ]; then
     sh "$root/tests/library.sh" > "$work/log" 2>&1 || { tail -5 "$work/log" >&2; exit 1; }
-    library=$root/target/staticlib/libexports.a
+    library=$root/target/staticlib/libwunqaber.a
 fi
 LIBRARY=$library OVERFLOW_CHECKS=off sh "$root/oracle/build.sh" "$source" "$work/build" > "$work/log"
 

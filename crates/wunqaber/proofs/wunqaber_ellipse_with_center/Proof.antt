@@ -1,4 +1,4 @@
--- `exports::wunqaber_ellipse_with_center` meets its contract: the call keeps the same promise.
+-- `wunqaber::wunqaber_ellipse_with_center` meets its contract: the call keeps the same promise.
 -- Assumes nothing.
 use mir.Syntax.{w32}
 use mir.Val.{SFits}
@@ -6,8 +6,8 @@ use mir.Facts.{toZ-ofZ}
 use Rattle.host_answers.proofs.Telling.{tells-as}
 use Rattle.host_figures.specs.Figures.{ellipseWithCenterSaid}
 use borrow.Author.Needs.{needs}
-use Rattle.exports.proofs.wunqaber_ellipse_with_center.Statement.{statement}
-use Rattle.exports.proofs.wunqaber_ellipse_with_center.Tie as tie
+use Rattle.wunqaber.proofs.wunqaber_ellipse_with_center.Statement.{statement}
+use Rattle.wunqaber.proofs.wunqaber_ellipse_with_center.Tie as tie
 
 ellipse-with-center-requires : tie.Need-ellipse-with-center-requires
 ellipse-with-center-requires c κs = search needs

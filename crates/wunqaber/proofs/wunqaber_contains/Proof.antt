@@ -1,4 +1,4 @@
--- `exports::wunqaber_contains` meets its contract: the call keeps the same promise.
+-- `wunqaber::wunqaber_contains` meets its contract: the call keeps the same promise.
 -- Assumes nothing.
 use mir.Syntax.{w32}
 use mir.Val.{SFits}
@@ -6,8 +6,8 @@ use mir.Facts.{toZ-ofZ}
 use Rattle.host_answers.proofs.Telling.{tells-as}
 use Rattle.host_figures.specs.Figures.{containsSaid}
 use borrow.Author.Needs.{needs}
-use Rattle.exports.proofs.wunqaber_contains.Statement.{statement}
-use Rattle.exports.proofs.wunqaber_contains.Tie as tie
+use Rattle.wunqaber.proofs.wunqaber_contains.Statement.{statement}
+use Rattle.wunqaber.proofs.wunqaber_contains.Tie as tie
 
 contains-requires : tie.Need-contains-requires
 contains-requires c κs = search needs

@@ -1,4 +1,4 @@
--- `exports::wunqaber_offset` meets its contract: the call keeps the same promise.
+-- `wunqaber::wunqaber_offset` meets its contract: the call keeps the same promise.
 -- Assumes nothing.
 use mir.Syntax.{w32}
 use mir.Val.{SFits}
@@ -6,8 +6,8 @@ use mir.Facts.{toZ-ofZ}
 use Rattle.host_answers.proofs.Telling.{tells-as}
 use Rattle.host_figures.specs.Figures.{offsetSaid}
 use borrow.Author.Needs.{needs}
-use Rattle.exports.proofs.wunqaber_offset.Statement.{statement}
-use Rattle.exports.proofs.wunqaber_offset.Tie as tie
+use Rattle.wunqaber.proofs.wunqaber_offset.Statement.{statement}
+use Rattle.wunqaber.proofs.wunqaber_offset.Tie as tie
 
 offset-requires : tie.Need-offset-requires
 offset-requires c κs = search needs

@@ -1,4 +1,4 @@
--- `exports::wunqaber_styled_row` meets its contract: the call keeps the same promise.
+-- `wunqaber::wunqaber_styled_row` meets its contract: the call keeps the same promise.
 -- Assumes nothing.
 use mir.Syntax.{w32}
 use mir.Val.{SFits}
@@ -6,8 +6,8 @@ use mir.Facts.{toZ-ofZ}
 use Rattle.host_answers.proofs.Telling.{tells-as}
 use Rattle.host_styled.specs.Styled.{styledRowSaid}
 use borrow.Author.Needs.{needs}
-use Rattle.exports.proofs.wunqaber_styled_row.Statement.{statement}
-use Rattle.exports.proofs.wunqaber_styled_row.Tie as tie
+use Rattle.wunqaber.proofs.wunqaber_styled_row.Statement.{statement}
+use Rattle.wunqaber.proofs.wunqaber_styled_row.Tie as tie
 
 styled-row-requires : tie.Need-styled-row-requires
 styled-row-requires c κs = search needs
