@@ -17,7 +17,7 @@ import sys
 EQUATIONS = ('Is', 'Tells', 'Wrote')
 
 # Definitions that lose nothing of an answer but which refusal has a number: what it says (and every `..Outcome`), a constructor.
-KEEP_ALL = ('answerOf', 'said', 'runSaid', 'At')
+KEEP_ALL = ('said', 'runSaid', 'At')
 
 ROOT = os.path.join(os.path.dirname(os.path.abspath(__file__)), '..')
 OPEN, CLOSE = '([{⌜', ')]}⌝'

@@ -12,11 +12,15 @@ use lib.Dec.{leb}
 use lib.IntN.{ℤ, ℤ-discrete}
 use lib.ListN.{length, take, drop, set, getElem?, length-append}
 use borrow.Author.Tests.{leb-false}
+use Rattle.refusal.specs.declared.Refusal.the-variants.{SheetFull, NoRowLeft, RowOwed}
+use Rattle.refusal.specs.declared.Checked.{Checked}
+use Rattle.refusal.specs.declared.Checked.the-variants.{Passed, Refused}
+use Rattle.refusal.specs.Refusal.{refuseIf, keeping}
+use Rattle.refusal.proofs.Checks.{refused-apart, passed-first, passed-next, passed-condition}
 use Rattle.book.specs.Each.{Each, EachTwo}
-use Rattle.book.specs.Book.{Answer, accepted, refused, layersFull, allRowsPainted, rowOwed, refuseIf, ifAccepted}
 use Rattle.book.specs.Book.{Drawing, Call, add, paint, Entry, Book, firstLeft, hasPainted, owes, someOwes, noneLeft}
 use Rattle.book.specs.Book.{entryAnswer, bookAnswer, noted, bookAfter}
-use Rattle.book.proofs.Tests.{true-false-apart, refused-apart, or-else-accepted-parts, refuse-if-accepted}
+use Rattle.book.proofs.Tests.{true-false-apart}
 use Rattle.book.proofs.EachLaws.{each-append, each-left, each-right, each-of-every, each-implies, each-two-replace}
 use Rattle.book.proofs.EachLaws.{each-two-last}
 use Rattle.book.proofs.Lists.{split-at-element, set-at-element}
@@ -26,7 +30,7 @@ use Rattle.book.proofs.EntryRows.{none-owes-each}
 module _ (d : Drawing) where
   -- a figure within limits, with a count within its rows
   pub record Within (e : Entry (d .Item)) : Type 0 where
-    pub allowed : d .refuse (e .item) ≡ accepted
+    pub allowed : d .refuse (e .item) ≡ Passed
     pub counted-rows : e .count ≤ d .rows (e .item)
 
   -- the later figure has painted no row that e owes
@@ -45,17 +49,17 @@ module _ (d : Drawing) where
   -- ---- what an accepted call says of the book
   -- an add call is accepted: the item is within limits, and there is a place left
   pub record Adding (book : Book d) (item : d .Item) : Type 0 where
-    pub allowed : d .refuse item ≡ accepted
+    pub allowed : d .refuse item ≡ Passed
     pub room : length book < d .maxLayers
 
-  pub add-accepted : (book : Book d) (item : d .Item) → bookAnswer d book (add item) ≡ accepted → Adding book item
+  pub add-accepted : (book : Book d) (item : d .Item) → bookAnswer d book (add item) ≡ Passed → Adding book item
   unfolding bookAnswer
   add-accepted book item h =
-      let p = or-else-accepted-parts (d .refuse item) (refuseIf (leb (d .maxLayers) (length book)) layersFull) h in
+      let full : Bool = leb (d .maxLayers) (length book) in
       record {
-        allowed = p .0;
+        allowed = passed-first (d .refuse item) (refuseIf full SheetFull) h;
         room = leb-false (d .maxLayers) (length book)
-            (refuse-if-accepted (leb (d .maxLayers) (length book)) layersFull refused-apart (p .1));
+            (passed-condition full SheetFull (passed-next (d .refuse item) (refuseIf full SheetFull) h));
       }
 
   -- a paint call is accepted: the entry is there, it has a row left, and no earlier one owes that row
@@ -65,21 +69,22 @@ module _ (d : Drawing) where
     pub left : entry .count < d .rows (entry .item)
     pub free : someOwes d (take i book) (firstLeft d entry) ≡ false
 
-  pub paint-accepted : (book : Book d) (i : ℕ) → bookAnswer d book (paint i) ≡ accepted → Painting book i
+  pub paint-accepted : (book : Book d) (i : ℕ) → bookAnswer d book (paint i) ≡ Passed → Painting book i
   unfolding bookAnswer noneLeft
   paint-accepted book i h = by-entry (getElem? book i) refl h
     where
-      by-entry : (o : Option (Entry (d .Item))) → getElem? book i ≡ o → entryAnswer d book i o ≡ accepted → Painting book i
+      by-entry : (o : Option (Entry (d .Item))) → getElem? book i ≡ o → entryAnswer d book i o ≡ Passed → Painting book i
       by-entry none p q = absurd (refused-apart q)
       by-entry (some e) p q =
           let owed : Bool = someOwes d (take i book) (firstLeft d e) in
-          let r = or-else-accepted-parts (refuseIf (noneLeft d e) allRowsPainted) (refuseIf owed rowOwed) q in
+          let eleven = refuseIf (noneLeft d e) NoRowLeft in
+          let twelve = refuseIf owed RowOwed in
           record {
             entry = e;
             there = p;
             left = leb-false (d .rows (e .item)) (e .count)
-                (refuse-if-accepted (noneLeft d e) allRowsPainted refused-apart (r .0));
-            free = refuse-if-accepted owed rowOwed refused-apart (r .1);
+                (passed-condition (noneLeft d e) NoRowLeft (passed-first eleven twelve q));
+            free = passed-condition owed RowOwed (passed-next eleven twelve q);
           }
 
   -- ---- the order is kept
@@ -134,10 +139,10 @@ module _ (d : Drawing) where
   unfolding bookAfter noted
   in-order-after book call ordered = by-answer (bookAnswer d book call) refl
     where
-      when-noted : (c : Call (d .Item)) → bookAnswer d book c ≡ accepted → InOrder (noted d book c)
+      when-noted : (c : Call (d .Item)) → bookAnswer d book c ≡ Passed → InOrder (noted d book c)
       when-noted (add item) h = in-order-add book item ordered (add-accepted book item h)
       when-noted (paint i) h = let p = paint-accepted book i h in rw (p .there) (in-order-paint book i ordered p)
 
-      by-answer : (a : Answer) → bookAnswer d book call ≡ a → InOrder (ifAccepted a (noted d book call) book)
-      by-answer accepted h = when-noted call h
-      by-answer (refused n) h = ordered
+      by-answer : (a : Checked) → bookAnswer d book call ≡ a → InOrder (keeping a book (noted d book call))
+      by-answer Passed h = when-noted call h
+      by-answer (Refused refusal) h = ordered

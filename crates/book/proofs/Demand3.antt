@@ -8,13 +8,17 @@ use mathlib.Core.Bool.{Bool, true, false}
 use Prim.Native.Nat.{ℕ, _*_}
 use lib.ListN.{length}
 use lib.Seq.{take-append-seam}
+use Rattle.refusal.specs.declared.Refusal.the-variants.{NoRowLeft as Refusal·NoRowLeft, RowOwed}
+use Rattle.refusal.specs.declared.Checked.{Checked}
+use Rattle.refusal.specs.declared.Checked.the-variants.{Passed, Refused}
+use Rattle.refusal.specs.Refusal.{refuseIf, orElse}
+use Rattle.refusal.proofs.Checks.{refused-apart}
 use Rattle.book.specs.Each.{Each}
-use Rattle.book.specs.Book.{Answer, accepted, allRowsPainted, rowOwed, refuseIf, _orElse_, Drawing, Call, paint}
+use Rattle.book.specs.Book.{Drawing, Call, paint}
 use Rattle.book.specs.Book.{Entry, Book, firstLeft, owes, someOwes, noneLeft, bookAnswer, bookAfter, bookAnswers}
 use Rattle.book.specs.Book.{bookAfterAll}
 use Rattle.book.specs.Sheet.{State, WithinSide, answer, answers, afterAll, opened}
 use Rattle.book.specs.Demand3.{NoRowLeft, SomeRowLeft, OwedBy, AfterCalls, Demand3}
-use Rattle.book.proofs.Tests.{refused-apart}
 use Rattle.book.proofs.EachLaws.{each-implies}
 use Rattle.book.proofs.Lists.{element-at-seam}
 use Rattle.book.proofs.EntryRows.{none-left-iff, some-left-not-none, some-owes-owed, owed-some-owes}
@@ -26,15 +30,15 @@ use Rattle.book.proofs.Picture.{Shows, lent-shows-empty, shows-after, c
 module _ (d : Drawing) where
   -- ---- when the book refuses a paint call for a figure noted
   module _ (before : Book d) (e : Entry (d .Item)) (later : Book d) where
-    abbrev paintAnswer : Answer
+    abbrev paintAnswer : Checked
     paintAnswer = bookAnswer d (before ++ e ∷ later) (paint (length before))
 
     paint-answer-is : paintAnswer
-        ≡ (refuseIf (noneLeft d e) allRowsPainted orElse refuseIf (someOwes d before (firstLeft d e)) rowOwed)
+        ≡ orElse (refuseIf (noneLeft d e) Refusal·NoRowLeft) (refuseIf (someOwes d before (firstLeft d e)) RowOwed)
     unfolding bookAnswer
     paint-answer-is = rw (element-at-seam before e later, take-append-seam before (e ∷ later))
 
-    book-refused-only : paintAnswer ≢ accepted → NoRowLeft d e ⊎ OwedBy d before (firstLeft d e)
+    book-refused-only : paintAnswer ≢ Passed → NoRowLeft d e ⊎ OwedBy d before (firstLeft d e)
     book-refused-only not-accepted = by-left (noneLeft d e) refl
       where
         by-owed : noneLeft d e ≡ false → (t : Bool) → someOwes d before (firstLeft d e) ≡ t
@@ -46,19 +50,19 @@ module _ (d : Drawing) where
         by-left true l = inl (none-left-iff d e .0 l)
         by-left false l = by-owed l (someOwes d before (firstLeft d e)) refl
 
-    owed-refused : (t : Bool) → (refuseIf t allRowsPainted orElse rowOwed) ≢ accepted
+    owed-refused : (t : Bool) → orElse (refuseIf t Refusal·NoRowLeft) (Refused RowOwed) ≢ Passed
     owed-refused true q = refused-apart q
     owed-refused false q = refused-apart q
 
-    book-refused-if : NoRowLeft d e ⊎ OwedBy d before (firstLeft d e) → paintAnswer ≢ accepted
+    book-refused-if : NoRowLeft d e ⊎ OwedBy d before (firstLeft d e) → paintAnswer ≢ Passed
     book-refused-if (inl none) q =
-        let said : paintAnswer ≡ allRowsPainted = paint-answer-is ∙ rw (none-left-iff d e .1 none) in
+        let said : paintAnswer ≡ Refused Refusal·NoRowLeft = paint-answer-is ∙ rw (none-left-iff d e .1 none) in
         refused-apart (sym said ∙ q)
     book-refused-if (inr o) q =
         owed-refused (noneLeft d e)
         (sym (paint-answer-is ∙ rw (owed-some-owes d (o .0) before (firstLeft d e) (o .1) (o .2))) ∙ q)
 
-    book-earliest-accepted : Each (NoRowLeft d) before → SomeRowLeft d e → paintAnswer ≡ accepted
+    book-earliest-accepted : Each (NoRowLeft d) before → SomeRowLeft d e → paintAnswer ≡ Passed
     book-earliest-accepted none some =
         let free : someOwes d before (firstLeft d e) ≡ false =
         each-owes-none d before (firstLeft d e)
@@ -73,7 +77,7 @@ module _ (d : Drawing) where
     unfolding answers bookAnswers
     answers-are-book [] book canvas ordered size = refl
     answers-are-book (call ∷ calls) book canvas ordered size =
-        ap₂ {C = List Answer} (λ a rest. a ∷ rest) (answer-is-book d W H width height book canvas ordered size call)
+        ap₂ {C = List Checked} (λ a rest. a ∷ rest) (answer-is-book d W H width height book canvas ordered size call)
         (ap (λ (t : State (d .Item)). answers d W H t calls)
         (after-is-book d W H width height book canvas ordered size call)
         ∙ answers-are-book calls (bookAfter d book call) (canvasAfter d W H book canvas call)

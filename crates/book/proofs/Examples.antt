@@ -2,12 +2,15 @@
 -- calls with its picture. The drawing is one of plain bars, which overpaint whole canvas rows in one colour.
 -- Assumes nothing.
 use mathlib.Core.Path.{_≡_, refl}
-use mathlib.Core.List.{List, [], _∷_}
+use mathlib.Core.List.{List, [], _∷_, map}
 use Prim.Native.Nat.{ℕ}
 use lib.Dec.{ltb}
 use lib.IntN.{ℤ, pos, negsuc}
 use lib.ListN.{length, replicate, length-replicate}
-use Rattle.book.specs.Book.{Answer, accepted, refused, refuseIf, Drawing, Call, add, paint, hasRow, hasPainted}
+use Rattle.refusal.specs.declared.Refusal.the-variants.{Side}
+use Rattle.refusal.specs.declared.Checked.{Checked}
+use Rattle.refusal.specs.Refusal.{answerNumber, refuseIf}
+use Rattle.book.specs.Book.{Drawing, Call, add, paint, hasRow, hasPainted}
 use Rattle.book.specs.Book.{isLeft, someOwes, noneLeft, bookAnswer, noted, bookAfter, bookAnswers, bookAfterAll}
 use Rattle.book.specs.Book.{painters, overpainted}
 use Rattle.book.specs.Canvas.{canvasRow, putRow}
@@ -26,7 +29,7 @@ abbrev bars : Drawing
 bars =
     record {
       Item = Bar;
-      refuse = λ bar. refuseIf (ltb 1024 (bar .height)) (refused 1);
+      refuse = λ bar. refuseIf (ltb 1024 (bar .height)) Side;
       first = λ bar. bar .top;
       rows = λ bar. bar .height;
       over = λ bar y row. replicate (length row) (bar .colour);
@@ -60,7 +63,7 @@ pair next next′ =
     }
 
 -- the table's examples of 7 to 12, on a sheet of 4 by 4
-abbrev tableAnswers : List Answer
+abbrev tableAnswers : List Checked
 tableAnswers =
     answer bars 4 4 (sheet 17 (tall 5) 16) (paint 0)
     ∷ answer bars 4 4 (sheet 1 (tall 5) 15) (paint 0)
@@ -70,22 +73,22 @@ tableAnswers =
     ∷ answer bars 4 4 (sheet 2 (tall 5) 16) (paint 1)
     ∷ []
 
-table-examples : tableAnswers ≡ refused 7 ∷ refused 8 ∷ refused 9 ∷ refused 10 ∷ refused 11 ∷ refused 12 ∷ []
+table-examples : map answerNumber tableAnswers ≡ 7 ∷ 8 ∷ 9 ∷ 10 ∷ 11 ∷ 12 ∷ []
 unfolding answer keepsRules layersKeepRules layerKeepsRules noneOvertakes overtakes someLayerOwes layerOwes hasRow
 table-examples = refl
 
 -- 1 before 7, and 8 before 10
-abbrev lowestAnswers : List Answer
+abbrev lowestAnswers : List Checked
 lowestAnswers =
     answer bars 4 4 (sheet 17 (tall 5) 16) (add huge) ∷ answer bars 4 4 (sheet 0 (tall 5) 15) (paint 0) ∷ []
 
-lowest-examples : lowestAnswers ≡ refused 1 ∷ refused 8 ∷ []
+lowest-examples : map answerNumber lowestAnswers ≡ 1 ∷ 8 ∷ []
 unfolding answer keepsRules layersKeepRules layerKeepsRules noneOvertakes overtakes someLayerOwes layerOwes hasRow
 lowest-examples = refl
 
 -- the rules: a side of 0, an item out of limits, a next row above the first and one past the end, a later layer that is
 -- ahead; then an earlier layer that is ahead, and both layers at their end, which are within the rules
-abbrev rulesAnswers : List Answer
+abbrev rulesAnswers : List Checked
 rulesAnswers =
     answer bars 0 4 (sheet 0 (tall 5) 0) (paint 0)
     ∷ answer bars 4 4 (sheet 1 huge 16) (paint 0)
@@ -96,8 +99,7 @@ rulesAnswers =
     ∷ answer bars 4 4 (pair (pos 1) (pos 1)) (paint 1)
     ∷ []
 
-rules-examples : rulesAnswers
-    ≡ refused 7 ∷ refused 7 ∷ refused 7 ∷ refused 7 ∷ refused 7 ∷ accepted ∷ refused 11 ∷ []
+rules-examples : map answerNumber rulesAnswers ≡ 7 ∷ 7 ∷ 7 ∷ 7 ∷ 7 ∷ 0 ∷ 11 ∷ []
 unfolding answer keepsRules layersKeepRules layerKeepsRules noneOvertakes overtakes someLayerOwes layerOwes hasRow
 rules-examples = refl
 
@@ -110,26 +112,15 @@ abbrev listCalls : List (Call Bar)
 listCalls =
     add (tall 5) ∷ add (tall 7) ∷ paint 1 ∷ paint 0 ∷ paint 1 ∷ paint 1 ∷ paint 0 ∷ paint 0 ∷ paint 1 ∷ paint 2 ∷ []
 
-abbrev listAnswers : List Answer
-listAnswers =
-    accepted
-    ∷ accepted
-    ∷ refused 12
-    ∷ accepted
-    ∷ accepted
-    ∷ refused 12
-    ∷ accepted
-    ∷ refused 11
-    ∷ accepted
-    ∷ refused 10
-    ∷ []
+abbrev listNumbers : List ℕ
+listNumbers = 0 ∷ 0 ∷ 12 ∷ 0 ∷ 0 ∷ 12 ∷ 0 ∷ 11 ∷ 0 ∷ 10 ∷ []
 
-list-answers : answers bars 2 2 (opened bars lentCanvas) listCalls ≡ listAnswers
+list-answers : map answerNumber (answers bars 2 2 (opened bars lentCanvas) listCalls) ≡ listNumbers
 unfolding answers answer keepsRules layersKeepRules layerKeepsRules noneOvertakes overtakes someLayerOwes layerOwes hasRow
     after carriedOut withRow putRow canvasRow
 list-answers = refl
 
-list-book-answers : bookAnswers bars [] listCalls ≡ listAnswers
+list-book-answers : map answerNumber (bookAnswers bars [] listCalls) ≡ listNumbers
 unfolding bookAnswers bookAnswer bookAfter noted noneLeft someOwes isLeft hasRow hasPainted
 list-book-answers = refl
 

@@ -12,42 +12,47 @@ use lib.Dec.{leb, eqb}
 use lib.Signed.{leZ}
 use lib.ListN.{length, take, getElem?}
 use borrow.Author.Tests.{eqb-true, eqb-false, eq-eqb, ne-eqb}
-use Rattle.book.specs.Book.{Answer, accepted, refused, brokenSheet, otherCanvasLength, layersFull, allRowsPainted}
-use Rattle.book.specs.Book.{rowOwed, refuseIf, _orElse_, ifAccepted, Drawing, Call, add, paint, endRow}
+use Rattle.refusal.specs.declared.Refusal.{Refusal}
+use Rattle.refusal.specs.declared.Refusal.the-variants.{SheetRule, CanvasLength, SheetFull, NoRowLeft, RowOwed}
+use Rattle.refusal.specs.declared.Checked.{Checked}
+use Rattle.refusal.specs.declared.Checked.the-variants.{Passed, Refused}
+use Rattle.refusal.specs.Refusal.{answerNumber, refuseIf, orElse, keeping}
+use Rattle.refusal.proofs.Checks.{refused-apart}
+use Rattle.book.specs.Book.{Drawing, Call, add, paint, endRow}
 use Rattle.book.specs.Sheet.{Layer, State, someLayerOwes, keepsRules, layerAnswer, answer, carriedOut, after}
-use Rattle.book.proofs.Tests.{false-unless, refused-apart, refused-number}
+use Rattle.book.proofs.Tests.{false-unless}
 
 module _ (d : Drawing) (W H : ℕ) (s : State (d .Item)) where
   -- ---- an add call: 1, 2, 3 or 5, then 7, then 9
   module _ (item : d .Item) where
-    pub add-refused-item : {n : ℕ} → d .refuse item ≡ refused n → answer d W H s (add item) ≡ refused n
+    pub add-refused-item : {refusal : Refusal} → d .refuse item ≡ Refused refusal → answer d W H s (add item) ≡ Refused refusal
     unfolding answer
     add-refused-item own = rw own
 
-    pub add-refused-broken-sheet : d .refuse item ≡ accepted → keepsRules d W H (s .layers) ≡ false
-        → answer d W H s (add item) ≡ brokenSheet
+    pub add-refused-broken-sheet : d .refuse item ≡ Passed → keepsRules d W H (s .layers) ≡ false
+        → answer d W H s (add item) ≡ Refused SheetRule
     unfolding answer
     add-refused-broken-sheet own broken = rw (own, broken)
 
     pub add-answer-on-sheet : keepsRules d W H (s .layers) ≡ true
-        → answer d W H s (add item) ≡ (d .refuse item orElse refuseIf (leb (d .maxLayers) (length (s .layers))) layersFull)
+        → answer d W H s (add item) ≡ orElse (d .refuse item) (refuseIf (leb (d .maxLayers) (length (s .layers))) SheetFull)
     unfolding answer
     add-answer-on-sheet kept = rw kept
 
     -- where the item is within limits, 7 is answered only where the sheet breaks the rules
-    pub add-broken-sheet-only : d .refuse item ≡ accepted → answer d W H s (add item) ≡ brokenSheet
+    pub add-broken-sheet-only : d .refuse item ≡ Passed → answer d W H s (add item) ≡ Refused SheetRule
         → keepsRules d W H (s .layers) ≡ false
     add-broken-sheet-only own told =
         false-unless (keepsRules d W H (s .layers))
         (λ kept.
         full-not-broken full
-        (sym (add-answer-on-sheet kept ∙ ap (λ (a : Answer). a orElse refuseIf full layersFull) own) ∙ told))
+        (sym (add-answer-on-sheet kept ∙ ap (λ (a : Checked). orElse a (refuseIf full SheetFull)) own) ∙ told))
       where
         full : Bool
         full = leb (d .maxLayers) (length (s .layers))
 
-        full-not-broken : (t : Bool) → refuseIf t layersFull ≡ brokenSheet → ⊥
-        full-not-broken true e = omega (arith, refused-number e)
+        full-not-broken : (t : Bool) → refuseIf t SheetFull ≡ Refused SheetRule → ⊥
+        full-not-broken true e = omega (arith, ap answerNumber e)
         full-not-broken false e = refused-apart (sym e)
 
     -- the canvas is not looked at, and stays
@@ -63,23 +68,23 @@ module _ (d : Drawing) (W H : ℕ) (s : State (d .Item)) where
         with-other : State (d .Item)
         with-other = record { layers = s .layers; canvas = other }
 
-        by-answer : (a : Answer)
-            → ifAccepted a (carriedOut d W H s (add item)) s
+        by-answer : (a : Checked)
+            → keeping a s (carriedOut d W H s (add item))
             ≡ record {
-              layers = ifAccepted a (carriedOut d W H with-other (add item)) with-other .layers;
+              layers = keeping a with-other (carriedOut d W H with-other (add item)) .layers;
               canvas = s .canvas;
             }
-        by-answer accepted = refl
-        by-answer (refused n) = refl
+        by-answer Passed = refl
+        by-answer (Refused refusal) = refl
 
   -- ---- a paint call: 7, then 8, then 10, 11 or 12 by the layer
   module _ (i : ℕ) where
-    pub paint-refused-broken-sheet : keepsRules d W H (s .layers) ≡ false → answer d W H s (paint i) ≡ brokenSheet
+    pub paint-refused-broken-sheet : keepsRules d W H (s .layers) ≡ false → answer d W H s (paint i) ≡ Refused SheetRule
     unfolding answer
     paint-refused-broken-sheet broken = rw broken
 
     pub paint-refused-canvas : keepsRules d W H (s .layers) ≡ true → (length (s .canvas) ≡ W * H → ⊥)
-        → answer d W H s (paint i) ≡ otherCanvasLength
+        → answer d W H s (paint i) ≡ Refused CanvasLength
     unfolding answer
     paint-refused-canvas kept other = rw (kept, ne-eqb (length (s .canvas)) (W * H) other)
 
@@ -89,17 +94,17 @@ module _ (d : Drawing) (W H : ℕ) (s : State (d .Item)) where
     paint-answer-on-sheet kept size = rw (kept, eq-eqb (length (s .canvas)) (W * H) size)
 
     -- 7 is answered only where the sheet breaks the rules
-    pub paint-broken-sheet-only : answer d W H s (paint i) ≡ brokenSheet → keepsRules d W H (s .layers) ≡ false
+    pub paint-broken-sheet-only : answer d W H s (paint i) ≡ Refused SheetRule → keepsRules d W H (s .layers) ≡ false
     paint-broken-sheet-only told =
         false-unless (keepsRules d W H (s .layers)) (λ kept. by-length kept (eqb (length (s .canvas)) (W * H)) refl)
       where
-        by-tests : (finished owed : Bool) → (refuseIf finished allRowsPainted orElse refuseIf owed rowOwed) ≡ brokenSheet → ⊥
-        by-tests true owed e = omega (arith, refused-number e)
-        by-tests false true e = omega (arith, refused-number e)
+        by-tests : (finished owed : Bool) → orElse (refuseIf finished NoRowLeft) (refuseIf owed RowOwed) ≡ Refused SheetRule → ⊥
+        by-tests true owed e = omega (arith, ap answerNumber e)
+        by-tests false true e = omega (arith, ap answerNumber e)
         by-tests false false e = refused-apart (sym e)
 
-        by-layer : (o : Option (Layer (d .Item))) → layerAnswer d (s .layers) i o ≡ brokenSheet → ⊥
-        by-layer none e = omega (arith, refused-number e)
+        by-layer : (o : Option (Layer (d .Item))) → layerAnswer d (s .layers) i o ≡ Refused SheetRule → ⊥
+        by-layer none e = omega (arith, ap answerNumber e)
         by-layer (some l) e =
             by-tests (leZ (endRow d (l .item)) (l .next)) (someLayerOwes d (take i (s .layers)) (l .next)) e
 
@@ -109,14 +114,14 @@ module _ (d : Drawing) (W H : ℕ) (s : State (d .Item)) where
             (sym (paint-answer-on-sheet kept (eqb-true (length (s .canvas)) (W * H) size)) ∙ told)
         by-length kept false other =
             let eight = paint-refused-canvas kept (eqb-false (length (s .canvas)) (W * H) other) in
-            omega (arith, refused-number (sym eight ∙ told))
+            omega (arith, ap answerNumber (sym eight ∙ told))
 
   -- ---- sheet and canvas
-  pub refused-changes-nothing : (call : Call (d .Item)) {n : ℕ} → answer d W H s call ≡ refused n → after d W H s call ≡ s
+  pub refused-changes-nothing : (call : Call (d .Item)) {refusal : Refusal} → answer d W H s call ≡ Refused refusal → after d W H s call ≡ s
   unfolding after
   refused-changes-nothing call h = rw h
 
-  pub accepted-is-carried-out : (call : Call (d .Item)) → answer d W H s call ≡ accepted
+  pub accepted-is-carried-out : (call : Call (d .Item)) → answer d W H s call ≡ Passed
       → after d W H s call ≡ carriedOut d W H s call
   unfolding after
   accepted-is-carried-out call h = rw h

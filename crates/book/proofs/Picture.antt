@@ -13,7 +13,10 @@ use lib.ListN.{length, take, drop, set, getElem?}
 use borrow.Author.Tests.{lt-ltb, ltb-true}
 use Rattle.book.specs.Each.{Each}
 use Rattle.book.specs.Canvas.{canvasRow, putRow}
-use Rattle.book.specs.Book.{Answer, accepted, refused, ifAccepted, Drawing, Call, add, paint, Entry, Book}
+use Rattle.refusal.specs.declared.Checked.{Checked}
+use Rattle.refusal.specs.declared.Checked.the-variants.{Passed, Refused}
+use Rattle.refusal.specs.Refusal.{keeping}
+use Rattle.book.specs.Book.{Drawing, Call, add, paint, Entry, Book}
 use Rattle.book.specs.Book.{firstLeft, hasPainted, bookAnswer, noted, bookAfter, painters, overpainted}
 use Rattle.book.specs.Sheet.{withRow, paintRow}
 use Rattle.book.proofs.Tests.{false-unless}
@@ -146,9 +149,9 @@ module _ (d : Drawing) where
         by-call (add item) = size
         by-call (paint i) = by-entry (getElem? book i)
 
-        by-answer : (a : Answer) → length (ifAccepted a (canvasCarriedOut d W H book canvas call) canvas) ≡ W * H
-        by-answer accepted = by-call call
-        by-answer (refused n) = size
+        by-answer : (a : Checked) → length (keeping a canvas (canvasCarriedOut d W H book canvas call)) ≡ W * H
+        by-answer Passed = by-call call
+        by-answer (Refused refusal) = size
 
     -- ---- the canvas shows the book over the canvas as first lent
     pub record Shows (lent : List ℕ) (book : Book d) (canvas : List ℕ) : Type 0 where
@@ -223,15 +226,14 @@ module _ (d : Drawing) where
       unfolding bookAfter noted canvasAfter
       shows-after book canvas call ordered shown = by-answer (bookAnswer d book call) refl
         where
-          when-noted : (c : Call (d .Item)) → bookAnswer d book c ≡ accepted
+          when-noted : (c : Call (d .Item)) → bookAnswer d book c ≡ Passed
               → Shows lent (noted d book c) (canvasCarriedOut d W H book canvas c)
           when-noted (add item) h = shows-add book item canvas shown
           when-noted (paint i) h =
               let p = paint-accepted d book i h in
               rw (p .there) (shows-paint book i canvas ordered p shown)
 
-          by-answer : (a : Answer) → bookAnswer d book call ≡ a
-              → Shows lent (ifAccepted a (noted d book call) book)
-              (ifAccepted a (canvasCarriedOut d W H book canvas call) canvas)
-          by-answer accepted h = when-noted call h
-          by-answer (refused n) h = shown
+          by-answer : (a : Checked) → bookAnswer d book call ≡ a
+              → Shows lent (keeping a book (noted d book call)) (keeping a canvas (canvasCarriedOut d W H book canvas call))
+          by-answer Passed h = when-noted call h
+          by-answer (Refused refusal) h = shown

@@ -10,7 +10,10 @@ use native.Mathlib.Omega.{arith}
 use lib.IntN.{ℤ, pos, _+ℤ_}
 use lib.ListN.{length, take, set, getElem?, length-map}
 use Rattle.signed.proofs.Laws.{int, add-law}
-use Rattle.book.specs.Book.{allRowsPainted, rowOwed, refuseIf, _orElse_, Answer, accepted, refused, ifAccepted}
+use Rattle.refusal.specs.declared.Refusal.the-variants.{NoRowLeft, RowOwed}
+use Rattle.refusal.specs.declared.Checked.{Checked}
+use Rattle.refusal.specs.declared.Checked.the-variants.{Passed, Refused}
+use Rattle.refusal.specs.Refusal.{refuseIf, orElse, keeping}
 use Rattle.book.specs.Book.{Drawing, Call, add, paint, Entry, Book, firstLeft, someOwes, entryAnswer, bookAnswer}
 use Rattle.book.specs.Book.{counted, noted, bookAfter}
 use Rattle.book.specs.Sheet.{State, Layers, someLayerOwes, WithinSide, LayerRules, OrderRule, Rules, keepsRules}
@@ -69,7 +72,7 @@ module _ (d : Drawing) where
       → layerAnswer d (map (layerOf d) book) i (Option·map (layerOf d) o) ≡ entryAnswer d book i o
   layer-answer-is book i none = refl
   layer-answer-is book i (some e) =
-      ap₂ (λ (none-left owed : Bool). refuseIf none-left allRowsPainted orElse refuseIf owed rowOwed)
+      ap₂ (λ (none-left owed : Bool). orElse (refuseIf none-left NoRowLeft) (refuseIf owed RowOwed))
       (layer-none-left-is d e)
       (ap (λ (earlier : Layers d). someLayerOwes d earlier (firstLeft d e)) (take-map (layerOf d) i book)
       ∙ some-layer-owes-is (take i book) (firstLeft d e))
@@ -100,11 +103,10 @@ module _ (d : Drawing) where
       → _≡_ {A = State (d .Item)} (record { layers = l; canvas = canvas }) (record { layers = m; canvas = canvas })
   layers-equal canvas e = ap (λ (t : Layers d). record { layers = t; canvas = canvas }) e
 
-  if-accepted-sheet : (a : Answer) (book book′ : Book d) (canvas canvas′ : List ℕ)
-      → ifAccepted a (sheetOf book canvas) (sheetOf book′ canvas′)
-      ≡ sheetOf (ifAccepted a book book′) (ifAccepted a canvas canvas′)
-  if-accepted-sheet accepted book book′ canvas canvas′ = refl
-  if-accepted-sheet (refused n) book book′ canvas canvas′ = refl
+  keeping-sheet : (a : Checked) (book book′ : Book d) (canvas canvas′ : List ℕ)
+      → keeping a (sheetOf book canvas) (sheetOf book′ canvas′) ≡ sheetOf (keeping a book book′) (keeping a canvas canvas′)
+  keeping-sheet Passed book book′ canvas canvas′ = refl
+  keeping-sheet (Refused refusal) book book′ canvas canvas′ = refl
 
   module _ (W H : ℕ) where
     -- the canvas after an accepted call, by the book before it
@@ -118,7 +120,7 @@ module _ (d : Drawing) where
 
     -- the canvas after a call, by the book before it
     unfoldable pub canvasAfter : Book d → List ℕ → Call (d .Item) → List ℕ
-    canvasAfter book canvas call = ifAccepted (bookAnswer d book call) (canvasCarriedOut book canvas call) canvas
+    canvasAfter book canvas call = keeping (bookAnswer d book call) canvas (canvasCarriedOut book canvas call)
 
     painted-layer-is : (book : Book d) (canvas : List ℕ) (i : ℕ) (o : Option (Entry (d .Item)))
         → paintedLayer d W H (sheetOf book canvas) i (Option·map (layerOf d) o)
@@ -145,4 +147,4 @@ module _ (d : Drawing) where
     unfolding after bookAfter canvasAfter
     after-is-book width height book canvas ordered size call =
         rw (answer-is-book W H width height book canvas ordered size call, carried-out-is book canvas call)
-        (if-accepted-sheet (bookAnswer d book call) (noted d book call) book (canvasCarriedOut book canvas call) canvas)
+        (keeping-sheet (bookAnswer d book call) book (noted d book call) canvas (canvasCarriedOut book canvas call))

@@ -1,10 +1,9 @@
--- Tests joined by `and`, and answers joined by `orElse`: what a joined one says of its parts, by the cases of the first.
+-- Tests joined by `and`: what a joined one says of its parts, by the cases of the first. And the test of an answer.
 -- Assumes nothing.
 use mathlib.Core.Path.{_≡_, refl, sym, _∙_}
 use mathlib.Core.Bool.{Bool, true, false, _&&_, _||_, true≢false, false≢true}
-use Prim.Native.Nat.{ℕ}
-use native.Mathlib.Omega.{arith}
-use Rattle.book.specs.Book.{Answer, accepted, refused, refuseIf, _orElse_}
+use Rattle.refusal.specs.declared.Checked.{Checked}
+use Rattle.refusal.specs.declared.Checked.the-variants.{Passed, Refused}
 use Rattle.book.specs.Sheet.{isAccepted}
 
 -- ---- tests
@@ -36,22 +35,6 @@ tests-equal true b f g = sym (f refl)
 tests-equal false b f g = sym (false-unless b (λ e. false≢true (g e)))
 
 -- ---- answers
-pub refused-apart : {n : ℕ} → refused n ≡ accepted → ⊥
-refused-apart e = let z : _≡_ {A = ℕ} 0 1 = cc in omega arith
-
--- refused by the same number
-pub refused-number : {m n : ℕ} → refused m ≡ refused n → m ≡ n
-refused-number e = cc
-
-pub is-accepted-true : (a : Answer) → isAccepted a ≡ true → a ≡ accepted
-is-accepted-true accepted e = refl
-is-accepted-true (refused n) e = absurd (false≢true e)
-
-pub or-else-accepted-parts : (a b : Answer) → (a orElse b) ≡ accepted → (a ≡ accepted) × (b ≡ accepted)
-or-else-accepted-parts accepted b e = (refl, e)
-or-else-accepted-parts (refused n) b e = absurd (refused-apart e)
-
-pub refuse-if-accepted : (t : Bool) (refusal : Answer) → (refusal ≡ accepted → ⊥) → refuseIf t refusal ≡ accepted
-    → t ≡ false
-refuse-if-accepted true refusal apart e = absurd (apart e)
-refuse-if-accepted false refusal apart e = refl
+pub is-accepted-true : (a : Checked) → isAccepted a ≡ true → a ≡ Passed
+is-accepted-true Passed e = refl
+is-accepted-true (Refused refusal) e = absurd (false≢true e)

@@ -9,7 +9,9 @@ use lib.IntN.{ℤ, pos, _+ℤ_}
 use lib.ListN.{length, replicate}
 use borrow.Author.Tests.{lt-leb}
 use Rattle.signed.proofs.Laws.{int, add-law}
-use Rattle.book.specs.Book.{Answer, accepted, Drawing, add, paint, Book, firstLeft, someOwes, noneLeft, bookAnswer}
+use Rattle.refusal.specs.declared.Checked.{Checked}
+use Rattle.refusal.specs.declared.Checked.the-variants.{Passed}
+use Rattle.book.specs.Book.{Drawing, add, paint, Book, firstLeft, someOwes, noneLeft, bookAnswer}
 use Rattle.book.specs.Book.{noted, bookAfter}
 use Rattle.book.specs.Sheet.{State, WithinSide, paintRow, after, answers, afterAll, opened}
 use Rattle.book.specs.Whole.{paintRows, SingleLayerWhole}
@@ -27,7 +29,7 @@ module _ (d : Drawing) (W H : ℕ) where
       paint-rows-length item n (y +ℤ pos 1) (paintRow d W H item y canvas) (paint-row-length d W H item y canvas size)
 
   -- ---- on a sheet with one layer
-  module _ (width : WithinSide d W) (height : WithinSide d H) (item : d .Item) (allowed : d .refuse item ≡ accepted)
+  module _ (width : WithinSide d W) (height : WithinSide d H) (item : d .Item) (allowed : d .refuse item ≡ Passed)
       (room : 1 ≤ d .maxLayers) where
     -- the book with the one item, n rows of it painted
     abbrev only : ℕ → Book d
@@ -37,11 +39,11 @@ module _ (d : Drawing) (W H : ℕ) where
     only-in-order n h =
         record { few = room; within = (record { allowed = allowed; counted-rows = h }, tt); order = (tt, tt) }
 
-    only-paint-accepted : (n : ℕ) → n < d .rows item → bookAnswer d (only n) (paint 0) ≡ accepted
+    only-paint-accepted : (n : ℕ) → n < d .rows item → bookAnswer d (only n) (paint 0) ≡ Passed
     unfolding bookAnswer noneLeft someOwes
     only-paint-accepted n h = rw (lt-leb (d .rows item) n h)
 
-    only-add-accepted : bookAnswer d [] (add item) ≡ accepted
+    only-add-accepted : bookAnswer d [] (add item) ≡ Passed
     unfolding bookAnswer
     only-add-accepted = rw (allowed, lt-leb (d .maxLayers) 0 room)
 
@@ -61,13 +63,13 @@ module _ (d : Drawing) (W H : ℕ) where
 
     -- the k rows that are left after n
     rest-accepted : (k n : ℕ) (canvas : List ℕ) → n + k ≡ d .rows item → length canvas ≡ W * H
-        → answers d W H (sheetOf d (only n) canvas) (replicate k (paint 0)) ≡ replicate k accepted
+        → answers d W H (sheetOf d (only n) canvas) (replicate k (paint 0)) ≡ replicate k Passed
     unfolding answers
     rest-accepted zero n canvas e size = refl
     rest-accepted (suc k) n canvas e size =
         let y : ℤ = firstLeft d (record { item = item; count = n }) in
         let left : n < d .rows item = omega arith in
-        ap₂ {C = List Answer} (λ a rest. a ∷ rest)
+        ap₂ {C = List Checked} (λ a rest. a ∷ rest)
         (answer-is-book d W H width height (only n) canvas (only-in-order n (omega arith)) size (paint 0)
         ∙ only-paint-accepted n left)
         (rw (only-painted n canvas left size)
@@ -94,7 +96,7 @@ module _ (d : Drawing) (W H : ℕ) where
     single-layer-whole lent size =
         let first-row : d .first item +ℤ pos 0 ≡ d .first item = omega (arith, int, add-law (d .first item) (pos 0)) in
         record {
-          all-accepted = ap₂ {C = List Answer} (λ a rest. a ∷ rest)
+          all-accepted = ap₂ {C = List Checked} (λ a rest. a ∷ rest)
               (answer-is-book d W H width height [] lent (empty-book-in-order d) size (add item) ∙ only-add-accepted)
               (rw (only-added lent size) (rest-accepted (d .rows item) 0 lent (omega arith) size));
           finished =

@@ -1,5 +1,7 @@
 -- The plain book of demand 3 (document 01, "The book"), over any drawing: what a figure with its style is, which rows it
--- has and how it overpaints a canvas row stand in the record `Drawing`. The order is the paper's.
+-- has and how it overpaints a canvas row stand in the record `Drawing`. The order is the paper's. What a call answers ("The
+-- records", below the table) is said as a check's result is, in the words of `refusal`: `Passed` where it is accepted, or
+-- `Refused` by a row of the table.
 -- Assumes nothing.
 use mathlib.Core.Path.{_≡_}
 use mathlib.Core.List.{List, [], _∷_, _++_}
@@ -10,55 +12,10 @@ use lib.Dec.{leb}
 use lib.IntN.{ℤ, pos, _+ℤ_}
 use lib.Signed.{leZ, ltZ}
 use lib.ListN.{length, take, set, getElem?}
-
--- What a call answers ("The records", below the table): it is accepted, or refused by a number of the table.
-pub data Answer : Type 0 where
-  accepted : Answer
-  refused : ℕ → Answer
-
--- ---- The numbers of the table in "The records" that a sheet call can get beside its drawing's own 1, 2, 3 and 5.
-
--- 7: the sheet that is given breaks one of its rules
-abbrev pub brokenSheet : Answer
-brokenSheet = refused 7
-
--- 8: the canvas has another length than W × H
-abbrev pub otherCanvasLength : Answer
-otherCanvasLength = refused 8
-
--- 9: all places for layers are taken
-abbrev pub layersFull : Answer
-layersFull = refused 9
-
--- 10: there is no layer of that number
-abbrev pub noSuchLayer : Answer
-noSuchLayer = refused 10
-
--- 11: the layer has painted all its rows
-abbrev pub allRowsPainted : Answer
-allRowsPainted = refused 11
-
--- 12: the layer's next row is still to be painted by an earlier layer
-abbrev pub rowOwed : Answer
-rowOwed = refused 12
-
--- ---- What is made of them.
-
--- The refusal where its test holds, and none otherwise ("The records", the table's second column).
-abbrev pub refuseIf : Bool → Answer → Answer
-refuseIf test refusal = cond test refusal accepted
-
--- The lowest number that applies ("The records", below the table): tests are written in the table's order, and the first
--- refusal stands.
-infixr 20 _orElse_
-abbrev pub _orElse_ : Answer → Answer → Answer
-_orElse_ accepted later = later
-_orElse_ (refused n) later = refused n
-
--- What an accepted call makes, and after a refused one what was there before ("The records", below the table).
-abbrev pub ifAccepted : {A : Type 0} → Answer → A → A → A
-ifAccepted accepted made before = made
-ifAccepted (refused n) made before = before
+use Rattle.refusal.specs.declared.Refusal.the-variants.{SheetFull, NoLayer, NoRowLeft, RowOwed}
+use Rattle.refusal.specs.declared.Checked.{Checked}
+use Rattle.refusal.specs.declared.Checked.the-variants.{Refused}
+use Rattle.refusal.specs.Refusal.{refuseIf, orElse, keeping}
 
 -- The run a..b (document 01, first lines): from a up to but not including b.
 abbrev pub inRun : ℤ → ℤ → ℤ → Bool
@@ -69,7 +26,7 @@ pub record Drawing : Type 1 where
   -- a figure with its style ("The records")
   pub Item : Type 0
   -- the lowest of the numbers 1, 2, 3 and 5 that applies to it ("The records", the table)
-  pub refuse : Item → Answer
+  pub refuse : Item → Checked
   -- the first row of its stroke area, or the area's top if that has no row, and how many rows it has ("Sheet")
   pub first : Item → ℤ
   pub rows : Item → ℕ
@@ -130,14 +87,14 @@ module _ (d : Drawing) where
   noneLeft e = leb (d .rows (e .item)) (e .count)
 
   -- The answer to a paint call, by the entry that stands at its number ("The book"): 10, then 11, then 12.
-  abbrev pub entryAnswer : Book → ℕ → Option (Entry (d .Item)) → Answer
-  entryAnswer book i none = noSuchLayer
+  abbrev pub entryAnswer : Book → ℕ → Option (Entry (d .Item)) → Checked
+  entryAnswer book i none = Refused NoLayer
   entryAnswer book i (some e) =
-      refuseIf (noneLeft e) allRowsPainted orElse refuseIf (someOwes (take i book) (firstLeft e)) rowOwed
+      orElse (refuseIf (noneLeft e) NoRowLeft) (refuseIf (someOwes (take i book) (firstLeft e)) RowOwed)
 
   -- The book's answer to a call ("The book"). To an add call: the drawing's own refusal, else 9 by the figures noted.
-  unfoldable pub bookAnswer : Book → Call (d .Item) → Answer
-  bookAnswer book (add item) = d .refuse item orElse refuseIf (leb (d .maxLayers) (length book)) layersFull
+  unfoldable pub bookAnswer : Book → Call (d .Item) → Checked
+  bookAnswer book (add item) = orElse (d .refuse item) (refuseIf (leb (d .maxLayers) (length book)) SheetFull)
   bookAnswer book (paint i) = entryAnswer book i (getElem? book i)
 
   -- One more row of the entry at i is painted: its count grows by 1 ("The book").
@@ -152,10 +109,10 @@ module _ (d : Drawing) where
 
   -- The book after a call ("The book"): a refused one leaves it as it is.
   unfoldable pub bookAfter : Book → Call (d .Item) → Book
-  bookAfter book call = ifAccepted (bookAnswer book call) (noted book call) book
+  bookAfter book call = keeping (bookAnswer book call) book (noted book call)
 
   -- The answers to a list of calls, each by the book that the calls before it leave (demand 3).
-  unfoldable pub bookAnswers : Book → List (Call (d .Item)) → List Answer
+  unfoldable pub bookAnswers : Book → List (Call (d .Item)) → List Checked
   bookAnswers book [] = []
   bookAnswers book (call ∷ calls) = bookAnswer book call ∷ bookAnswers (bookAfter book call) calls
 

@@ -7,9 +7,10 @@ use mathlib.Core.Bool.{true, false}
 use Prim.Native.Nat.{ℕ, _*_, _<_}
 use lib.IntN.{ℤ, pos}
 use lib.ListN.{length}
+use Rattle.refusal.specs.declared.Checked.the-variants.{Passed}
 use Rattle.book.specs.Each.{Each}
 use Rattle.book.specs.Canvas.{canvasRow}
-use Rattle.book.specs.Book.{accepted, Drawing, Call, paint, Entry, Book, firstLeft, isLeft, owes, bookAnswers}
+use Rattle.book.specs.Book.{Drawing, Call, paint, Entry, Book, firstLeft, isLeft, owes, bookAnswers}
 use Rattle.book.specs.Book.{bookAfterAll, painters, overpainted}
 use Rattle.book.specs.Sheet.{Layer, State, WithinSide, Rules, answer, answers, afterAll, opened}
 
@@ -38,10 +39,10 @@ module _ (d : Drawing) where
     -- the paint call of a figure that is noted gets a number if the figure has no row left, or if one that is noted before
     -- it owes the first row that it has left, and only then
     pub refused-exactly : (before : Book d) (e : Entry (d .Item)) (later : Book d) → book ≡ before ++ e ∷ later
-        → (answer d W H s (paint (length before)) ≢ accepted) ↔ (NoRowLeft e ⊎ OwedBy before (firstLeft d e))
+        → (answer d W H s (paint (length before)) ≢ Passed) ↔ (NoRowLeft e ⊎ OwedBy before (firstLeft d e))
     -- the first figure that has a row left can go on: its paint call is accepted
     pub earliest-accepted : (before : Book d) (e : Entry (d .Item)) (later : Book d) → book ≡ before ++ e ∷ later
-        → Each NoRowLeft before → SomeRowLeft e → answer d W H s (paint (length before)) ≡ accepted
+        → Each NoRowLeft before → SomeRowLeft e → answer d W H s (paint (length before)) ≡ Passed
     -- the sheet's layers are the figures that are noted, each with the first row that it has left as its next row
     pub next-rows : s .layers ≡ map layerOf book
     -- the sheet keeps the rules

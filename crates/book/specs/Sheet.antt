@@ -12,11 +12,13 @@ use lib.Dec.{leb, ltb, eqb}
 use lib.IntN.{ℤ, pos, negsuc, _+ℤ_}
 use lib.Signed.{leZ, ltZ}
 use lib.ListN.{length, take, set, getElem?}
+use Rattle.refusal.specs.declared.Refusal.the-variants.{SheetRule, CanvasLength, SheetFull, NoLayer, NoRowLeft, RowOwed}
+use Rattle.refusal.specs.declared.Checked.{Checked}
+use Rattle.refusal.specs.declared.Checked.the-variants.{Passed, Refused}
+use Rattle.refusal.specs.Refusal.{refuseIf, orElse, keeping}
 use Rattle.book.specs.Each.{Each, EachTwo}
 use Rattle.book.specs.Canvas.{canvasRow, putRow}
-use Rattle.book.specs.Book.{Answer, accepted, refused, brokenSheet, otherCanvasLength, layersFull, noSuchLayer}
-use Rattle.book.specs.Book.{allRowsPainted, rowOwed, refuseIf, _orElse_, ifAccepted, Drawing, Call, add, paint}
-use Rattle.book.specs.Book.{endRow, hasRow}
+use Rattle.book.specs.Book.{Drawing, Call, add, paint, endRow, hasRow}
 
 -- A layer of a sheet ("The records"): a figure with its style, and its next row.
 pub record Layer (A : Type 0) : Type 0 where
@@ -29,9 +31,9 @@ pub record State (A : Type 0) : Type 0 where
   pub canvas : List ℕ
 
 -- True of the answer of an accepted call ("Sheet": figures and styles within limits).
-abbrev pub isAccepted : Answer → Bool
-isAccepted accepted = true
-isAccepted (refused n) = false
+abbrev pub isAccepted : Checked → Bool
+isAccepted Passed = true
+isAccepted (Refused refusal) = false
 
 -- A canvas of W by H with its row y made into another, by a function of the row's number and its bytes; as it was where y is not a
 -- row of the canvas ("Sheet": pixels off the canvas are skipped).
@@ -60,7 +62,7 @@ module _ (d : Drawing) where
   -- The rules of one layer ("Sheet"): its figure and style are within limits, and its next row is from the first row to
   -- the one after the last.
   pub record LayerRules (l : Layer (d .Item)) : Type 0 where
-    pub allowed : d .refuse (l .item) ≡ accepted
+    pub allowed : d .refuse (l .item) ≡ Passed
     pub from-first : leZ (d .first (l .item)) (l .next) ≡ true
     pub to-end : leZ (l .next) (endRow d (l .item)) ≡ true
 
@@ -116,23 +118,23 @@ module _ (d : Drawing) where
   TestIsRules = (W H : ℕ) (layers : Layers) → (keepsRules W H layers ≡ true) ↔ Rules W H layers
 
   -- The answer to a paint call, by the layer that stands at its number ("The records", the table): 10, then 11, then 12.
-  abbrev pub layerAnswer : Layers → ℕ → Option (Layer (d .Item)) → Answer
-  layerAnswer layers i none = noSuchLayer
+  abbrev pub layerAnswer : Layers → ℕ → Option (Layer (d .Item)) → Checked
+  layerAnswer layers i none = Refused NoLayer
   layerAnswer layers i (some l) =
-      refuseIf (leZ (endRow d (l .item)) (l .next)) allRowsPainted
-      orElse refuseIf (someLayerOwes (take i layers) (l .next)) rowOwed
+      orElse (refuseIf (leZ (endRow d (l .item)) (l .next)) NoRowLeft)
+      (refuseIf (someLayerOwes (take i layers) (l .next)) RowOwed)
 
   -- The answer to a call on a sheet of W by H with its canvas ("The records", the table, lowest number first): an add call
   -- gets 1, 2, 3 or 5 by its item, then 7, then 9; a paint call gets 7, then 8, then 10, 11 or 12.
-  unfoldable pub answer : ℕ → ℕ → State (d .Item) → Call (d .Item) → Answer
+  unfoldable pub answer : ℕ → ℕ → State (d .Item) → Call (d .Item) → Checked
   answer W H s (add item) =
-      d .refuse item
-      orElse refuseIf (not (keepsRules W H (s .layers))) brokenSheet
-      orElse refuseIf (leb (d .maxLayers) (length (s .layers))) layersFull
+      orElse (d .refuse item)
+      (orElse (refuseIf (not (keepsRules W H (s .layers))) SheetRule)
+      (refuseIf (leb (d .maxLayers) (length (s .layers))) SheetFull))
   answer W H s (paint i) =
-      refuseIf (not (keepsRules W H (s .layers))) brokenSheet
-      orElse refuseIf (not (eqb (length (s .canvas)) (W * H))) otherCanvasLength
-      orElse layerAnswer (s .layers) i (getElem? (s .layers) i)
+      orElse (refuseIf (not (keepsRules W H (s .layers))) SheetRule)
+      (orElse (refuseIf (not (eqb (length (s .canvas)) (W * H))) CanvasLength)
+      (layerAnswer (s .layers) i (getElem? (s .layers) i)))
 
   -- The styled row of an item at y written onto the canvas ("Sheet"): nothing where y is not a row of the canvas.
   abbrev pub paintRow : ℕ → ℕ → d .Item → ℤ → List ℕ → List ℕ
@@ -155,10 +157,10 @@ module _ (d : Drawing) where
 
   -- Sheet and canvas after a call ("The records", below the table): a refused one changes neither.
   unfoldable pub after : ℕ → ℕ → State (d .Item) → Call (d .Item) → State (d .Item)
-  after W H s call = ifAccepted (answer W H s call) (carriedOut W H s call) s
+  after W H s call = keeping (answer W H s call) s (carriedOut W H s call)
 
   -- The answers to a list of calls, each on the sheet that the last one returned (demand 3).
-  unfoldable pub answers : ℕ → ℕ → State (d .Item) → List (Call (d .Item)) → List Answer
+  unfoldable pub answers : ℕ → ℕ → State (d .Item) → List (Call (d .Item)) → List Checked
   answers W H s [] = []
   answers W H s (call ∷ calls) = answer W H s call ∷ answers W H (after W H s call) calls
 

@@ -6,7 +6,8 @@ use mathlib.Core.List.{List, [], _∷_, _++_}
 use Prim.Native.Nat.{ℕ, zero, suc}
 use lib.IntN.{ℤ, pos, _+ℤ_}
 use lib.ListN.{take, drop, replicate}
-use Rattle.book.specs.Book.{accepted, Drawing, Call, add, paint, endRow}
+use Rattle.refusal.specs.declared.Checked.the-variants.{Passed}
+use Rattle.book.specs.Book.{Drawing, Call, add, paint, endRow}
 use Rattle.book.specs.Sheet.{paintRow, answers, afterAll, opened}
 
 module _ (d : Drawing) where
@@ -34,6 +35,6 @@ module _ (d : Drawing) where
   -- That sheet accepts every call, its one layer comes to its end, and its canvas is the lent one with the whole item
   -- painted ("Sheet", last paragraph).
   pub record SingleLayerWhole (W H : ℕ) (lent : List ℕ) (item : d .Item) : Type 0 where
-    pub all-accepted : answers d W H (opened d lent) (wholeCalls item) ≡ replicate (suc (d .rows item)) accepted
+    pub all-accepted : answers d W H (opened d lent) (wholeCalls item) ≡ replicate (suc (d .rows item)) Passed
     pub finished : afterAll d W H (opened d lent) (wholeCalls item)
         ≡ record { layers = record { item = item; next = endRow d item } ∷ []; canvas = paintWhole W H item lent }

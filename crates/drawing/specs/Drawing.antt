@@ -6,16 +6,15 @@ use Prim.Native.Nat.{ℕ}
 use lib.IntN.{ℤ}
 use lib.ListN.{length}
 use Rattle.refusal.specs.declared.Checked.{Checked}
-use Rattle.refusal.specs.declared.Checked.the-variants as checked
 use Rattle.geometry.specs.Limits.{maxCanvasSide}
 use Rattle.geometry.specs.Limits.{maxLayers as Limits·maxLayers}
-use Rattle.refusal.specs.Refusal.{number, orElse}
+use Rattle.refusal.specs.Refusal.{orElse}
 use Rattle.figure.specs.declared.Figure.{Figure}
 use Rattle.figure.specs.Calls.{figureCheck}
 use Rattle.style.specs.declared.Style.{Style}
 use Rattle.style.specs.Style.{styleCheck}
 use Rattle.styled.specs.Styled.{styledRow}
-use Rattle.book.specs.Book.{Answer, accepted, refused, Drawing}
+use Rattle.book.specs.Book.{Drawing}
 use Rattle.canvas.specs.Canvas.{overpaint}
 pub use Rattle.canvas_row.specs.CanvasRow.{paintBy}
 use Rattle.canvas.proofs.Overpaint.{overpaint-length}
@@ -34,11 +33,6 @@ styledFigure f style = record { figure = f; style = style }
 unfoldable pub styledCheck : Figure → Style → Checked
 styledCheck f style = orElse (figureCheck f) (styleCheck style)
 
--- what a check says in the book: a refusal by its number, or accepted
-abbrev pub answerOf : Checked → Answer
-answerOf checked.Passed = accepted
-answerOf (checked.Refused refusal) = refused (number refusal)
-
 -- a canvas row overpainted by the styled row at y ('The book')
 unfoldable pub overpaintBy : StyledFigure → ℤ → List ℕ → List ℕ
 overpaintBy item y row = overpaint (item .style) (styledRow (item .figure) (item .style) y) row
@@ -53,7 +47,7 @@ abbrev pub drawing : Drawing
 drawing =
     record {
       Item = StyledFigure;
-      refuse = λ item. answerOf (styledCheck (item .figure) (item .style));
+      refuse = λ item. styledCheck (item .figure) (item .style);
       first = λ item. strokeRows (item .figure) (item .style) .first;
       rows = λ item. strokeRows (item .figure) (item .style) .count;
       over = overpaintBy;

@@ -15,8 +15,8 @@ use mir.Facts.{toZ-ofZ}
 use Rattle.signed.proofs.Laws.{int, range}
 use Rattle.signed.specs.Signed.{Is}
 use Rattle.refusal.specs.declared.Checked.{Checked}
-use Rattle.refusal.specs.Refusal.{Outcome, refused, answered, keeping, roomCheck}
-use Rattle.host_answers.specs.HostAnswers.{nothingThere, checkNumber, told, heldBy32, outAfter, Tells}
+use Rattle.refusal.specs.Refusal.{answerNumber, Outcome, refused, answered, keeping, roomCheck}
+use Rattle.host_answers.specs.HostAnswers.{nothingThere, told, heldBy32, outAfter, Tells}
 
 -- a number that 32 bits with a sign hold comes out as it is
 pub held-signed : (z : ℤ) → SFits w32 z → heldBy32 z ≡ z
@@ -61,11 +61,11 @@ module _ (v : ℤ) (rest out : List ℤ) where
   same-room = ap (λ (n : ℕ). roomCheck n (length out)) (length-map (v ∷ rest) heldBy32)
 
   pub tells-put : (values : List ℤ) → values ≡ map heldBy32 (v ∷ rest) → (r : ℕ) (out′ : List ℤ)
-      → r ≡ checkNumber (room values) → out′ ≡ keeping (room values) out (sets out 0 values) → Tells (answered (v ∷ rest)) out r out′
+      → r ≡ answerNumber (room values) → out′ ≡ keeping (room values) out (sets out 0 values) → Tells (answered (v ∷ rest)) out r out′
   unfolding told outAfter
   tells-put values same r out′ answer put =
       let roomy = ap room same ∙ same-room in
       record {
-        answer = answer ∙ ap checkNumber roomy;
+        answer = answer ∙ ap answerNumber roomy;
         values = put ∙ ap₂ (λ (c : Checked) (vs : List ℤ). keeping c out (sets out 0 vs)) roomy same;
       }

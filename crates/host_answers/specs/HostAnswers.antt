@@ -11,7 +11,7 @@ use lib.Seq.{sets}
 use lib.Signed.{ltZ}
 use Rattle.refusal.specs.declared.Checked.{Checked}
 use Rattle.refusal.specs.declared.Checked.the-variants.{Passed, Refused}
-use Rattle.refusal.specs.Refusal.{number, Outcome, refused, answered, keeping, roomCheck}
+use Rattle.refusal.specs.Refusal.{number, answerNumber, Outcome, refused, answered, keeping, roomCheck}
 
 -- the numbers given are no record of their kind
 abbrev pub noRecord : ℕ
@@ -36,11 +36,6 @@ abbrev pub afterCheck : Checked → Outcome → Outcome
 afterCheck Passed outcome = outcome
 afterCheck (Refused refusal) outcome = refused (number refusal)
 
--- the number that stands for a check: 0 for passed
-abbrev pub checkNumber : Checked → ℕ
-checkNumber Passed = 0
-checkNumber (Refused refusal) = number refusal
-
 -- what the host is told of a call that gives no values
 abbrev pub outcomeNumber : Outcome → ℕ
 outcomeNumber (refused n) = n
@@ -50,7 +45,7 @@ outcomeNumber (answered values) = 0
 unfoldable pub told : Outcome → ℕ → ℕ
 told (refused n) room = n
 told (answered []) room = nothingThere
-told (answered (v ∷ rest)) room = checkNumber (roomCheck (length (v ∷ rest)) room)
+told (answered (v ∷ rest)) room = answerNumber (roomCheck (length (v ∷ rest)) room)
 
 -- a number as 32 bits with a sign hold it: an unsigned one from 2^31 on comes out less 2^32. No call answers one
 unfoldable pub heldBy32 : ℤ → ℤ

@@ -8,8 +8,8 @@ ghost use lib.IntN.{pos};
 ghost use lib.ListN.{length};
 ghost use lib.Seq.{sets};
 ghost use Rattle.signed.specs.Signed.{Is};
-ghost use Rattle.refusal.specs.Refusal.{roomCheck, keeping};
-ghost use Rattle.host_answers.specs.HostAnswers.{heldBy32, checkNumber};
+ghost use Rattle.refusal.specs.Refusal.{answerNumber, roomCheck, keeping};
+ghost use Rattle.host_answers.specs.HostAnswers.{heldBy32};
 
 // The answers that are no refusal's number: done; the numbers given are no record; there is nothing
 // to give.
@@ -44,7 +44,7 @@ pub fn put_from(out: &mut [i32], at: usize, values: &[i32])
 
 // Writes the values, if the list has room for them (13).
 pub fn put_numbers(out: &mut [i32], values: &[i32]) -> u32
-    ensures { λ r. ⌜ r ≡ checkNumber (roomCheck (length (now (values .entry))) (length (now (out .entry)))) ⌝ }
+    ensures { λ r. ⌜ r ≡ answerNumber (roomCheck (length (now (values .entry))) (length (now (out .entry)))) ⌝ }
     ensures { λ _. ⌜ now (out .exit) ≡ keeping (roomCheck (length (now (values .entry))) (length (now (out .entry)))) (now (out .entry)) (sets (now (out .entry)) 0 (now (values .entry))) ⌝ }
 {
     let checked = check_room(values.len(), out.len());

@@ -11,10 +11,11 @@ use lib.ListN.{length, drop-of-length-le}
 use lib.Seq.{sets, sets-eq}
 use lib.Signed.{ltZ}
 use Rattle.signed.proofs.Laws.{int}
+use Rattle.refusal.specs.declared.Checked.{Checked}
 use Rattle.refusal.specs.declared.Checked.the-variants.{Passed}
-use Rattle.refusal.specs.Refusal.{roomCheck}
+use Rattle.refusal.specs.Refusal.{answerNumber, roomCheck}
 use Rattle.canvas_size.specs.CanvasSize.{canvasSizeCheck}
-use Rattle.book.specs.Book.{Answer, bookAfterAll}
+use Rattle.book.specs.Book.{bookAfterAll}
 use Rattle.book.specs.Sheet.{State, WithinSide, answer}
 use Rattle.book.specs.Demand3.{AfterCalls}
 use Rattle.drawing.specs.Drawing.{StyledFigure, drawing}
@@ -24,7 +25,6 @@ use Rattle.sheet.specs.Sheet.{stateOf, openedSheet, sheetAnswer, sheetAfter, ca
 use Rattle.sheet.specs.SheetDemand3.{sheetAnswers, sheetAfterAll, canvasAfterAll as Sheet·canvasAfterAll}
 use Rattle.sheet.proofs.Records.{add-takes-no-canvas}
 use Rattle.sheet.proofs.SheetDemand3.{sheet-demand3}
-use Rattle.sheet_calls.specs.SheetCalls.{answerNumber}
 use Rattle.sheet_record.specs.SheetRecord.{isSheet, sheetOf}
 use Rattle.host_answers.specs.HostAnswers.{noRecord, heldBy32, outAfter, told}
 use Rattle.host_sheets.specs.Sheets.{unusedPlaces, openedNumbers, openSaid, addTold, addNumbers, areRecords, paintTold, paintCanvas}
@@ -155,7 +155,7 @@ host-demand3 W H width height out long lent size calls =
     (ap (λ (m : List ℤ). sheetOf m) first ∙ just-opened .1) refl in
     record {
       open-told = open-done W H width height out long;
-      answered = all .answered ∙ ap (λ (l : List Answer). toldBy calls l) (demand .answered);
+      answered = all .answered ∙ ap (λ (l : List Checked). toldBy calls l) (demand .answered);
       reached = subst (λ (t : State StyledFigure). AfterCalls drawing W H lent t (bookAfterAll drawing [] (bookCalls calls)))
           (sym (ap₂ stateOf (all .sheet) (all .painted))) (demand .reached);
       next-told = λ call records.

@@ -9,17 +9,17 @@ use mathlib.Core.List.{List, []}
 use Prim.Native.Nat.{ℕ}
 use native.Mathlib.Omega.{arith}
 use lib.IntN.{ℤ}
-use Rattle.book.specs.Book.{Answer, accepted, refused, brokenSheet, paint}
+use Rattle.book.specs.Book.{paint}
 use Rattle.book.specs.Sheet.{State, Rules, keepsRules}
 use Rattle.book.proofs.Tests.{false-unless, true-false-apart}
 use Rattle.book.proofs.RulesTest.{keeps-rules-iff}
 use Rattle.book.proofs.LowestNumber.{add-refused-item, add-refused-broken-sheet, add-broken-sheet-only}
 use Rattle.book.proofs.LowestNumber.{paint-refused-broken-sheet, paint-broken-sheet-only}
 use Rattle.refusal.specs.declared.Refusal.{Refusal}
-use Rattle.refusal.specs.declared.Refusal.the-variants.{Side, Radius, Position, Offset}
+use Rattle.refusal.specs.declared.Refusal.the-variants.{Side, Radius, Position, Asked, Offset, CanvasSide, SheetRule, CanvasLength, SheetFull, NoLayer, NoRowLeft, RowOwed, BufferLength}
 use Rattle.refusal.specs.declared.Checked.{Checked}
 use Rattle.refusal.specs.declared.Checked.the-variants.{Passed, Refused}
-use Rattle.refusal.specs.Refusal.{number, refuseIf, orElse, above, beyond}
+use Rattle.refusal.specs.Refusal.{number, answerNumber, refuseIf, orElse, above, beyond}
 use Rattle.geometry.specs.declared.Point.{Point}
 use Rattle.geometry.specs.declared.Size.{Size}
 use Rattle.geometry.specs.Limits.{maxSide, maxPosition, maxRadius, maxStrokeWidth}
@@ -32,12 +32,11 @@ use Rattle.figure.specs.Figure.{ownRectangle}
 use Rattle.figure.specs.Calls.{sidesCheck, cornersCheck, placeCheck, figureCheck}
 use Rattle.style.specs.declared.Style.{Style}
 use Rattle.style.specs.Style.{styleCheck}
-use Rattle.drawing.specs.Drawing.{StyledFigure, styledFigure, answerOf, styledCheck, drawing}
+use Rattle.drawing.specs.Drawing.{StyledFigure, styledFigure, styledCheck, drawing}
 use Rattle.layers.specs.Layers.{layersOf}
 use Rattle.sheet.proofs.Places.{kept-few}
 use Rattle.sheet.specs.declared.Sheet.{Sheet}
 use Rattle.sheet.specs.Sheet.{stateOf, sheetAnswer}
-use Rattle.sheet_calls.specs.SheetCalls.{answerNumber}
 use Rattle.record_numbers.specs.RecordNumbers.{figureOf, styleOf}
 use Rattle.sheet_record.specs.SheetRecord.{holdsRecords, sheetOf}
 use Rattle.sheet_record.proofs.Parts.{sixteen, records-of-few, count-of-records}
@@ -80,9 +79,24 @@ module _ (numbers : List ℤ) where
       fails (inr broken) = false-unless kept (λ e. broken (rules-said (kept-records e) .0 (test-iff .0 e)))
 
 -- ---- an answer by its number
-number-seven : (a : Answer) → answerNumber a ≡ 7 → a ≡ brokenSheet
-number-seven accepted e = absurd (omega arith)
-number-seven (refused n) e = ap refused e
+number-seven : (a : Checked) → answerNumber a ≡ 7 → a ≡ Refused SheetRule
+number-seven Passed e = absurd (omega arith)
+number-seven (Refused refusal) e = by-refusal refusal e
+  where
+    by-refusal : (r : Refusal) → number r ≡ 7 → Refused r ≡ Refused SheetRule
+    by-refusal SheetRule e = refl
+    by-refusal Side e = absurd (omega arith)
+    by-refusal Radius e = absurd (omega arith)
+    by-refusal Position e = absurd (omega arith)
+    by-refusal Asked e = absurd (omega arith)
+    by-refusal Offset e = absurd (omega arith)
+    by-refusal CanvasSide e = absurd (omega arith)
+    by-refusal CanvasLength e = absurd (omega arith)
+    by-refusal SheetFull e = absurd (omega arith)
+    by-refusal NoLayer e = absurd (omega arith)
+    by-refusal NoRowLeft e = absurd (omega arith)
+    by-refusal RowOwed e = absurd (omega arith)
+    by-refusal BufferLength e = absurd (omega arith)
 
 -- ---- a paint call
 pub paint-told-seven : PaintToldSeven
@@ -111,7 +125,7 @@ paint-told-seven numbers is i canvas = (only, always)
 -- ---- an add call
 -- a check that does not refuse by 7
 abbrev NotSeven : Checked → Type 0
-NotSeven check = answerNumber (answerOf check) ≡ 7 → ⊥
+NotSeven check = answerNumber check ≡ 7 → ⊥
 
 not-seven-if : (t : Bool) (refusal : Refusal) → (number refusal ≡ 7 → ⊥) → NotSeven (refuseIf t refusal)
 not-seven-if true refusal other e = other e
@@ -183,9 +197,9 @@ add-told-seven numbers figure style records = (only, always)
     passes : (k : Checked) → check ≡ k → addTold numbers figure style ≡ 7 → check ≡ Passed
     passes Passed is seven = is
     passes (Refused refusal) is seven =
-        let own : sheetAnswer (sheetOf numbers) [] (addOf figure style) ≡ answerOf check =
-        add-refused-item drawing (sheetOf numbers .width) (sheetOf numbers .height) state item (ap answerOf is)
-        ∙ sym (ap answerOf is) in
+        let own : sheetAnswer (sheetOf numbers) [] (addOf figure style) ≡ check =
+        add-refused-item drawing (sheetOf numbers .width) (sheetOf numbers .height) state item is
+        ∙ sym is in
         absurd (styled-not-seven (figureOf figure) (styleOf style) (sym (told-is ∙ ap answerNumber own) ∙ seven))
 
     only : addTold numbers figure style ≡ 7 → (check ≡ Passed) × NoSheetOrBroken numbers
@@ -194,7 +208,7 @@ add-told-seven numbers figure style records = (only, always)
         let answered-seven = number-seven (sheetAnswer (sheetOf numbers) [] (addOf figure style)) (sym told-is ∙ seven) in (
           passed,
           fails-iff numbers .0
-              (add-broken-sheet-only drawing (sheetOf numbers .width) (sheetOf numbers .height) state item (ap answerOf passed) answered-seven),
+              (add-broken-sheet-only drawing (sheetOf numbers .width) (sheetOf numbers .height) state item passed answered-seven),
         )
 
     always : (check ≡ Passed) × NoSheetOrBroken numbers → addTold numbers figure style ≡ 7
@@ -202,4 +216,4 @@ add-told-seven numbers figure style records = (only, always)
         let fails = fails-iff numbers .1 broken in
         told-is
         ∙ ap answerNumber
-        (add-refused-broken-sheet drawing (sheetOf numbers .width) (sheetOf numbers .height) state item (ap answerOf passed) fails)
+        (add-refused-broken-sheet drawing (sheetOf numbers .width) (sheetOf numbers .height) state item passed fails)

@@ -8,13 +8,15 @@ use mathlib.Core.List.{List, [], _∷_}
 use Prim.Native.Nat.{ℕ, _*_}
 use lib.IntN.{ℤ}
 use lib.ListN.{length, drop, getD}
-use Rattle.book.specs.Book.{Answer, Call, bookAnswers, bookAfterAll}
+use Rattle.refusal.specs.declared.Checked.{Checked}
+use Rattle.refusal.specs.declared.Checked.the-variants.{Passed}
+use Rattle.refusal.specs.Refusal.{answerNumber}
+use Rattle.book.specs.Book.{Call, bookAnswers, bookAfterAll}
 use Rattle.book.specs.Book as book
 use Rattle.book.specs.Sheet.{WithinSide, answer}
 use Rattle.book.specs.Demand3.{AfterCalls}
 use Rattle.drawing.specs.Drawing.{StyledFigure, drawing}
 use Rattle.sheet.specs.Sheet.{stateOf}
-use Rattle.sheet_calls.specs.SheetCalls.{answerNumber}
 use Rattle.record_numbers.specs.RecordNumbers.{isFigure, isStyle}
 use Rattle.sheet_record.specs.SheetRecord.{sheetLength, sheetOf}
 use Rattle.host_answers.specs.HostAnswers.{noRecord, outAfter, told}
@@ -72,10 +74,10 @@ bookCalls [] = []
 bookCalls (call ∷ calls) = cond (givesRecords call) (callOf call ∷ bookCalls calls) (bookCalls calls)
 
 -- what the host is told by the book's answers to these, in turn: of a call whose numbers are no record, that they are none
-unfoldable pub toldBy : List HostCall → List Answer → List ℕ
+unfoldable pub toldBy : List HostCall → List Checked → List ℕ
 toldBy [] answers = []
 toldBy (call ∷ calls) answers =
-    cond (givesRecords call) (answerNumber (getD answers 0 book.accepted) ∷ toldBy calls (drop 1 answers)) (noRecord ∷ toldBy calls answers)
+    cond (givesRecords call) (answerNumber (getD answers 0 Passed) ∷ toldBy calls (drop 1 answers)) (noRecord ∷ toldBy calls answers)
 
 -- the numbers that `open` leaves in a list that the host lent
 abbrev pub opened : ℕ → ℕ → List ℤ → List ℤ

@@ -8,7 +8,8 @@ use native.Mathlib.Omega.{arith}
 use lib.IntN.{ℤ}
 use lib.ListN.{set, getD}
 use lib.Seq.{getD-set-same}
-use Rattle.book.specs.Book.{accepted, paint}
+use Rattle.refusal.specs.declared.Checked.the-variants.{Passed}
+use Rattle.book.specs.Book.{paint}
 use Rattle.sheet.proofs.Places.{kept-few}
 use Rattle.sheet.proofs.Answers.{added-room, painted-accepted}
 use Rattle.sheet.specs.declared.Sheet.{Sheet}
@@ -23,12 +24,12 @@ use Rattle.sheet_record.proofs.Parts.{sixteen}
 use Rattle.sheet_record.proofs.ReadBack.{layer-in-place}
 use Rattle.host_sheets.specs.Sheets.{addOf, nextRow, withPainted}
 
-pub added-place : (numbers figure style : List ℤ) → sheetAnswer (sheetOf numbers) [] (addOf figure style) ≡ accepted → sheetOf numbers .count < 16
+pub added-place : (numbers figure style : List ℤ) → sheetAnswer (sheetOf numbers) [] (addOf figure style) ≡ Passed → sheetOf numbers .count < 16
 added-place numbers figure style e =
     let s = sheetOf numbers in
     added-room (s .width) (s .height) (s .count) (s .layers) (sixteen numbers) (styledFigure (figureOf figure) (styleOf style)) [] e
 
-pub painted-place : (numbers : List ℤ) (i : ℕ) (canvas : List ℕ) → sheetAnswer (sheetOf numbers) canvas (paint i) ≡ accepted → i < 16
+pub painted-place : (numbers : List ℤ) (i : ℕ) (canvas : List ℕ) → sheetAnswer (sheetOf numbers) canvas (paint i) ≡ Passed → i < 16
 painted-place numbers i canvas e =
     let s = sheetOf numbers in
     let told = painted-accepted (s .width) (s .height) (s .count) (s .layers) (sixteen numbers) i canvas e in
@@ -36,7 +37,7 @@ painted-place numbers i canvas e =
     let few = kept-few (s .width) (s .height) (s .count) (s .layers) (sixteen numbers) (told .rules) in
     omega arith
 
-pub painted-few : (numbers : List ℤ) (i : ℕ) (canvas : List ℕ) → sheetAnswer (sheetOf numbers) canvas (paint i) ≡ accepted → sheetOf numbers .count ≤ 16
+pub painted-few : (numbers : List ℤ) (i : ℕ) (canvas : List ℕ) → sheetAnswer (sheetOf numbers) canvas (paint i) ≡ Passed → sheetOf numbers .count ≤ 16
 painted-few numbers i canvas e =
     let s = sheetOf numbers in
     kept-few (s .width) (s .height) (s .count) (s .layers) (sixteen numbers)
@@ -50,7 +51,7 @@ painted-next numbers i place =
     ap (λ (l : Layer). l .«next_row»)
     (getD-set-same (sheetOf numbers .layers) i (paintedLayer (getD (sheetOf numbers .layers) i blankLayer)) blankLayer (omega (arith, sixteen numbers)))
 
-pub painted-numbers : (numbers : List ℤ) (i : ℕ) (canvas : List ℕ) → sheetAnswer (sheetOf numbers) canvas (paint i) ≡ accepted
+pub painted-numbers : (numbers : List ℤ) (i : ℕ) (canvas : List ℕ) → sheetAnswer (sheetOf numbers) canvas (paint i) ≡ Passed
     → rowPainted numbers i ≡ withPainted numbers i (carriedOutSheet (sheetOf numbers) (paint i))
 painted-numbers numbers i canvas e =
     let place = painted-place numbers i canvas e in
@@ -58,7 +59,7 @@ painted-numbers numbers i canvas e =
     (sym (painted-next numbers i place ∙ ap (λ (l : Layer). paintedLayer l .«next_row») (layer-in-place numbers i place)))
 
 -- and the new count is small
-pub added-count : (numbers figure style : List ℤ) → sheetAnswer (sheetOf numbers) [] (addOf figure style) ≡ accepted
+pub added-count : (numbers figure style : List ℤ) → sheetAnswer (sheetOf numbers) [] (addOf figure style) ≡ Passed
     → sheetAfter (sheetOf numbers) [] (addOf figure style) .count < 2147483648
 unfolding carriedOutSheet
 added-count numbers figure style e =

@@ -12,7 +12,9 @@ use lib.Seq.{sets, getD-set-same, length-sets}
 use lib.Signed.{leZ}
 use Rattle.signed.specs.Signed.{floor0}
 use Rattle.signed.proofs.Laws.{int}
-use Rattle.book.specs.Book.{Answer, accepted, refused, paint}
+use Rattle.refusal.specs.declared.Checked.{Checked}
+use Rattle.refusal.specs.declared.Checked.the-variants.{Passed, Refused}
+use Rattle.book.specs.Book.{paint}
 use Rattle.book.proofs.Tests.{and-true-parts}
 use Rattle.drawing.specs.Drawing.{styledFigure}
 use Rattle.layers.specs.declared.Layer.{Layer}
@@ -30,10 +32,10 @@ pub paint-reads-back : PaintReadsBack
 unfolding paintNumbers carriedOutSheet
 paint-reads-back numbers i canvas is = by (sheetAnswer (sheetOf numbers) canvas (paint i)) refl
   where
-    by : (a : Answer) → sheetAnswer (sheetOf numbers) canvas (paint i) ≡ a
+    by : (a : Checked) → sheetAnswer (sheetOf numbers) canvas (paint i) ≡ a
         → (isSheet (paintNumbers numbers i canvas) ≡ true) × (sheetOf (paintNumbers numbers i canvas) ≡ sheetAfter (sheetOf numbers) canvas (paint i))
-    by (refused n) e = rw (is, e) (is, refl)
-    by accepted e =
+    by (Refused refusal) e = rw (is, e) (is, refl)
+    by Passed e =
         let place = painted-place numbers i canvas e in
         let few = painted-few numbers i canvas e in
         let long = sheet-length numbers is in
@@ -59,10 +61,10 @@ add-reads-back numbers figure style all = by (sheetAnswer (sheetOf numbers) [] (
     is-style : isStyle style ≡ true
     is-style = and-true-parts (isFigure figure) (isStyle style) (and-true-parts (isSheet numbers) (isFigure figure && isStyle style) all .1) .1
 
-    by : (a : Answer) → sheetAnswer (sheetOf numbers) [] (addOf figure style) ≡ a
+    by : (a : Checked) → sheetAnswer (sheetOf numbers) [] (addOf figure style) ≡ a
         → (isSheet (addNumbers numbers figure style) ≡ true) × (sheetOf (addNumbers numbers figure style) ≡ sheetAfter (sheetOf numbers) [] (addOf figure style))
-    by (refused n) e = rw (is, is-figure, is-style, e) (is, refl)
-    by accepted e =
+    by (Refused refusal) e = rw (is, is-figure, is-style, e) (is, refl)
+    by Passed e =
         let place = added-place numbers figure style e in
         let long = sheet-length numbers is in
         let records = records-of-few numbers (omega (arith, place)) in

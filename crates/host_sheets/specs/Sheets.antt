@@ -7,14 +7,14 @@ use Prim.Native.Nat.{ℕ, zero, suc, _+_}
 use lib.IntN.{ℤ, pos, negsuc}
 use lib.ListN.{set, getD, replicate}
 use Rattle.geometry.specs.Limits.{maxLayers}
-use Rattle.refusal.specs.Refusal.{Outcome, unless}
+use Rattle.refusal.specs.declared.Checked.{Checked}
+use Rattle.refusal.specs.Refusal.{answerNumber, Outcome, unless, keeping}
 use Rattle.canvas_size.specs.CanvasSize.{canvasSizeCheck}
-use Rattle.book.specs.Book.{Answer, ifAccepted, Call, add, paint}
+use Rattle.book.specs.Book.{Call, add, paint}
 use Rattle.drawing.specs.Drawing.{StyledFigure, styledFigure}
 use Rattle.layers.specs.Layers.{blankLayer}
 use Rattle.sheet.specs.declared.Sheet.{Sheet}
 use Rattle.sheet.specs.Sheet.{openedSheet, sheetAnswer, sheetAfter, canvasAfter}
-use Rattle.sheet_calls.specs.SheetCalls.{answerNumber}
 use Rattle.record_numbers.specs.RecordNumbers.{isFigure, isStyle, figureOf, styleOf}
 use Rattle.sheet_record.specs.SheetRecord.{isSheet, sheetOf, placeAt, layerPut}
 use Rattle.host_answers.specs.HostAnswers.{noRecord, ifRecord}
@@ -39,12 +39,12 @@ abbrev pub openSaid : ℕ → ℕ → Outcome
 openSaid W H = unless (canvasSizeCheck W H) (openedNumbers W H)
 
 -- ---- Adding and painting: what the host is told; of numbers that are no sheet, figure or style, that they are no record.
-abbrev pub toldOf : Bool → Answer → ℕ
+abbrev pub toldOf : Bool → Checked → ℕ
 toldOf are answer = cond are (answerNumber answer) noRecord
 
 -- the numbers after a call: as they were, unless it was accepted
-abbrev pub numbersAfter : Bool → Answer → List ℤ → List ℤ → List ℤ
-numbersAfter are answer before after = ifRecord are before (ifAccepted answer after before)
+abbrev pub numbersAfter : Bool → Checked → List ℤ → List ℤ → List ℤ
+numbersAfter are answer before after = ifRecord are before (keeping answer before after)
 
 -- the next row of a layer
 abbrev pub nextRow : Sheet → ℕ → ℤ

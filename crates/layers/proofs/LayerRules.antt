@@ -13,7 +13,6 @@ use lib.Signed.{leZ, ltZ}
 use Rattle.signed.specs.Signed.{Near}
 use Rattle.signed.proofs.Laws.{int, add-law}
 use Rattle.refusal.specs.declared.Refusal.{Refusal}
-use Rattle.refusal.specs.declared.Checked.{Checked}
 use Rattle.refusal.specs.declared.Checked.the-variants.{Passed, Refused}
 use Rattle.rectangle.specs.declared.Rectangle.{Rectangle}
 use Rattle.geometry.specs.Bounds.{widePoint}
@@ -29,9 +28,9 @@ use Rattle.style.specs.Style.{styleCheck, outsideStrokeWidth}
 use Rattle.style.proofs.StrokeWidths.{style-passed, outside-within-stroke}
 use Rattle.book.specs.Sheet.{layerOwes, someLayerOwes, layerKeepsRules, overtakes, noneOvertakes, layersKeepRules}
 use Rattle.book.specs.Sheet.{isAccepted}
-use Rattle.book.specs.Book.{accepted, hasRow}
-use Rattle.book.proofs.Tests.{and-true-parts, is-accepted-true, refused-apart}
-use Rattle.drawing.specs.Drawing.{answerOf, styledCheck, drawing}
+use Rattle.book.specs.Book.{hasRow}
+use Rattle.book.proofs.Tests.{and-true-parts, is-accepted-true}
+use Rattle.drawing.specs.Drawing.{styledCheck, drawing}
 use Rattle.drawing.specs.Rows.{strokeRows}
 use Rattle.drawing.proofs.Rows.{rows-of-ellipse, rows-of-crate-box, rows-of-w3c-box, RowsWithin, box-rows-within, ellipse-rows-within}
 use Rattle.layers.specs.declared.Layer.{Layer}
@@ -205,10 +204,6 @@ found-all layers count rows found =
     ∙ sym (kept-by-parts (take count layers))
 
 -- ---- what the rules bound
-pub answer-passed : (check : Checked) → answerOf check ≡ accepted → check ≡ Passed
-answer-passed Passed e = refl
-answer-passed (Refused refusal) e = absurd (refused-apart e)
-
 -- a layer that its functions take
 pub record LayerWithin (l : Layer) : Type 0 where
   pub figure : OwnFigure (l .figure)
@@ -221,9 +216,9 @@ unfolding layerKeepsRules layerRows
 kept-within l kept =
     let area = strokeRows (l .figure) (l .style) in
     let end : ℤ = area .first +ℤ pos (area .count) in
-    let p = and-true-parts (isAccepted (answerOf (styledCheck (l .figure) (l .style)))) (leZ (area .first) (l .«next_row») && leZ (l .«next_row») end) kept in
+    let p = and-true-parts (isAccepted (styledCheck (l .figure) (l .style))) (leZ (area .first) (l .«next_row») && leZ (l .«next_row») end) kept in
     let q = and-true-parts (leZ (area .first) (l .«next_row»)) (leZ (l .«next_row») end) (p .1) in
-    let passed = answer-passed (styledCheck (l .figure) (l .style)) (is-accepted-true (answerOf (styledCheck (l .figure) (l .style))) (p .0)) in
+    let passed = is-accepted-true (styledCheck (l .figure) (l .style)) (p .0) in
     let figure = checked-figure (l .figure) (l .style) passed in
     let stroke = checked-stroke (l .figure) (l .style) passed in
     let rows = stroke-rows-within (l .style) stroke (l .figure) figure in

@@ -13,19 +13,18 @@ use Rattle.refusal.proofs.Checks.{passed-first}
 use Rattle.figure.specs.declared.Figure.{Figure}
 use Rattle.style.specs.declared.Style.{Style}
 use Rattle.canvas_size.specs.CanvasSize.{canvasSizeCheck, canvasLengthCheck}
-use Rattle.book.specs.Book.{accepted}
 use Rattle.book.specs.Sheet.{State}
 use Rattle.book.specs.Whole.{SingleLayerWhole}
 use Rattle.book.proofs.Whole.{single-layer-whole}
-use Rattle.drawing.specs.Drawing.{StyledFigure, styledFigure, styledCheck, answerOf, drawing}
+use Rattle.drawing.specs.Drawing.{StyledFigure, styledFigure, styledCheck, drawing}
 use Rattle.paint.specs.Paint.{paintCheck, painted, SheetComesToTheSame, OneCallIsSheet}
 use Rattle.paint.proofs.Passed.{paint-passed}
 use Rattle.paint.proofs.Painted.{whole-is-painted}
 
 module _ (f : Figure) (style : Style) (W H : ℕ) (lent : List ℕ) (passed : paintCheck f style W H lent ≡ Passed) where
-  figure-allowed : answerOf (styledCheck f style) ≡ accepted
+  figure-allowed : styledCheck f style ≡ Passed
   unfolding paintCheck
-  figure-allowed = ap answerOf (passed-first (styledCheck f style) (canvasSizeCheck W H) (passed-first _ (canvasLengthCheck W H (length lent)) passed))
+  figure-allowed = passed-first (styledCheck f style) (canvasSizeCheck W H) (passed-first _ (canvasLengthCheck W H (length lent)) passed)
 
   whole : SingleLayerWhole drawing W H lent (styledFigure f style)
   whole =

@@ -10,7 +10,6 @@ use Rattle.refusal.specs.Refusal.{number, orElse, Outcome, refused, answered, u
 use Rattle.figure.specs.declared.Figure.{Figure}
 use Rattle.style.specs.declared.Style.{Style}
 use Rattle.canvas_size.specs.CanvasSize.{canvasSizeCheck, canvasLengthCheck}
-use Rattle.book.specs.Book.{accepted}
 use Rattle.book.specs.Sheet.{answers, afterAll, opened}
 use Rattle.book.specs.Whole.{overpaintRows, wholeCalls}
 use Rattle.drawing.specs.Drawing.{styledFigure, styledCheck, drawing}
@@ -41,7 +40,7 @@ canvasAfter f style W H canvas = keeping (paintCheck f style W H canvas) canvas 
 -- a sheet just opened takes the figure, accepts a paint call for each of its rows, and comes to the canvas that the one call leaves
 pub record SheetComesToTheSame (f : Figure) (style : Style) (W H : ℕ) (lent : List ℕ) : Type 0 where
   pub all-accepted : answers drawing W H (opened drawing lent) (wholeCalls drawing (styledFigure f style))
-      ≡ replicate (suc (drawing .rows (styledFigure f style))) accepted
+      ≡ replicate (suc (drawing .rows (styledFigure f style))) Passed
   pub same-bytes : afterAll drawing W H (opened drawing lent) (wholeCalls drawing (styledFigure f style)) .canvas
       ≡ canvasAfter f style W H lent
 

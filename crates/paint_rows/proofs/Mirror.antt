@@ -25,7 +25,8 @@ use Rattle.ellipse_styled.specs.EllipseStyled.{ellipseStyledRow}
 use Rattle.ellipse_styled.specs.Relative.{runsFrom}
 use Rattle.ellipse_styled.proofs.Rows.{styled-lacking, styled-none, styled-found}
 use Rattle.style.specs.declared.Style.{Style}
-use Rattle.book.specs.Book.{accepted, Drawing}
+use Rattle.refusal.specs.declared.Checked.the-variants.{Passed}
+use Rattle.book.specs.Book.{Drawing}
 use Rattle.book.specs.Canvas.{canvasRow}
 use Rattle.book.proofs.CanvasRows.{canvases-equal-by-rows}
 use Rattle.book.proofs.Picture.{paint-row-length, paint-row-here, paint-row-other}
@@ -86,7 +87,7 @@ module _ (rowAt : ℤ → StyledRow) (style : Style) (W H : ℕ) where
   one =
       record {
         Item = ℕ;
-        refuse = λ _. accepted;
+        refuse = λ _. Passed;
         first = λ _. pos 0;
         rows = λ _. 0;
         over = λ _ y row. overpaint style (rowAt y) row;

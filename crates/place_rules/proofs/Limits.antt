@@ -29,8 +29,7 @@ use Rattle.style.specs.Style.{styleCheck}
 use Rattle.style.proofs.StrokeWidths.{style-passed}
 use Rattle.book.specs.Sheet.{isAccepted}
 use Rattle.book.proofs.Tests.{and-true-parts, and-true-of, is-accepted-true, tests-equal}
-use Rattle.drawing.specs.Drawing.{answerOf, styledCheck}
-use Rattle.layers.proofs.LayerRules.{answer-passed}
+use Rattle.drawing.specs.Drawing.{styledCheck}
 use Rattle.record_numbers.specs.RecordNumbers.{numberAt, listFrom, allFrom, within, noneNegative, isFigure, isStyle, sizeOf, cornersOf, figureOf, styleOf}
 use Rattle.sheet_record.specs.SheetRecord.{isLayer, layerOf}
 use Rattle.sheet_record.proofs.ReadBack.{each-of-all, all-of-each}
@@ -372,21 +371,21 @@ module _ (f : ℕ → ℤ) where
           by-kind false e = rw (sign, e) (small-side (f k) (small-radius k from to (radii-passed _ (checked e))))
 
   kept-by-limits : (figureKept numbers && styleKept numbers)
-      ≡ (isLayer numbers && isAccepted (answerOf (styledCheck (layerOf numbers .figure) (layerOf numbers .style))))
+      ≡ (isLayer numbers && isAccepted (styledCheck (layerOf numbers .figure) (layerOf numbers .style)))
   kept-by-limits =
       let check = styledCheck (layerOf numbers .figure) (layerOf numbers .style) in
-      tests-equal (figureKept numbers && styleKept numbers) (isLayer numbers && isAccepted (answerOf check))
+      tests-equal (figureKept numbers && styleKept numbers) (isLayer numbers && isAccepted check)
       (λ e. let l = limits-of-kept e in and-true-of (layer-of-limits l) (rw (checks-of-limits l)))
-      (λ e. let p = and-true-parts (isLayer numbers) (isAccepted (answerOf check)) e in
-      kept-of-limits (limits-of-layer (p .0) (answer-passed check (is-accepted-true (answerOf check) (p .1)))))
+      (λ e. let p = and-true-parts (isLayer numbers) (isAccepted check) e in
+      kept-of-limits (limits-of-layer (p .0) (is-accepted-true check (p .1))))
 
 -- ---- the same of any 18 numbers
 module _ (l : List ℤ) (long : length l ≡ 18) where
   pub kept-is-layer : (figureKept l && styleKept l)
-      ≡ (isLayer l && isAccepted (answerOf (styledCheck (layerOf l .figure) (layerOf l .style))))
+      ≡ (isLayer l && isAccepted (styledCheck (layerOf l .figure) (layerOf l .style)))
   kept-is-layer =
       subst (λ (n : List ℤ). (figureKept n && styleKept n) ≡
-      (isLayer n && isAccepted (answerOf (styledCheck (layerOf n .figure) (layerOf n .style)))))
+      (isLayer n && isAccepted (styledCheck (layerOf n .figure) (layerOf n .style))))
       (sym (eighteen-numbers l long)) (kept-by-limits (numberAt l))
 
   pub kept-limits : (figureKept l && styleKept l) ≡ true → PlaceLimits (numberAt l)

@@ -12,7 +12,7 @@ use Rattle.layer_rows.specs.declared.LayerRows.{LayerRows}
 use Rattle.layer_rows.proofs.RowTests.{and-false}
 use Rattle.book.specs.Sheet.{isAccepted, layerKeepsRules}
 use Rattle.book.proofs.Tests.{and-true-parts}
-use Rattle.drawing.specs.Drawing.{answerOf, styledCheck}
+use Rattle.drawing.specs.Drawing.{styledCheck}
 use Rattle.layers.specs.Layers.{layerRows}
 use Rattle.sheet_record.specs.SheetRecord.{isLayer, layerOf}
 use Rattle.place_rules.specs.PlaceRules.{placeKept, figureKept, styleKept}
@@ -28,7 +28,7 @@ module _ (n : List ℤ) (long : length n ≡ 18) where
   place-kept-by : placeKept n ≡ (limits && (leZ (rows .first) (rows .next) && leZ (rows .next) (rows .end)))
   unfolding layerKeepsRules layerRows
   place-kept-by =
-      let checked : Bool = isAccepted (answerOf (styledCheck (layerOf n .figure) (layerOf n .style))) in
+      let checked : Bool = isAccepted (styledCheck (layerOf n .figure) (layerOf n .style)) in
       sym (and-assoc (isLayer n) checked (leZ (rows .first) (rows .next) && leZ (rows .next) (rows .end)))
       ∙ ap (λ (t : Bool). t && (leZ (rows .first) (rows .next) && leZ (rows .next) (rows .end))) (sym (kept-is-layer n long))
 

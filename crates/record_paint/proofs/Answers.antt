@@ -18,8 +18,7 @@ use Rattle.refusal.specs.Refusal.{refuseIf}
 use Rattle.canvas_size.specs.CanvasSize.{canvasLengthCheck}
 use Rattle.layer_rows.specs.declared.LayerRows.{LayerRows}
 use Rattle.layer_rows.specs.LayerRows.{rowsOwe, someRowsOwe, rowsInOrder}
-use Rattle.book.specs.Book.{Answer, paint as Call·paint}
-use Rattle.drawing.specs.Drawing.{answerOf}
+use Rattle.book.specs.Book.{paint as Call·paint}
 use Rattle.layers.specs.declared.Layer.{Layer}
 use Rattle.layers.specs.Layers.{blankLayer, layerRows}
 use Rattle.sheet.proofs.Answers.{paint-length, paint-no-layer, paint-finished, paint-owed, paint-free}
@@ -106,13 +105,13 @@ module _ (n : List ℤ) (long : length n ≡ 291) (count layer : ℕ) (canvas : 
   abbrev H : ℕ
   H = sheetOf n .height
 
-  abbrev answered : Answer
+  abbrev answered : Checked
   answered = sheetAnswer (sheetOf n) canvas (Call·paint layer)
 
   abbrev found : Asked
   found = askedFrom n layer (nextOf n layer) 0 count
 
-  pub answer-by-asked : answerOf (askedCheck W H (length canvas) count layer found) ≡ answered
+  pub answer-by-asked : askedCheck W H (length canvas) count layer found ≡ answered
   unfolding askedCheck
   answer-by-asked = by-length (canvasLengthCheck W H (length canvas)) refl
     where
@@ -130,7 +129,7 @@ module _ (n : List ℤ) (long : length n ≡ 291) (count layer : ℕ) (canvas : 
 
       by-owed : canvasLengthCheck W H (length canvas) ≡ Passed → (within : layer < count) → found .left ≡ true → (t : Bool)
           → found .owed ≡ t
-          → answerOf (askedCheck W H (length canvas) count layer found) ≡ answered
+          → askedCheck W H (length canvas) count layer found ≡ answered
       by-owed size within is-left t e =
           let whole : layer ≡ 0 + layer = omega arith in
           let left = sym (left-at n layer (nextOf n layer) layer count 0 whole within) ∙ is-left in
@@ -144,14 +143,14 @@ module _ (n : List ℤ) (long : length n ≡ 291) (count layer : ℕ) (canvas : 
           by-test : (t : Bool)
               → someRowsOwe (map layerRows (take layer (sheetOf n .layers))) (layerRows (getD (sheetOf n .layers) layer blankLayer) .next) ≡ t
               → leZ (layerRows (getD (sheetOf n .layers) layer blankLayer) .end) (layerRows (getD (sheetOf n .layers) layer blankLayer) .next) ≡ false
-              → layer < sheetOf n .count → answerOf (refuseIf t RowOwed) ≡ answered
+              → layer < sheetOf n .count → refuseIf t RowOwed ≡ answered
           by-test true owed going here =
               sym (paint-owed W H (sheetOf n .count) (sheetOf n .layers) (sixteen n) layer canvas rules size here going owed)
           by-test false owed going here =
               sym (paint-free W H (sheetOf n .count) (sheetOf n .layers) (sixteen n) layer canvas rules size here going owed)
 
       by-left : canvasLengthCheck W H (length canvas) ≡ Passed → (within : layer < count) → (t : Bool) → found .left ≡ t
-          → answerOf (askedCheck W H (length canvas) count layer found) ≡ answered
+          → askedCheck W H (length canvas) count layer found ≡ answered
       by-left size within true e = by-owed size within e (found .owed) refl
       by-left size within false e =
           let whole : layer ≡ 0 + layer = omega arith in
@@ -163,7 +162,7 @@ module _ (n : List ℤ) (long : length n ≡ 291) (count layer : ℕ) (canvas : 
           (sym (ap (λ (r : LayerRows). leZ (r .end) (r .next)) (own within)) ∙ finished)))
 
       by-count : canvasLengthCheck W H (length canvas) ≡ Passed → (t : Bool) → leb count layer ≡ t
-          → answerOf (askedCheck W H (length canvas) count layer found) ≡ answered
+          → askedCheck W H (length canvas) count layer found ≡ answered
       by-count size true e =
           rw (size, e)
           (sym (paint-no-layer W H (sheetOf n .count) (sheetOf n .layers) (sixteen n) layer canvas rules size
@@ -171,7 +170,7 @@ module _ (n : List ℤ) (long : length n ≡ 291) (count layer : ℕ) (canvas : 
       by-count size false e = by-left size (leb-false count layer e) (found .left) refl
 
       by-length : (check : Checked) → canvasLengthCheck W H (length canvas) ≡ check
-          → answerOf (askedCheck W H (length canvas) count layer found) ≡ answered
+          → askedCheck W H (length canvas) count layer found ≡ answered
       by-length (Refused refusal) e =
           rw e (sym (paint-length W H (sheetOf n .count) (sheetOf n .layers) (sixteen n) layer canvas rules refusal e))
       by-length Passed e = by-count e (leb count layer) refl

@@ -17,8 +17,8 @@ ghost use mathlib.Core.List.{List};
 ghost use Prim.Native.Nat.{ℕ};
 ghost use lib.ListN.{length};
 ghost use Rattle.signed.specs.Signed.{Is};
-ghost use Rattle.book.specs.Book.{accepted, paint as Call·paint};
-ghost use Rattle.drawing.specs.Drawing.{answerOf};
+ghost use Rattle.refusal.specs.declared.Checked.the-variants.{Passed as Checked·Passed};
+ghost use Rattle.book.specs.Book.{paint as Call·paint};
 ghost use Rattle.sheet.specs.Sheet.{sheetAnswer, canvasAfter};
 ghost use Rattle.sheet_record.specs.SheetRecord.{sheetLength, sheetOf, rowPainted};
 ghost use Rattle.record_paint.specs.RecordPaint.{nextOf, askedCheck};
@@ -60,7 +60,7 @@ fn check_asked(size: CanvasSize, bytes: usize, count: u32, layer: u32, asked: As
 // Refusals 7, 8, 10, 11 and 12 of painting on a canvas that is so many bytes long.
 pub fn check_paint(numbers: &[i32], layer: u32, bytes: usize) -> Checked
     requires { ⌜ length (now numbers) ≡ sheetLength ⌝ }
-    ensures { λ r. ⌜ ((canvas : List ℕ) → length canvas ≡ bytes → answerOf r ≡ sheetAnswer (sheetOf (now (numbers .entry))) canvas (Call·paint layer)) ⌝ }
+    ensures { λ r. ⌜ ((canvas : List ℕ) → length canvas ≡ bytes → r ≡ sheetAnswer (sheetOf (now (numbers .entry))) canvas (Call·paint layer)) ⌝ }
 {
     let size = size_of(numbers);
     let Checked::Passed = size.check() else {
@@ -80,7 +80,7 @@ pub fn check_paint(numbers: &[i32], layer: u32, bytes: usize) -> Checked
 // Paints the next row of a layer, where that was not refused, and moves its next row down by one.
 pub fn paint_next(numbers: &mut [i32], layer: u32, canvas: &mut [u8])
     requires { ⌜ length (now numbers) ≡ sheetLength ⌝ }
-    requires { ⌜ sheetAnswer (sheetOf (now numbers)) (now canvas) (Call·paint layer) ≡ accepted ⌝ }
+    requires { ⌜ sheetAnswer (sheetOf (now numbers)) (now canvas) (Call·paint layer) ≡ Checked·Passed ⌝ }
     ensures { λ _. ⌜ now (numbers .exit) ≡ rowPainted (now (numbers .entry)) layer ⌝ }
     ensures { λ _. ⌜ now (canvas .exit) ≡ canvasAfter (sheetOf (now (numbers .entry))) (now (canvas .entry)) (Call·paint layer) ⌝ }
 {

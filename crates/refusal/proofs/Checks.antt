@@ -12,16 +12,20 @@ use Rattle.refusal.specs.declared.Checked.{Checked}
 use Rattle.refusal.specs.declared.Checked.the-variants.{Passed, Refused}
 use Rattle.refusal.specs.Refusal.{number, refusalOf, refuseIf, orElse, above, beyond}
 
+-- what is refused has not passed
+pub refused-apart : {refusal : Refusal} → Refused refusal ≡ Passed → ⊥
+refused-apart e = let z : _≡_ {A = ℕ} 0 1 = cc in omega arith
+
 pub passed-first : (a b : Checked) → orElse a b ≡ Passed → a ≡ Passed
 passed-first (Refused refusal) b e = e
 passed-first Passed b e = refl
 
 pub passed-next : (a b : Checked) → orElse a b ≡ Passed → b ≡ Passed
-passed-next (Refused refusal) b e = let z : _≡_ {A = ℕ} 0 1 = cc in absurd (omega arith)
+passed-next (Refused refusal) b e = absurd (refused-apart e)
 passed-next Passed b e = e
 
 pub passed-condition : (t : Bool) (refusal : Refusal) → refuseIf t refusal ≡ Passed → t ≡ false
-passed-condition true refusal e = let z : _≡_ {A = ℕ} 0 1 = cc in absurd (omega arith)
+passed-condition true refusal e = absurd (refused-apart e)
 passed-condition false refusal e = refl
 
 pub passed-above : (limit n : ℕ) (refusal : Refusal) → refuseIf (above limit n) refusal ≡ Passed → n ≤ limit

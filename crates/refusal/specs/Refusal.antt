@@ -10,7 +10,7 @@ use Rattle.refusal.specs.declared.Refusal.the-variants.{Side, Radius, Po
 use Rattle.refusal.specs.declared.Checked.{Checked}
 use Rattle.refusal.specs.declared.Checked.the-variants.{Passed, Refused}
 
--- the numbers of the table
+-- the numbers of the table ('The records'); what each is for stands at the enum (src/lib.rt)
 abbrev pub number : Refusal → ℕ
 number Side = 1
 number Radius = 2
@@ -26,12 +26,17 @@ number NoRowLeft = 11
 number RowOwed = 12
 number BufferLength = 13
 
+-- the number that stands for a check, and for the answer to a call that gives no values: 0 for passed, which is accepted
+abbrev pub answerNumber : Checked → ℕ
+answerNumber Passed = 0
+answerNumber (Refused refusal) = number refusal
+
 -- the refusal that a check found; of a check that passed nobody asks for it
 abbrev pub refusalOf : Checked → Refusal
 refusalOf (Refused refusal) = refusal
 refusalOf Passed = Side
 
--- one condition of the table
+-- one condition of the table ('The records', its second column)
 abbrev pub refuseIf : Bool → Refusal → Checked
 refuseIf true refusal = Refused refusal
 refuseIf false refusal = Passed
@@ -58,7 +63,7 @@ abbrev pub unless : Checked → List ℤ → Outcome
 unless (Refused refusal) values = refused (number refusal)
 unless Passed values = answered values
 
--- a lent buffer after a call: after a refusal as it was
+-- what a call may change (a lent buffer, a sheet, the book) after it: after a refusal as it was ('The records', below the table)
 abbrev pub keeping : {A : Type 0} → Checked → A → A → A
 keeping (Refused refusal) before after = before
 keeping Passed before after = after

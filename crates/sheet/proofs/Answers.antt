@@ -16,16 +16,15 @@ use Rattle.refusal.specs.declared.Refusal.the-variants.{SheetRule, CanvasLength
 use Rattle.refusal.specs.declared.Checked.{Checked}
 use Rattle.refusal.specs.declared.Checked.the-variants.{Passed, Refused}
 use Rattle.geometry.specs.Limits.{maxLayers}
-use Rattle.refusal.specs.Refusal.{number, orElse as firstOf, refuseIf as Geometry·refuseIf}
+use Rattle.refusal.specs.Refusal.{orElse, refuseIf}
+use Rattle.refusal.proofs.Checks.{refused-apart, passed-first, passed-next, passed-condition}
 use Rattle.canvas_size.specs.CanvasSize.{canvasLengthCheck}
 use Rattle.canvas_size.proofs.Sides.{canvas-length-passed}
-use Rattle.book.specs.Book.{Answer, accepted, refused, brokenSheet, otherCanvasLength, layersFull, noSuchLayer, allRowsPainted, rowOwed}
-use Rattle.book.specs.Book.{refuseIf, _orElse_, add, paint}
+use Rattle.book.specs.Book.{add, paint}
 use Rattle.book.specs.Sheet.{keepsRules, layerAnswer, answer}
-use Rattle.book.proofs.Tests.{refused-apart, or-else-accepted-parts, refuse-if-accepted}
 use Rattle.book.proofs.Lists.{take-map}
 use Rattle.book.proofs.LowestNumber.{paint-refused-broken-sheet, paint-answer-on-sheet}
-use Rattle.drawing.specs.Drawing.{StyledFigure, answerOf, drawing}
+use Rattle.drawing.specs.Drawing.{StyledFigure, drawing}
 use Rattle.layers.specs.declared.Layer.{Layer}
 use Rattle.layer_rows.specs.declared.LayerRows.{LayerRows}
 use Rattle.layer_rows.specs.LayerRows.{someRowsOwe}
@@ -34,27 +33,16 @@ use Rattle.layer_rows.proofs.RowTests.{noRows}
 use Rattle.layers.proofs.LayerRules.{owe-by-rows}
 use Rattle.sheet.proofs.Places.{layers-many, layer-at, layer-past, layers-before, kept-few}
 
--- ---- The numbers that `book` writes are those of the table.
-pub sheet-numbers : (brokenSheet ≡ refused (number SheetRule)) × (otherCanvasLength ≡ refused (number CanvasLength))
-    × (layersFull ≡ refused (number SheetFull)) × (noSuchLayer ≡ refused (number NoLayer))
-    × (allRowsPainted ≡ refused (number NoRowLeft)) × (rowOwed ≡ refused (number RowOwed))
-sheet-numbers = (refl, refl, refl, refl, refl, refl)
-
--- the first refusal of two checks is the first of their answers
-pub answer-or-else : (a b : Checked) → answerOf (firstOf a b) ≡ (answerOf a orElse answerOf b)
-answer-or-else (Refused refusal) b = refl
-answer-or-else Passed b = refl
-
 module _ (W H count : ℕ) (places : List Layer) (sixteen : length places ≡ 16) where
   abbrev kept : Bool
   kept = keepsRules drawing W H (layersOf count places)
 
   -- ---- an add call
   module _ (item : StyledFigure) (canvas : List ℕ) where
-    abbrev added : Answer
+    abbrev added : Checked
     added = answer drawing W H (stateOf count places canvas) (add item)
 
-    pub add-broken : kept ≡ false → added ≡ (drawing .refuse item orElse brokenSheet)
+    pub add-broken : kept ≡ false → added ≡ orElse (drawing .refuse item) (Refused SheetRule)
     unfolding answer
     add-broken broken = rw broken
 
@@ -62,30 +50,31 @@ module _ (W H count : ℕ) (places : List Layer) (sixteen : length places ≡ 16
       many : length (layersOf count places) ≡ count
       many = layers-many count places sixteen (kept-few W H count places sixteen rules)
 
-      pub add-full : 16 ≤ count → added ≡ (drawing .refuse item orElse layersFull)
+      pub add-full : 16 ≤ count → added ≡ orElse (drawing .refuse item) (Refused SheetFull)
       unfolding answer
       add-full full = rw (rules, le-leb maxLayers (length (layersOf count places)) (omega (arith, many)))
 
-      pub add-free : count < 16 → added ≡ (drawing .refuse item orElse accepted)
+      pub add-free : count < 16 → added ≡ orElse (drawing .refuse item) Passed
       unfolding answer
       add-free free = rw (rules, lt-leb maxLayers (length (layersOf count places)) (omega (arith, many)))
 
-    pub added-room : added ≡ accepted → count < 16
+    pub added-room : added ≡ Passed → count < 16
     unfolding answer
     added-room e =
         let test : Bool = leb maxLayers (length (layersOf count places)) in
-        let p = or-else-accepted-parts (drawing .refuse item) (refuseIf (not kept) brokenSheet orElse refuseIf test layersFull) e in
-        let q = or-else-accepted-parts (refuseIf (not kept) brokenSheet) (refuseIf test layersFull) (p .1) in
-        let rules = not-false kept (refuse-if-accepted (not kept) brokenSheet refused-apart (q .0)) in
-        let free = leb-false maxLayers (length (layersOf count places)) (refuse-if-accepted test layersFull refused-apart (q .1)) in
+        let seven = refuseIf (not kept) SheetRule in
+        let nine = refuseIf test SheetFull in
+        let own = passed-next (drawing .refuse item) (orElse seven nine) e in
+        let rules = not-false kept (passed-condition (not kept) SheetRule (passed-first seven nine own)) in
+        let free = leb-false maxLayers (length (layersOf count places)) (passed-condition test SheetFull (passed-next seven nine own)) in
         omega (arith, many rules)
 
   -- ---- a paint call
   module _ (i : ℕ) (canvas : List ℕ) where
-    abbrev painted : Answer
+    abbrev painted : Checked
     painted = answer drawing W H (stateOf count places canvas) (paint i)
 
-    pub paint-broken : kept ≡ false → painted ≡ brokenSheet
+    pub paint-broken : kept ≡ false → painted ≡ Refused SheetRule
     paint-broken broken = paint-refused-broken-sheet drawing W H (stateOf count places canvas) i broken
 
     module _ (rules : kept ≡ true) where
@@ -93,14 +82,14 @@ module _ (W H count : ℕ) (places : List Layer) (sixteen : length places ≡ 16
       few = kept-few W H count places sixteen rules
 
       pub paint-length : (refusal : Refusal) → canvasLengthCheck W H (length canvas) ≡ Refused refusal
-          → painted ≡ refused (number refusal)
+          → painted ≡ Refused refusal
       unfolding answer canvasLengthCheck
       paint-length refusal check = by-test (eqb (length canvas) (W * H)) refl check
         where
-          by-test : (t : Bool) → eqb (length canvas) (W * H) ≡ t → Geometry·refuseIf (not t) CanvasLength ≡ Refused refusal
-              → painted ≡ refused (number refusal)
+          by-test : (t : Bool) → eqb (length canvas) (W * H) ≡ t → refuseIf (not t) CanvasLength ≡ Refused refusal
+              → painted ≡ Refused refusal
           by-test true e check = let z : _≡_ {A = ℕ} 0 1 = cc in absurd (omega arith)
-          by-test false e check = let same : CanvasLength ≡ refusal = cc in rw (rules, e) (ap (λ (r : Refusal). refused (number r)) same)
+          by-test false e check = let same : CanvasLength ≡ refusal = cc in rw (rules, e) (ap Refused same)
 
       module _ (size : canvasLengthCheck W H (length canvas) ≡ Passed) where
         on-sheet : painted ≡ layerAnswer drawing (layersOf count places) i (getElem? (layersOf count places) i)
@@ -108,7 +97,7 @@ module _ (W H count : ℕ) (places : List Layer) (sixteen : length places ≡ 16
             paint-answer-on-sheet drawing W H (stateOf count places canvas) i rules
             (canvas-length-passed W H (length canvas) size)
 
-        pub paint-no-layer : count ≤ i → painted ≡ noSuchLayer
+        pub paint-no-layer : count ≤ i → painted ≡ Refused NoLayer
         paint-no-layer past = on-sheet ∙ rw (layer-past count places sixteen few i past)
 
         module _ (within : i < count) where
@@ -116,21 +105,21 @@ module _ (W H count : ℕ) (places : List Layer) (sixteen : length places ≡ 16
           layer = getD places i blankLayer
 
           by-layer : painted
-              ≡ (refuseIf (leZ (layerRows layer .end) (layerRows layer .next)) allRowsPainted
-              orElse refuseIf (someRowsOwe (map layerRows (take i places)) (layerRows layer .next)) rowOwed)
+              ≡ orElse (refuseIf (leZ (layerRows layer .end) (layerRows layer .next)) NoRowLeft)
+              (refuseIf (someRowsOwe (map layerRows (take i places)) (layerRows layer .next)) RowOwed)
           unfolding layerRows
           by-layer =
               on-sheet
               ∙ rw (layer-at count places sixteen few i within, layers-before count places sixteen few i (omega arith), owe-by-rows (take i places) (layer .«next_row»))
 
-          pub paint-finished : leZ (layerRows layer .end) (layerRows layer .next) ≡ true → painted ≡ allRowsPainted
+          pub paint-finished : leZ (layerRows layer .end) (layerRows layer .next) ≡ true → painted ≡ Refused NoRowLeft
           paint-finished finished = by-layer ∙ rw finished
 
           module _ (left : leZ (layerRows layer .end) (layerRows layer .next) ≡ false) where
-            pub paint-owed : someRowsOwe (map layerRows (take i places)) (layerRows layer .next) ≡ true → painted ≡ rowOwed
+            pub paint-owed : someRowsOwe (map layerRows (take i places)) (layerRows layer .next) ≡ true → painted ≡ Refused RowOwed
             paint-owed owed = by-layer ∙ rw (left, owed)
 
-            pub paint-free : someRowsOwe (map layerRows (take i places)) (layerRows layer .next) ≡ false → painted ≡ accepted
+            pub paint-free : someRowsOwe (map layerRows (take i places)) (layerRows layer .next) ≡ false → painted ≡ Passed
             paint-free free = by-layer ∙ rw (left, free)
 
     -- accepted, the sheet keeps its rules, the canvas has its length, and there is such a layer
@@ -139,23 +128,24 @@ module _ (W H count : ℕ) (places : List Layer) (sixteen : length places ≡ 16
       pub size : length canvas ≡ W * H
       pub within : i < count
 
-    pub painted-accepted : painted ≡ accepted → PaintAccepted
+    pub painted-accepted : painted ≡ Passed → PaintAccepted
     unfolding answer
     painted-accepted e =
         let fits : Bool = eqb (length canvas) (W * H) in
         let found : Option _ = getElem? (layersOf count places) i in
-        let by : Answer = layerAnswer drawing (layersOf count places) i (getElem? (layersOf count places) i) in
-        let p = or-else-accepted-parts (refuseIf (not kept) brokenSheet) (refuseIf (not fits) otherCanvasLength orElse by) e in
-        let q = or-else-accepted-parts (refuseIf (not fits) otherCanvasLength) by (p .1) in
-        let rules = not-false kept (refuse-if-accepted (not kept) brokenSheet refused-apart (p .0)) in
+        let by : Checked = layerAnswer drawing (layersOf count places) i (getElem? (layersOf count places) i) in
+        let seven = refuseIf (not kept) SheetRule in
+        let eight = refuseIf (not fits) CanvasLength in
+        let rest = passed-next seven (orElse eight by) e in
+        let rules = not-false kept (passed-condition (not kept) SheetRule (passed-first seven (orElse eight by) e)) in
         record {
           rules = rules;
-          size = eqb-true (length canvas) (W * H) (not-false fits (refuse-if-accepted (not fits) otherCanvasLength refused-apart (q .0)));
-          within = by-place rules (leb count i) refl (q .1);
+          size = eqb-true (length canvas) (W * H) (not-false fits (passed-condition (not fits) CanvasLength (passed-first eight by rest)));
+          within = by-place rules (leb count i) refl (passed-next eight by rest);
         }
       where
         by-place : (rules : kept ≡ true) (t : Bool) → leb count i ≡ t
-            → layerAnswer drawing (layersOf count places) i (getElem? (layersOf count places) i) ≡ accepted → i < count
+            → layerAnswer drawing (layersOf count places) i (getElem? (layersOf count places) i) ≡ Passed → i < count
         by-place rules true past e =
             let lacking = layer-past count places sixteen (few rules) i (leb-true count i past) in
             absurd (refused-apart (sym (ap (layerAnswer drawing (layersOf count places) i) lacking) ∙ e))

@@ -17,7 +17,8 @@ use Rattle.corner_radii.specs.CornerRadii.{radiusCheck, radiiCheck}
 use Rattle.figure.specs.Figure.{confined, offsetBox}
 use Rattle.style.specs.Style.{styleCheck, outsideStrokeWidth}
 use Rattle.canvas_size.specs.CanvasSize.{canvasSizeCheck}
-use Rattle.book.specs.Book.{accepted, refused, add, paint, hasRow}
+use Rattle.refusal.specs.Refusal.{answerNumber}
+use Rattle.book.specs.Book.{add, paint, hasRow}
 use Rattle.book.specs.Sheet.{answer, keepsRules, layersKeepRules, layerKeepsRules, noneOvertakes, overtakes, someLayerOwes, layerOwes}
 use Rattle.drawing.specs.Rows.{strokeRows}
 use Rattle.drawing.specs.Drawing.{StyledFigure, styledCheck}
@@ -53,9 +54,9 @@ box =
 abbrev boxes : Sheet
 boxes = record { width = 4; height = 4; count = 2; layers = addedLayer box ∷ addedLayer box ∷ replicate 14 blankLayer }
 
-pub table-examples : (openAnswer 0 4 ≡ refused 6) × (sheetAnswer (blanks 17) bytes (paint 0) ≡ refused 7)
-    × (sheetAnswer (openedSheet 4 4) (replicate 15 0) (paint 0) ≡ refused 8) × (sheetAnswer (blanks 16) [] (add box) ≡ refused 9)
-    × (sheetAnswer (openedSheet 4 4) bytes (paint 0) ≡ refused 10) × (sheetAnswer (blanks 1) bytes (paint 0) ≡ refused 11)
-    × (sheetAnswer boxes bytes (paint 1) ≡ refused 12) × (sheetAnswer boxes bytes (paint 0) ≡ accepted)
+pub table-examples : (answerNumber (openAnswer 0 4) ≡ 6) × (answerNumber (sheetAnswer (blanks 17) bytes (paint 0)) ≡ 7)
+    × (answerNumber (sheetAnswer (openedSheet 4 4) (replicate 15 0) (paint 0)) ≡ 8) × (answerNumber (sheetAnswer (blanks 16) [] (add box)) ≡ 9)
+    × (answerNumber (sheetAnswer (openedSheet 4 4) bytes (paint 0)) ≡ 10) × (answerNumber (sheetAnswer (blanks 1) bytes (paint 0)) ≡ 11)
+    × (answerNumber (sheetAnswer boxes bytes (paint 1)) ≡ 12) × (answerNumber (sheetAnswer boxes bytes (paint 0)) ≡ 0)
 unfolding answer keepsRules layersKeepRules layerKeepsRules noneOvertakes overtakes someLayerOwes layerOwes hasRow canvasSizeCheck styledCheck strokeRows sizeCheck positionCheck center withCenter offsetSide offset confined offsetBox styleCheck outsideStrokeWidth center2x fromCenter2x threshold inside scanline hasRows rowCount firstColumn radiusCheck radiiCheck
 table-examples = (refl, refl, refl, refl, refl, refl, refl, refl)

@@ -8,7 +8,11 @@ use native.Mathlib.Omega.{arith}
 use native.Mathlib.Numerals.{add-one}
 use lib.ListN.{length, take, set, getD, length-set}
 use lib.Seq.{take-suc-set, take-set-lt}
-use Rattle.book.specs.Book.{Answer, accepted, refused, ifAccepted, Call, add, paint}
+use Rattle.refusal.specs.declared.Refusal.{Refusal}
+use Rattle.refusal.specs.declared.Checked.{Checked}
+use Rattle.refusal.specs.declared.Checked.the-variants.{Passed, Refused}
+use Rattle.refusal.specs.Refusal.{keeping}
+use Rattle.book.specs.Book.{Call, add, paint}
 use Rattle.book.specs.Sheet.{Layers, State, answer, carriedOut, after, paintRow}
 use Rattle.book.proofs.Lists.{set-map}
 use Rattle.book.proofs.LowestNumber.{add-any-canvas, refused-changes-nothing, accepted-is-carried-out}
@@ -23,11 +27,11 @@ use Rattle.sheet.proofs.Answers.{added-room, PaintAccepted, painted-acc
 
 module _ (s : Sheet) (sixteen : length (s .layers) ≡ 16) (canvas : List ℕ) where
   -- ---- refused: the record
-  pub refused-record : (call : Call StyledFigure) (n : ℕ) → sheetAnswer s canvas call ≡ refused n → sheetAfter s canvas call ≡ s
-  refused-record call n e = rw e
+  pub refused-record : (call : Call StyledFigure) (refusal : Refusal) → sheetAnswer s canvas call ≡ Refused refusal → sheetAfter s canvas call ≡ s
+  refused-record call refusal e = rw e
 
   -- ---- added
-  module _ (item : StyledFigure) (e : sheetAnswer s canvas (add item) ≡ accepted) where
+  module _ (item : StyledFigure) (e : sheetAnswer s canvas (add item) ≡ Passed) where
     pub added-record : sheetAfter s canvas (add item) ≡ carriedOutSheet s (add item)
     added-record = rw e
 
@@ -47,7 +51,7 @@ module _ (s : Sheet) (sixteen : length (s .layers) ≡ 16) (canvas : List ℕ) w
     added-state = ap (λ (l : Layers drawing). record { layers = l; canvas = canvas }) added-layers
 
   -- ---- painted
-  module _ (i : ℕ) (e : sheetAnswer s canvas (paint i) ≡ accepted) where
+  module _ (i : ℕ) (e : sheetAnswer s canvas (paint i) ≡ Passed) where
     told : PaintAccepted (s .width) (s .height) (s .count) (s .layers) sixteen i canvas
     told = painted-accepted (s .width) (s .height) (s .count) (s .layers) sixteen i canvas e
 
@@ -89,8 +93,8 @@ module _ (s : Sheet) (sixteen : length (s .layers) ≡ 16) (canvas : List ℕ) w
         ∙ sym painted-carried-out
 
   -- ---- refused: the canvas
-  pub refused-canvas : (call : Call StyledFigure) (n : ℕ) → sheetAnswer s canvas call ≡ refused n → canvasAfter s canvas call ≡ canvas
-  refused-canvas call n e =
+  pub refused-canvas : (call : Call StyledFigure) (refusal : Refusal) → sheetAnswer s canvas call ≡ Refused refusal → canvasAfter s canvas call ≡ canvas
+  refused-canvas call refusal e =
       ap (λ (t : State StyledFigure). t .canvas) (refused-changes-nothing drawing (s .width) (s .height) (stateOf s canvas) call e)
 
   -- ---- The record and the canvas after a call are the sheet and the canvas of `book`'s definitions after it.
@@ -98,17 +102,17 @@ module _ (s : Sheet) (sixteen : length (s .layers) ≡ 16) (canvas : List ℕ) w
       → stateOf (sheetAfter s canvas call) (canvasAfter s canvas call) ≡ after drawing (s .width) (s .height) (stateOf s canvas) call
   state-after call = by-answer call (sheetAnswer s canvas call) refl
     where
-      by-answer : (call : Call StyledFigure) (a : Answer) → sheetAnswer s canvas call ≡ a
+      by-answer : (call : Call StyledFigure) (a : Checked) → sheetAnswer s canvas call ≡ a
           → stateOf (sheetAfter s canvas call) (canvasAfter s canvas call) ≡ after drawing (s .width) (s .height) (stateOf s canvas) call
-      by-answer call (refused n) e =
-          ap₂ stateOf (refused-record call n e) (refused-canvas call n e)
+      by-answer call (Refused refusal) e =
+          ap₂ stateOf (refused-record call refusal e) (refused-canvas call refusal e)
           ∙ sym (refused-changes-nothing drawing (s .width) (s .height) (stateOf s canvas) call e)
-      by-answer (add item) accepted e =
+      by-answer (add item) Passed e =
           let out = accepted-is-carried-out drawing (s .width) (s .height) (stateOf s canvas) (add item) e in
           ap₂ stateOf (added-record item e) (ap (λ (t : State StyledFigure). t .canvas) (out ∙ sym (added-state item e)))
           ∙ added-state item e
           ∙ sym out
-      by-answer (paint i) accepted e =
+      by-answer (paint i) Passed e =
           ap (λ (t : Sheet). stateOf t (canvasAfter s canvas (paint i))) (painted-record i e)
           ∙ painted-state i e
           ∙ sym (accepted-is-carried-out drawing (s .width) (s .height) (stateOf s canvas) (paint i) e)
@@ -123,11 +127,11 @@ module _ (s : Sheet) (sixteen : length (s .layers) ≡ 16) (canvas : List ℕ) w
   unfolding carriedOutSheet
   same-frame-after call = by-answer call (sheetAnswer s canvas call)
     where
-      by-answer : (call : Call StyledFigure) (a : Answer) → SameFrame (ifAccepted a (carriedOutSheet s call) s)
-      by-answer call (refused n) = record { width = refl; height = refl; places = sixteen }
-      by-answer (add item) accepted =
+      by-answer : (call : Call StyledFigure) (a : Checked) → SameFrame (keeping a s (carriedOutSheet s call))
+      by-answer call (Refused refusal) = record { width = refl; height = refl; places = sixteen }
+      by-answer (add item) Passed =
           record { width = refl; height = refl; places = length-set (s .layers) (s .count) (addedLayer item) ∙ sixteen }
-      by-answer (paint i) accepted =
+      by-answer (paint i) Passed =
           record { width = refl; height = refl; places = length-set (s .layers) i (paintedLayer (getD (s .layers) i blankLayer)) ∙ sixteen }
 
 -- ---- An add call takes no canvas.

@@ -6,12 +6,13 @@ use mathlib.Core.Path.{_≡_, refl, sym, ap, ap₂, subst, subst₂, _∙_}
 use mathlib.Core.List.{List, [], _∷_}
 use Prim.Native.Nat.{ℕ}
 use lib.ListN.{length}
-use Rattle.book.specs.Book.{Answer, Call, bookAfterAll}
+use Rattle.refusal.specs.declared.Checked.{Checked}
+use Rattle.book.specs.Book.{Call, bookAfterAll}
 use Rattle.book.specs.Sheet.{State, Rules, answer, answers, afterAll}
 use Rattle.book.specs.Demand3.{AfterCalls}
 use Rattle.book.proofs.Demand3.{demand3}
 use Rattle.book.proofs.RulesKept.{rules-kept-by-all}
-use Rattle.drawing.specs.Drawing.{StyledFigure, answerOf, drawing}
+use Rattle.drawing.specs.Drawing.{StyledFigure, drawing}
 use Rattle.sheet.proofs.Places.{sides-pass}
 use Rattle.sheet.specs.declared.Sheet.{Sheet}
 use Rattle.sheet.specs.Sheet.{stateOf, openedSheet, sheetAnswer, sheetAfter, canvasAfter}
@@ -38,7 +39,7 @@ calls-made (call ∷ calls) s sixteen canvas =
     let state = state-after s sixteen canvas call in
     let rest = calls-made calls next (frame .places) painted in
     record {
-      answered = ap (λ (l : List Answer). sheetAnswer s canvas call ∷ l)
+      answered = ap (λ (l : List Checked). sheetAnswer s canvas call ∷ l)
           (rest .answered
           ∙ ap₂ (λ (w h : ℕ). answers drawing w h (stateOf next painted) calls) (frame .width) (frame .height)
           ∙ ap (λ (t : State StyledFigure). answers drawing (s .width) (s .height) t calls) state);
@@ -56,7 +57,7 @@ sheet-demand3 W H width height lent size calls =
     let made = calls-made calls (openedSheet W H) refl lent in
     let state : State StyledFigure = stateOf (sheetReached W H lent calls) (canvasReached W H lent calls) in
     record {
-      open-accepted = ap answerOf (sides-pass W H width height);
+      open-accepted = sides-pass W H width height;
       answered = made .answered ∙ demand .answered;
       width = made .width;
       height = made .height;

@@ -6,24 +6,24 @@ use Prim.Native.Nat.{ℕ}
 use lib.ListN.{getD}
 use Rattle.refusal.specs.declared.Refusal.{Refusal}
 use Rattle.refusal.specs.declared.Refusal.the-variants.{SheetRule}
-use Rattle.refusal.specs.Refusal.{number}
-use Rattle.book.specs.Book.{Answer, accepted, refused}
+use Rattle.refusal.specs.declared.Checked.{Checked}
+use Rattle.refusal.specs.declared.Checked.the-variants.{Passed, Refused}
 use Rattle.layers.specs.declared.Layer.{Layer}
 use Rattle.layers.specs.Layers.{blankLayer}
 use Rattle.sheet.specs.declared.checks.Asked.{Asked}
-use Rattle.sheet.specs.declared.checks.Asked.the-variants.{Row, Refused}
+use Rattle.sheet.specs.declared.checks.Asked.the-variants as asked
 
--- the answer that it leads to ('The records', the table): a refusal its number; a row is painted
-abbrev pub askedAnswer : Asked → Answer
-askedAnswer (Row y) = accepted
-askedAnswer (Refused refusal) = refused (number refusal)
+-- the answer that it leads to ('The records', the table): a refusal; a row is painted
+abbrev pub askedAnswer : Asked → Checked
+askedAnswer (asked.Row y) = Passed
+askedAnswer (asked.Refused refusal) = Refused refusal
 
 -- the refusal found; where a row is found nobody asks for it
 abbrev pub askedRefusal : Asked → Refusal
-askedRefusal (Row y) = SheetRule
-askedRefusal (Refused refusal) = refusal
+askedRefusal (asked.Row y) = SheetRule
+askedRefusal (asked.Refused refusal) = refusal
 
 -- the row found is the next row of the layer in that place
 abbrev pub NextRow : List Layer → ℕ → Asked → Type 0
-NextRow places i (Row y) = y ≡ getD places i blankLayer .«next_row»
-NextRow places i (Refused refusal) = Unit {0}
+NextRow places i (asked.Row y) = y ≡ getD places i blankLayer .«next_row»
+NextRow places i (asked.Refused refusal) = Unit {0}

@@ -5,12 +5,14 @@ use mathlib.Core.List.{List}
 use Prim.Native.Nat.{ℕ, _+_}
 use lib.IntN.{pos, _+ℤ_}
 use lib.ListN.{set, getD, replicate}
-use Rattle.refusal.specs.Refusal.{number}
+use Rattle.refusal.specs.declared.Checked.{Checked}
+use Rattle.refusal.specs.declared.Checked.the-variants.{Passed, Refused}
+use Rattle.refusal.specs.Refusal.{keeping}
 use Rattle.geometry.specs.Limits.{maxLayers}
 use Rattle.canvas_size.specs.CanvasSize.{canvasSizeCheck}
-use Rattle.book.specs.Book.{Answer, accepted, refused, ifAccepted, Call, add, paint}
+use Rattle.book.specs.Book.{Call, add, paint}
 use Rattle.book.specs.Sheet.{State, answer, after}
-use Rattle.drawing.specs.Drawing.{StyledFigure, answerOf, drawing}
+use Rattle.drawing.specs.Drawing.{StyledFigure, drawing}
 use Rattle.drawing.specs.Rows.{strokeRows}
 use Rattle.layers.specs.declared.Layer.{Layer}
 use Rattle.layers.specs.Layers.{blankLayer, stateOf as Layers·stateOf}
@@ -18,10 +20,10 @@ use Rattle.sheet.specs.declared.Sheet.{Sheet}
 use Rattle.sheet.specs.declared.SheetAnswer.{SheetAnswer}
 use Rattle.sheet.specs.declared.SheetAnswer.the-variants as sheet-answer
 
--- what an answer says: a refusal its number in the table, or accepted ('The records')
-abbrev pub said : SheetAnswer → Answer
-said (sheet-answer.Refused refusal) = refused (number refusal)
-said sheet-answer.Accepted = accepted
+-- what an answer says: a refusal of the table, or accepted ('The records')
+abbrev pub said : SheetAnswer → Checked
+said (sheet-answer.Refused refusal) = Refused refusal
+said sheet-answer.Accepted = Passed
 
 -- a sheet record with the canvas that its paint calls get: its layers are those in its first places, and 17 if it says more than
 -- 16 ('The records')
@@ -29,8 +31,8 @@ abbrev pub stateOf : Sheet → List ℕ → State StyledFigure
 stateOf s canvas = Layers·stateOf (s .count) (s .layers) canvas
 
 -- ---- Opening ('Sheet'): 6, else accepted; and a sheet of that size without layers, after 6 too, when every later call refuses it.
-abbrev pub openAnswer : ℕ → ℕ → Answer
-openAnswer W H = answerOf (canvasSizeCheck W H)
+abbrev pub openAnswer : ℕ → ℕ → Checked
+openAnswer W H = canvasSizeCheck W H
 
 abbrev pub openedSheet : ℕ → ℕ → Sheet
 openedSheet W H = record { width = W; height = H; count = 0; layers = replicate maxLayers blankLayer }
@@ -39,7 +41,7 @@ openedSheet W H = record { width = W; height = H; count = 0; layers = replicate 
 
 -- the answer to a call on any sheet record ('The records', the table): 1, 2, 3, 5, 7, 9 to an add call, whatever the canvas;
 -- 7, 8, 10, 11, 12 to a paint call
-abbrev pub sheetAnswer : Sheet → List ℕ → Call StyledFigure → Answer
+abbrev pub sheetAnswer : Sheet → List ℕ → Call StyledFigure → Checked
 sheetAnswer s canvas call = answer drawing (s .width) (s .height) (stateOf s canvas) call
 
 -- the record with a layer put in a place
@@ -64,7 +66,7 @@ carriedOutSheet s (paint i) = withLayer s (s .count) i (paintedLayer (getD (s .l
 
 -- the record after a call: after a refused one as given ('The records', below the table)
 abbrev pub sheetAfter : Sheet → List ℕ → Call StyledFigure → Sheet
-sheetAfter s canvas call = ifAccepted (sheetAnswer s canvas call) (carriedOutSheet s call) s
+sheetAfter s canvas call = keeping (sheetAnswer s canvas call) s (carriedOutSheet s call)
 
 -- the canvas after a call: after a refused one as lent, and after an add call too
 abbrev pub canvasAfter : Sheet → List ℕ → Call StyledFigure → List ℕ

@@ -8,7 +8,9 @@ use mathlib.Core.List.{List, [], _∷_}
 use Prim.Native.Nat.{ℕ, _*_}
 use lib.ListN.{length}
 use Rattle.geometry.specs.Limits.{maxLayers}
-use Rattle.book.specs.Book.{Answer, accepted, Call, add, bookAnswers, bookAfterAll}
+use Rattle.refusal.specs.declared.Checked.{Checked}
+use Rattle.refusal.specs.declared.Checked.the-variants.{Passed}
+use Rattle.book.specs.Book.{Call, add, bookAnswers, bookAfterAll}
 use Rattle.book.specs.Sheet.{WithinSide, Rules, answer}
 use Rattle.book.specs.Demand3.{AfterCalls}
 use Rattle.drawing.specs.Drawing.{StyledFigure, drawing}
@@ -21,7 +23,7 @@ use Rattle.sheet.specs.Sheet.{stateOf, openAnswer, openedSheet, sheetAns
 -- first two of an empty one: by `AddTakesNoCanvas` below, that is the step with any canvas.
 
 -- the answers to a list of calls on a record with a canvas (demand 3)
-unfoldable pub sheetAnswers : Sheet → List ℕ → List (Call StyledFigure) → List Answer
+unfoldable pub sheetAnswers : Sheet → List ℕ → List (Call StyledFigure) → List Checked
 sheetAnswers s canvas [] = []
 sheetAnswers s canvas (call ∷ calls) =
     sheetAnswer s canvas call ∷ sheetAnswers (sheetAfter s canvas call) (canvasAfter s canvas call) calls
@@ -57,7 +59,7 @@ canvasReached W H lent calls = canvasAfterAll (openedSheet W H) lent calls
 -- the book says.
 pub record SheetDemand3Of (W H : ℕ) (lent : List ℕ) (calls : List (Call StyledFigure)) : Type 0 where
   -- opening is accepted
-  pub open-accepted : openAnswer W H ≡ accepted
+  pub open-accepted : openAnswer W H ≡ Passed
   -- the answers
   pub answered : sheetAnswers (openedSheet W H) lent calls ≡ bookAnswers drawing [] calls
   -- the record keeps its size

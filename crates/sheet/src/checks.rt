@@ -11,9 +11,10 @@ ghost use mathlib.Core.Bool.{true};
 ghost use mathlib.Core.List.{List, map};
 ghost use Prim.Native.Nat.{ℕ};
 ghost use lib.ListN.{length, take};
-ghost use Rattle.book.specs.Book.{_orElse_, add as Call·add, paint as Call·paint};
+ghost use Rattle.refusal.specs.Refusal.{orElse};
+ghost use Rattle.book.specs.Book.{add as Call·add, paint as Call·paint};
 ghost use Rattle.book.specs.Sheet.{keepsRules, answer};
-ghost use Rattle.drawing.specs.Drawing.{StyledFigure, answerOf, drawing};
+ghost use Rattle.drawing.specs.Drawing.{StyledFigure, drawing};
 ghost use Rattle.layers.specs.Layers.{layersOf, stateOf, layerRows};
 ghost use Rattle.sheet.specs.Asked.{askedAnswer, askedRefusal, NextRow};
 
@@ -51,7 +52,7 @@ pub fn test_rules(size: CanvasSize, count: u32, places: [Layer; Layer::PLACES]) 
 
 // Refusals 7 and 9 of adding.
 pub fn check_add(size: CanvasSize, count: u32, places: [Layer; Layer::PLACES]) -> Checked
-    ensures { λ r. ⌜ ((item : StyledFigure) (canvas : List ℕ) → answer drawing (size .width) (size .height) (stateOf count places canvas) (Call·add item) ≡ (drawing .refuse item orElse answerOf r)) ⌝ }
+    ensures { λ r. ⌜ ((item : StyledFigure) (canvas : List ℕ) → answer drawing (size .width) (size .height) (stateOf count places canvas) (Call·add item) ≡ orElse (drawing .refuse item) r) ⌝ }
 {
     let tested = test_rules(size, count, places);
     if !tested.kept {

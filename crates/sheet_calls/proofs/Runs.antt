@@ -15,7 +15,9 @@ use Rattle.refusal.specs.declared.Checked.the-variants.{Passed, Refused}
 use Rattle.refusal.specs.Refusal.{number}
 use Rattle.canvas_size.specs.CanvasSize.{canvasSizeCheck, canvasLengthCheck}
 use Rattle.canvas_size.proofs.Sides.{canvas-size-passed, canvas-length-passed}
-use Rattle.book.specs.Book.{Answer, Call, bookAfterAll}
+use Rattle.refusal.specs.declared.Checked.{Checked}
+use Rattle.refusal.specs.Refusal.{answerNumber}
+use Rattle.book.specs.Book.{Call, bookAfterAll}
 use Rattle.book.specs.Sheet.{State}
 use Rattle.book.specs.Demand3.{AfterCalls}
 use Rattle.drawing.specs.Drawing.{StyledFigure, drawing}
@@ -28,7 +30,7 @@ use Rattle.record_numbers.specs.RecordNumbers.{listFrom}
 use Rattle.record_numbers.proofs.Walks.{list-from-here}
 use Rattle.call_numbers.specs.CallNumbers.{callOf, callNumbers, callsFrom, encodesCalls}
 use Rattle.call_numbers.proofs.Walks.{call-part}
-use Rattle.sheet_calls.specs.SheetCalls.{answerNumber, allRan, notCalls, refusedBy, lentCheck, runAnswer, Called, answersAfter, stateAfter, Ran}
+use Rattle.sheet_calls.specs.SheetCalls.{allRan, notCalls, refusedBy, lentCheck, runAnswer, Called, answersAfter, stateAfter, Ran}
 
 -- ---- The loop, from a sheet s₀ with its canvas and the list of answers.
 module _ (numbers : List ℤ) (count : ℕ) (s₀ : Sheet) (canvas₀ list : List ℕ) where
@@ -120,7 +122,7 @@ module _ (W H : ℕ) (lent list : List ℕ) (calls : List (Call StyledFigure)) w
         height = same-size .1 ∙ ap (λ (t : Sheet). t .height) just-opened;
         answered = answered
             ∙ ap (λ (t : Sheet). answersAfter list t lent calls) just-opened
-            ∙ ap (λ (l : List Answer). sets list 0 (map answerNumber l)) (demand .answered);
+            ∙ ap (λ (l : List Checked). sets list 0 (map answerNumber l)) (demand .answered);
         reached = subst (λ (t : State StyledFigure). AfterCalls drawing W H lent t (bookAfterAll drawing [] calls))
             (sym (reached ∙ ap (λ (t : Sheet). stateAfter t lent calls) just-opened)) (demand .reached);
       }

@@ -8,9 +8,9 @@ use lib.IntN.{ℤ}
 use lib.Seq.{sets}
 use Rattle.refusal.specs.declared.Checked.{Checked}
 use Rattle.refusal.specs.declared.Checked.the-variants.{Passed, Refused}
-use Rattle.refusal.specs.Refusal.{number, orElse, roomCheck}
+use Rattle.refusal.specs.Refusal.{number, answerNumber, orElse, roomCheck}
 use Rattle.canvas_size.specs.CanvasSize.{canvasSizeCheck, canvasLengthCheck}
-use Rattle.book.specs.Book.{Answer, accepted, refused, Call, bookAnswers, bookAfterAll}
+use Rattle.book.specs.Book.{Call, bookAnswers, bookAfterAll}
 use Rattle.book.specs.Sheet.{State}
 use Rattle.book.specs.Demand3.{AfterCalls}
 use Rattle.drawing.specs.Drawing.{StyledFigure, drawing}
@@ -21,11 +21,6 @@ use Rattle.sheet.specs.SheetDemand3.{sheetAnswers, sheetAfterAll, canvasAfterAl
 use Rattle.call_numbers.specs.CallNumbers.{callCount, encodesCalls}
 use Rattle.sheet_calls.specs.declared.RunAnswer.{RunAnswer}
 use Rattle.sheet_calls.specs.declared.RunAnswer.the-variants as run-answer
-
--- the number that stands for an answer in the list of answers: 0 for accepted
-abbrev pub answerNumber : Answer → ℕ
-answerNumber accepted = 0
-answerNumber (refused n) = n
 
 -- what a run says: it ran; the numbers are no list of calls, which has no number in the table; or it is refused by a number
 pub data RunSays : Type 0 where

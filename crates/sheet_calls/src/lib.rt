@@ -10,9 +10,10 @@ use sheet::SheetOutcome;
 ghost use mathlib.Core.Path.{_≡_};
 ghost use Prim.Native.Nat.{_*_, _≤_};
 ghost use lib.ListN.{length};
+ghost use Rattle.refusal.specs.Refusal.{answerNumber};
 ghost use Rattle.sheet.specs.Sheet.{said, stateOf};
 ghost use Rattle.call_numbers.specs.CallNumbers.{callLength, callOf, callsFrom, callsOf};
-ghost use Rattle.sheet_calls.specs.SheetCalls.{answerNumber, runSaid, runAnswer, Called, answersAfter, stateAfter, RunLeaves};
+ghost use Rattle.sheet_calls.specs.SheetCalls.{runSaid, runAnswer, Called, answersAfter, stateAfter, RunLeaves};
 
 pub enum RunAnswer {
     Refused(Refusal),

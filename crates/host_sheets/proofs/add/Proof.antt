@@ -9,12 +9,13 @@ use borrow.Author.Tests.{not-true, not-false}
 use lib.IntN.{ℤ, pos}
 use lib.ListN.{length-set, set}
 use mir.Facts.{toZ-ofZ}
-use Rattle.book.specs.Book.{accepted, add as Call·add}
+use Rattle.refusal.specs.declared.Checked.the-variants.{Passed}
+use Rattle.refusal.specs.Refusal.{answerNumber}
+use Rattle.book.specs.Book.{add as Call·add}
 use Rattle.sheet.specs.declared.Sheet.{Sheet}
 use Rattle.sheet.specs.declared.SheetAnswer.{SheetAnswer}
 use Rattle.sheet.specs.Sheet.{said, sheetAnswer, carriedOutSheet, sheetAfter}
 use Rattle.sheet.proofs.Records.{added-record}
-use Rattle.sheet_calls.specs.SheetCalls.{answerNumber}
 use Rattle.drawing.specs.Drawing.{styledFigure}
 use Rattle.record_numbers.specs.RecordNumbers.{isFigure, isStyle, figureOf, styleOf}
 use Rattle.record_numbers.proofs.Records.{figure-length, style-length}
@@ -52,7 +53,7 @@ after c =
 
 -- accepted, there is a place for the layer
 is-accepted : (c : tie.After-enum-told)
-    → sheetAnswer (sheetOf (c .before .before .before .before .before .before .before .before .before .before .before .before .before .before .args .sheet .now)) [] (addOf (c .before .before .before .before .before .before .before .before .before .before .before .before .before .before .args .figure .now) (c .before .before .before .before .before .before .before .before .before .before .before .before .before .before .args .style .now)) ≡ accepted
+    → sheetAnswer (sheetOf (c .before .before .before .before .before .before .before .before .before .before .before .before .before .before .args .sheet .now)) [] (addOf (c .before .before .before .before .before .before .before .before .before .before .before .before .before .before .args .figure .now) (c .before .before .before .before .before .before .before .before .before .before .before .before .before .before .args .style .now)) ≡ Passed
 is-accepted c = sym (says (c .before .before)) ∙ ap (λ (a : SheetAnswer). said a) (c .enum-told .given .1)
 
 carried : (c : tie.After-enum-told)

@@ -4,10 +4,10 @@ use mathlib.Core.Path.{_≡_, refl, sym, ap, _∙_}
 use mathlib.Core.Bool.{true}
 use borrow.Author.Needs.{needs}
 use borrow.Author.Tests.{not-true, not-false}
+use Rattle.refusal.specs.declared.Checked.the-variants.{Passed}
 use Rattle.refusal.specs.Refusal.{number}
 use Rattle.refusal.proofs.Checks.{refusal-found}
-use Rattle.book.specs.Book.{accepted, paint as Call·paint}
-use Rattle.drawing.specs.Drawing.{answerOf}
+use Rattle.book.specs.Book.{paint as Call·paint}
 use Rattle.sheet.specs.Sheet.{sheetAnswer}
 use Rattle.sheet.proofs.Records.{refused-canvas}
 use Rattle.sheet_record.specs.SheetRecord.{isSheet, sheetOf}
@@ -26,12 +26,12 @@ abbrev start : tie.After-check-paint → tie.Start
 start c = c .before .before .before .before .before .before
 
 checked : (c : tie.After-check-paint)
-    → answerOf (c .check-paint .result) ≡ sheetAnswer (sheetOf (start c .args .sheet .now)) (start c .args .canvas .now) (Call·paint (start c .args .layer))
+    → c .check-paint .result ≡ sheetAnswer (sheetOf (start c .args .sheet .now)) (start c .args .canvas .now) (Call·paint (start c .args .layer))
 checked c = c .check-paint .ensures (start c .args .canvas .now) refl
 
 is-accepted : (c : tie.After-enum-told)
-    → sheetAnswer (sheetOf (start (c .before .before) .args .sheet .now)) (start (c .before .before) .args .canvas .now) (Call·paint (start (c .before .before) .args .layer)) ≡ accepted
-is-accepted c = sym (checked (c .before .before)) ∙ ap answerOf (c .enum-told .given .1)
+    → sheetAnswer (sheetOf (start (c .before .before) .args .sheet .now)) (start (c .before .before) .args .canvas .now) (Call·paint (start (c .before .before) .args .layer)) ≡ Passed
+is-accepted c = sym (checked (c .before .before)) ∙ c .enum-told .given .1
 
 is-sheet-requires : tie.Need-is-sheet-requires
 is-sheet-requires c κs = search needs
@@ -68,7 +68,7 @@ returns-2 c =
     let told = c .before .before in
     let check = told .before .before in
     let a = start check .args in
-    let refused = sym (checked check) ∙ ap answerOf (told .enum-told2 .given .1) in
+    let refused = sym (checked check) ∙ told .enum-told2 .given .1 in
     rw (is-one (check .before .before), refused) (
       c .number .ensures ∙ ap number (refusal-found (c .before .refusal .ensures) (told .enum-told2 .given .1)),
       (refl, sym (refused-canvas (sheetOf (a .sheet .now)) (sixteen (a .sheet .now)) (a .canvas .now) (Call·paint (a .layer)) _ refused)),

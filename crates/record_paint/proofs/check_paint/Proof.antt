@@ -10,13 +10,13 @@ use borrow.Author.Tests.{not-true, not-false}
 use lib.IntN.{ℤ, pos}
 use mir.Facts.{toZ-ofZ}
 use Rattle.signed.specs.Signed.{floor0}
+use Rattle.refusal.specs.declared.Refusal.the-variants.{SheetRule}
 use Rattle.refusal.specs.declared.Checked.{Checked}
-use Rattle.refusal.specs.declared.Checked.the-variants.{Passed}
+use Rattle.refusal.specs.declared.Checked.the-variants.{Passed, Refused}
 use Rattle.canvas_size.specs.CanvasSize.{canvasSizeCheck}
-use Rattle.drawing.specs.Drawing.{answerOf}
 use Rattle.sheet.proofs.Places.{broken-size}
 use Rattle.sheet.proofs.Answers.{paint-broken}
-use Rattle.book.specs.Book.{brokenSheet, paint as Call·paint}
+use Rattle.book.specs.Book.{paint as Call·paint}
 use Rattle.sheet.specs.declared.Sheet.{Sheet}
 use Rattle.sheet.specs.Sheet.{sheetAnswer}
 use Rattle.record_numbers.specs.RecordNumbers.{numberAt, within}
@@ -36,7 +36,7 @@ sheet c = sheetOf (c .args .numbers .now)
 
 -- the answer to a sheet that breaks a rule
 refused : (c : tie.Start) (canvas : List ℕ) → rulesKept (c .args .numbers .now) (c .pre) ≡ false
-    → sheetAnswer (sheet c) canvas (Call·paint (c .args .layer)) ≡ brokenSheet
+    → sheetAnswer (sheet c) canvas (Call·paint (c .args .layer)) ≡ Refused SheetRule
 refused c canvas broken =
     paint-broken (sheet c .width) (sheet c .height) (sheet c .count) (sheet c .layers) (sixteen (c .args .numbers .now))
     (c .args .layer) canvas broken
@@ -167,8 +167,8 @@ returns-4 c =
     let rules = rules-by-places n (entry .pre) (passed read) (few read) ∙ found .0 in
     let size = read .before .before .before .before .before .before .before .before .before .size-of .ensures in
     λ canvas long.
-    ap answerOf
-    (c .check-asked .ensures ∙ (λ i. askedCheck (size .0 i) (size .1 i) (sym long i) (count-is read i) (a .layer) (found .1 i)))
+    c .check-asked .ensures
+    ∙ (λ i. askedCheck (size .0 i) (size .1 i) (sym long i) (count-is read i) (a .layer) (found .1 i))
     ∙ answer-by-asked n (entry .pre) (floor0 (numberAt n 2)) (a .layer) canvas rules
     (count-kept n (entry .pre) (passed read) (few read) rules) (count-few n (entry .pre) (passed read) (few read))
 

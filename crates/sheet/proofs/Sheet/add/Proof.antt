@@ -9,15 +9,16 @@ use lib.IntN.{ℤ}
 use lib.ListN.{length}
 use mir.Facts.{toZ-ofZ}
 use Prim.Native.Nat.{_+_, _<_}
-use Rattle.refusal.specs.declared.Checked.the-variants.{Passed}
-use Rattle.refusal.proofs.Checks.{passed-first, refused-early}
-use Rattle.book.specs.Book.{Answer, accepted, _orElse_, refused}
+use Rattle.refusal.specs.declared.Checked.{Checked}
+use Rattle.refusal.specs.declared.Checked.the-variants.{Passed, Refused}
+use Rattle.refusal.specs.Refusal.{orElse}
+use Rattle.refusal.proofs.Checks.{passed-first, refusal-found}
 use Rattle.book.specs.Book.{add as Call·add}
 use Rattle.drawing.specs.declared.StrokeRows.{StrokeRows}
-use Rattle.drawing.specs.Drawing.{StyledFigure, answerOf, styledFigure, styledCheck}
+use Rattle.drawing.specs.Drawing.{StyledFigure, styledFigure, styledCheck}
 use Rattle.layers.proofs.LayerRules.{checked-figure, checked-stroke}
 use Rattle.sheet.proofs.Places.{sixteen-places}
-use Rattle.sheet.proofs.Answers.{answer-or-else, added-room}
+use Rattle.sheet.proofs.Answers.{added-room}
 use Rattle.sheet.specs.Sheet.{sheetAnswer, withLayer, carriedOutSheet}
 use Rattle.sheet.proofs.Records.{refused-record, added-record}
 use Rattle.sheet.proofs.Sheet.add.Statement.{statement}
@@ -32,20 +33,20 @@ item c = styledFigure (c .args .figure) (c .args .style)
 -- the check made is that of the answer
 checked : (c : tie.After-or-else)
     → sheetAnswer (c .before .before .before .before .args .self) [] (Call·add (item (c .before .before .before .before)))
-    ≡ answerOf (c .or-else .result)
+    ≡ c .or-else .result
 checked c =
     let figure = c .before .check in
     let room = c .before .before .check-add in
     room .ensures (item (c .before .before .before .before)) []
-    ∙ ap (λ (t : Answer). t orElse answerOf (room .result)) (ap answerOf (sym (figure .ensures)))
-    ∙ sym (ap answerOf (c .or-else .ensures) ∙ answer-or-else (figure .result) (room .result))
+    ∙ ap (λ (t : Checked). orElse t (room .result)) (sym (figure .ensures))
+    ∙ sym (c .or-else .ensures)
 
 -- ---- accepted
 abbrev entry : tie.After-enum-told → tie.Start
 entry c = c .before .before .before .before .before .before
 
-passed : (c : tie.After-enum-told) → sheetAnswer (entry c .args .self) [] (Call·add (item (entry c))) ≡ accepted
-passed c = checked (c .before .before) ∙ ap answerOf (c .enum-told .given .1)
+passed : (c : tie.After-enum-told) → sheetAnswer (entry c .args .self) [] (Call·add (item (entry c))) ≡ Passed
+passed c = checked (c .before .before) ∙ c .enum-told .given .1
 
 figure-passed : (c : tie.After-enum-told) → styledCheck (entry c .args .figure) (entry c .args .style) ≡ Passed
 figure-passed c =
@@ -82,8 +83,8 @@ returns : tie.Need-returns
 returns c =
     let start = c .before .before .before .before .before .before .before in
     let told = c .before .enum-told2 .given .1 in
-    let says = checked (c .before .before .before) ∙ ap answerOf told in (
-      refused-early refused (c .refusal .ensures) told ∙ sym says,
+    let says = checked (c .before .before .before) ∙ told in (
+      ap Refused (refusal-found (c .refusal .ensures) told) ∙ sym says,
       sym (refused-record (start .args .self) (sixteen start) [] (Call·add (item start)) _ says),
     )
 

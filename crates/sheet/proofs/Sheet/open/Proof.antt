@@ -3,9 +3,8 @@
 use borrow.Author.Needs.{needs}
 use mathlib.Core.Path.{_≡_, sym, ap, _∙_}
 use lib.ListN.{replicate}
-use Rattle.refusal.proofs.Checks.{refused-early}
-use Rattle.book.specs.Book.{refused}
-use Rattle.drawing.specs.Drawing.{answerOf}
+use Rattle.refusal.proofs.Checks.{refusal-found}
+use Rattle.refusal.specs.declared.Checked.the-variants.{Refused}
 use Rattle.layers.specs.declared.Layer.{Layer}
 use Rattle.sheet.specs.declared.Sheet.{Sheet}
 use Rattle.sheet.specs.Sheet.{openedSheet}
@@ -36,7 +35,7 @@ refusal-requires c κs = search needs
 returns : tie.Need-returns
 returns c =
     let told = c .before .enum-told2 .given .1 in (
-      refused-early refused (c .refusal .ensures) told ∙ sym (ap answerOf (sym (c .before .before .before .check .ensures) ∙ told)),
+      ap Refused (refusal-found (c .refusal .ensures) told) ∙ sym (sym (c .before .before .before .check .ensures) ∙ told),
       made (c .before .before .before .before),
     )
 
@@ -44,7 +43,7 @@ returns c =
 returns-2 : tie.Need-returns-2
 returns-2 c =
     let entry = c .before .before .before .before in
-    (sym (ap answerOf (sym (c .before .before .check .ensures) ∙ c .enum-told .given .1)), made (c .before .before .before))
+    (sym (sym (c .before .before .check .ensures) ∙ c .enum-told .given .1), made (c .before .before .before))
 
 pub open-spec : {M : Type 1} → statement M
 open-spec =

@@ -13,9 +13,7 @@ use mir.Val.{SFits, toZ, ofZ}
 use mir.Facts.{toZ-ofZ}
 use Rattle.signed.proofs.Laws.{int}
 use Rattle.geometry.specs.Bounds.{wideSide}
-use Rattle.refusal.specs.declared.Refusal.{Refusal}
-use Rattle.refusal.specs.Refusal.{number}
-use Rattle.book.specs.Book.{accepted, refused}
+use Rattle.refusal.specs.declared.Checked.the-variants.{Passed, Refused}
 use Rattle.book.specs.Book.{paint as Call·paint}
 use Rattle.book.specs.Sheet.{paintRow}
 use Rattle.drawing.specs.Drawing.{styledFigure, drawing}
@@ -49,7 +47,7 @@ sheet c = entry c .args .self
 abbrev layer : tie.After-asked → Layer
 layer c = getD (sheet c .layers) (entry c .args .layer) blankLayer
 
-passed : (c : tie.After-asked) → sheetAnswer (sheet c) (entry c .args .canvas .now) (Call·paint (entry c .args .layer)) ≡ accepted
+passed : (c : tie.After-asked) → sheetAnswer (sheet c) (entry c .args .canvas .now) (Call·paint (entry c .args .layer)) ≡ Passed
 passed c = sym (checked (c .before .before)) ∙ ap askedAnswer (c .asked .given .1)
 
 told : (c : tie.After-asked) → PaintAccepted (sheet c .width) (sheet c .height) (sheet c .count) (sheet c .layers) (sixteen (entry c)) (entry c .args .layer) (entry c .args .canvas .now)
@@ -104,7 +102,7 @@ returns c =
     let call = Call·paint (a .layer) in
     let told = c .before .enum-told .given .1 in
     let says = sym (checked (c .before .before .before)) ∙ ap askedAnswer told in (
-      ap (λ (r : Refusal). refused (number r)) (c .refusal .ensures ∙ ap askedRefusal told) ∙ sym says,
+      ap Refused (c .refusal .ensures ∙ ap askedRefusal told) ∙ sym says,
       (
         sym (refused-record (a .self) (sixteen start) (a .canvas .now) call _ says),
         sym (refused-canvas (a .self) (sixteen start) (a .canvas .now) call _ says),

@@ -13,10 +13,9 @@ use lib.Signed.{leZ}
 use mir.Syntax.{w32}
 use mir.Val.{toZ, ofZ}
 use mir.Facts.{toZ-ofZ}
-use Rattle.refusal.specs.declared.Checked.the-variants.{Passed}
-use Rattle.refusal.proofs.Checks.{refused-early}
+use Rattle.refusal.specs.declared.Checked.the-variants.{Passed, Refused}
+use Rattle.refusal.proofs.Checks.{refusal-found}
 use Rattle.canvas_size.specs.CanvasSize.{canvasLengthCheck}
-use Rattle.book.specs.Book.{refused}
 use Rattle.book.specs.Sheet.{keepsRules}
 use Rattle.drawing.specs.Drawing.{drawing}
 use Rattle.layers.specs.declared.Layer.{Layer}
@@ -132,7 +131,7 @@ returns-2 c =
     let entry = kept .before .before .before .before in
     let a = entry .args in
     let told = c .before .enum-told2 .given .1 in (
-      λ canvas long. refused-early refused (c .refusal .ensures) told ∙ sym (paint-length (a .size .width) (a .size .height) (a .count) (a .places) (sixteen entry) (a .layer) canvas
+      λ canvas long. ap Refused (refusal-found (c .refusal .ensures) told) ∙ sym (paint-length (a .size .width) (a .size .height) (a .count) (a .places) (sixteen entry) (a .layer) canvas
           (rules kept) _
           (ap (canvasLengthCheck (a .size .width) (a .size .height)) long ∙ sym (c .before .before .before .check-length .ensures) ∙ told)),
       tt,
