@@ -103,8 +103,10 @@ def covered(clause):
 
 
 def source(path):
+    """The code without comments, each clause of a contract on one line."""
     with open(path, encoding='utf-8') as file:
-        return re.sub(r'//[^\n]*', '', file.read())
+        text = re.sub(r'//[^\n]*', '', file.read())
+    return re.sub(r'(?:requires|ensures) \{ [^{}]*? \}(?=\n)', lambda clause: re.sub(r'\s*\n\s*', ' ', clause.group(0)), text)
 
 
 def is_public(path, module):

@@ -47,7 +47,7 @@ pub fn row_count(ellipse: Rectangle) -> u32
 }
 
 // The run from place k of `width` columns to its mirror image.
-pub fn mirrored(left: i32, width: u32, k: u32) -> Range
+fn mirrored(left: i32, width: u32, k: u32) -> Range
     requires { ⌜ Near widePoint left ⌝ }
     requires { ⌜ (width ≤ wideSide) × (k ≤ width) ⌝ }
     ensures { λ r. ⌜ r ≡ mirroredRun left width k ⌝ }

@@ -54,7 +54,7 @@ impl EllipseQuadrant {
 
     // How many of n columns from the corner on come before the first inside one on its row e, 0 if
     // none is inside. The radius may be larger than n: the ellipse's middle then lies beyond them.
-    pub fn inset(self, e: u32, n: u32, hint: u32) -> u32
+    fn inset(self, e: u32, n: u32, hint: u32) -> u32
         requires { ⌜ Ready self ⌝ }
         requires { ⌜ (e < self .radius .height) × (n ≤ wideSide) ⌝ }
         ensures { λ r. ⌜ (r ≡ Quadrant·inset (self .radius) e n) × (r ≤ n) ⌝ }

@@ -66,7 +66,7 @@ pub fn some_owes(rows: [LayerRows; LayerRows::PLACES], layers: usize, y: i32) ->
 
 // Whether no layer from this place up to the count overtakes an earlier one. One that is painted to its
 // end owes nothing.
-pub fn none_overtakes(
+fn none_overtakes(
     earlier: LayerRows,
     rows: [LayerRows; LayerRows::PLACES],
     from: usize,

@@ -5,20 +5,13 @@ use Prim.Native.Nat.{ℕ, _+_, _^_, _≤_, _<_}
 use native.Mathlib.Omega.{arith}
 use lib.ListN.{length, length-append}
 use Rattle.text.specs.Decimal.{decimal}
-use Rattle.text.proofs.Decimal.{length-decimal-least, length-decimal-most, length-decimal-u32}
+use Rattle.text.proofs.Decimal.{length-decimal-u32}
 use Rattle.p5_header.specs.Header.{header}
 
 -- its nine fixed bytes and the digits of its two numbers
 pub length-header : (W H : ℕ) → length (header W H) ≡ 9 + length (decimal W) + length (decimal H)
 unfolding header
 length-header W H = simp length-append (omega arith)
-
--- between 11 bytes and, for sides of up to four digits, 17
-pub length-header-least : (W H : ℕ) → 11 ≤ length (header W H)
-length-header-least W H = omega (arith, length-header W H, length-decimal-least W, length-decimal-least H)
-
-pub length-header-most : (W H : ℕ) → W < 10000 → H < 10000 → length (header W H) ≤ 17
-length-header-most W H w h = omega (arith, length-header W H, length-decimal-most 3 W w, length-decimal-most 3 H h)
 
 -- at most 29 for any sides of 32 bits
 pub length-header-u32 : (W H : ℕ) → W < 2 ^ 32 → H < 2 ^ 32 → length (header W H) ≤ 29

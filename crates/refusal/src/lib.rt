@@ -55,7 +55,7 @@ impl Refusal {
     }
 }
 
-// What a check finds.
+// What a check finds; and what a call that gives no values answers: `Passed` where it is accepted.
 pub enum Checked {
     Passed,
     Refused(Refusal),

@@ -22,9 +22,6 @@ pub record StillTo (l : List ℤ) (i : ℕ) (vs : List ℤ) (m : List ℤ) (j : 
   pub whole : sets l i vs ≡ sets m j ws
   pub long : length m ≡ length l
 
-pub still-start : {l vs : List ℤ} {i : ℕ} → StillTo l i vs l i vs
-still-start = record { whole = refl; long = refl }
-
 -- ---- a run, column by column
 pub length-run-points : (y x : ℤ) (n : ℕ) → length (runPoints y x n) ≡ n
 unfolding runPoints

@@ -37,7 +37,7 @@ impl Asked {
 }
 
 // Tests all rules of a sheet: its size, the number of its layers, and the layers.
-pub fn test_rules(size: CanvasSize, count: u32, places: [Layer; Layer::PLACES]) -> RulesTested
+fn test_rules(size: CanvasSize, count: u32, places: [Layer; Layer::PLACES]) -> RulesTested
     ensures { λ r. ⌜ r .kept ≡ keepsRules drawing (size .width) (size .height) (layersOf count places) ⌝ }
     ensures { λ r. ⌜ (r .kept ≡ true → take count (r .rows) ≡ map layerRows (take count places)) ⌝ }
 {

@@ -8,7 +8,7 @@
 -- A rule is applied where exactly one of its last argument and its result is a statement on ℕ: the first of the set that fits, and
 -- none to what a rule has made. So a difference stands before a sum, and a sum before a plain number.
 -- Assumes nothing.
-use mathlib.Core.Path.{_≡_, refl, sym, ap, _∙_, subst}
+use mathlib.Core.Path.{_≡_, refl, sym, ap, subst}
 use mathlib.Core.Bool.{Bool, true, false, not, cond}
 use Prim.Native.Nat.{ℕ, zero, suc, _+_, _-_, _*_, _/_, _^_, _≤_, _<_, min, max}
 use native.Mathlib.Omega.{arith}
@@ -16,11 +16,11 @@ use native.Mathlib.Nat.{div-le-self}
 use borrow.Author.Tests.{ltb-true, ltb-false, leb-true, leb-false, lt-ltb, le-ltb, le-leb, lt-leb}
 use lib.Dec.{T, ltb, ltb→lt, nltb→le}
 use lib.IntN.{ℤ, pos, negsuc, negℤ, subℕ, natAbs, _+ℤ_, _-ℤ_, _*ℤ_, *ℤ-comm}
-use lib.Signed.{mag-shr, quotZ, shrZ, mag, ltZ, leZ, nonNeg, _≤ℤ_, _<ℤ_}
+use lib.Signed.{quotZ, mag, ltZ, leZ, nonNeg, _≤ℤ_, _<ℤ_}
 use lib.Pow.{pow-pos}
 use mir.Syntax.{Width, w32, w64}
 use mir.Val.{SFits, Fits, toZ, ofZ, hbits, bits, sel}
-use mir.ValLaws.{pow-bits, sfits-le}
+use mir.ValLaws.{pow-bits}
 use mir.Facts.{toZ-ofZ}
 use Rattle.signed.specs.Signed.{positivePart as P, negativePart as N, larger, smaller, Near}
 
@@ -234,9 +234,6 @@ fits-div w (negsuc a) n h =
     fits-by-parts w (negℤ (pos (suc a / n)))
     (omega (arith, positive-of-opposite (pos (suc a / n)), negative-of-opposite (pos (suc a / n)), div-le-self (suc a) n))
 
-pub fits-shr : (w : Width) (a : ℤ) (n : ℕ) → SFits w a → SFits w (shrZ a n)
-fits-shr w a n f = sfits-le (mag-shr a n) f
-
 -- the two bounds of a type's own range: listed with its argument, `omega (arith, int, range (c .fits .x))`
 pub range : {w : Width} {z : ℤ} → SFits w z → (P z < N z + 2 ^ hbits w) × (N z ≤ P z + 2 ^ hbits w)
 range {z = pos n} f = let k = f .sfits in (omega arith, omega arith)
@@ -270,10 +267,6 @@ toZ-range w n = by-half (ltb n (2 ^ hbits w)) (ltb→lt n (2 ^ hbits w)) (nltb�
 
 pub fits-toZ : (w : Width) (n : ℕ) → 0 ≤ n → SFits w (toZ w n)
 fits-toZ w n h = fits-by-parts w (toZ w n) (omega (arith, toZ-range w n))
-
--- `==` compares bits
-pub bits-eq : {w : Width} {a b : ℤ} → SFits w a → SFits w b → ofZ w a ≡ ofZ w b → a ≡ b
-bits-eq {w} f g e = sym (toZ-ofZ f) ∙ ap (toZ w) e ∙ toZ-ofZ g
 
 -- ---- a cast of a signed number to an unsigned type
 pub cast-sign : (z : ℤ) → N z ≤ P z → T (nonNeg z)

@@ -35,6 +35,3 @@ style-passed style e = passed-above maxStrokeWidth (style .«stroke_width») Off
 
 pub outside-passed : (style : Style) → styleCheck style ≡ Passed → outsideStrokeWidth style ≤ maxStrokeWidth
 outside-passed style e = omega (arith, style-passed style e, outside-within-stroke style)
-
-pub inside-passed : (style : Style) → styleCheck style ≡ Passed → insideStrokeWidth style ≤ maxStrokeWidth
-inside-passed style e = omega (arith, style-passed style e, inside-within-stroke style)

@@ -21,7 +21,7 @@ pub enum StrokeAlignment {
 
 impl StrokeAlignment {
     // The alignment of a style that is made without one.
-    pub fn default_alignment() -> StrokeAlignment
+    fn default_alignment() -> StrokeAlignment
         ensures { λ r. ⌜ r ≡ defaultAlignment ⌝ }
     {
         StrokeAlignment::Center

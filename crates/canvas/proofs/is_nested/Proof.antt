@@ -46,7 +46,9 @@ sub-result c =
 -- all of them passed
 returns-7 : tie.Need-returns-7
 returns-7 c =
-    let entry = c .before .before .before .before .before .before .before .before .before .before .before .before .before .before .before .before .before .before .before .before .before .before .before .before .before .before .before .before .before .before .before .before .before .before in
+    let third-test = c .before .before .before .before .before .before .before .before .before .before .before .before .before .before in
+    let first-test = third-test .before .before .before .before .before .before .before .before .before .before in
+    let entry = first-test .before .before .before .before .before .before .before .before .before .before in
     let left-start : SFits w32 (entry .args .runs .«stroke_left» .start) = search needs in
     let left-end : SFits w32 (entry .args .runs .«stroke_left» .end) = search needs in
     let fill-start : SFits w32 (entry .args .runs .fill .start) = search needs in
@@ -55,11 +57,11 @@ returns-7 c =
     let right-end : SFits w32 (entry .args .runs .«stroke_right» .end) = search needs in
     λ _.
     record {
-      colour = c .before .before .before .before .before .before .before .before .before .before .before .before .before .before .before .before .before .before .before .before .before .before .before .before .before .before .before .before .before .before .before .before .enum-told .given .0 .0;
-      fill-is = c .before .before .before .before .before .before .before .before .before .before .before .before .before .before .before .before .before .before .before .before .before .before .before .before .before .before .before .before .before .before .before .before .enum-told .given .1;
-      left-reaches = let test = c .before .before .before .before .before .before .before .before .before .before .before .before .before .before .before .before .before .before .before .before .before .before .before .before .if1 .left in omega (arith, int);
-      right-reaches = let test = c .before .before .before .before .before .before .before .before .before .before .before .before .before .before .before .before .before .before .before .if2 .left in omega (arith, int);
-      right-after = let test = c .before .before .before .before .before .before .before .before .before .before .before .before .before .before .if3 .left in omega (arith, int);
+      colour = first-test .before .before .before .before .before .before .before .before .enum-told .given .0 .0;
+      fill-is = first-test .before .before .before .before .before .before .before .before .enum-told .given .1;
+      left-reaches = let test = first-test .if1 .left in omega (arith, int);
+      right-reaches = let test = third-test .before .before .before .before .before .if2 .left in omega (arith, int);
+      right-after = let test = third-test .if3 .left in omega (arith, int);
       left-within = let test = c .before .before .before .before .before .before .before .before .before .if4 .left in omega (arith, int);
       right-within = let test = c .before .before .before .before .if5 .left in omega (arith, int);
     }

@@ -1,4 +1,4 @@
--- `host_answers::held` meets its contract: below 2 .before .before .before .before .before .before .before .before .before .before .before .before .before .before .before .before .before .before .before .before .before .before .before .before .before .before .before .before .before .before .before the number itself, from there on less 2 .before .before .before .before .before .before .before .before .before .before .before .before .before .before .before .before .before .before .before .before .before .before .before .before .before .before .before .before .before .before .before .before, in steps that 32 bits hold.
+-- `host_answers::held` meets its contract: below 2^31 the number itself, from there on less 2^32, in steps that 32 bits hold.
 -- Assumes nothing.
 use mathlib.Core.Path.{_≡_}
 use mathlib.Core.Bool.{true, false}
