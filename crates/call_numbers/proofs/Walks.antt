@@ -9,10 +9,10 @@ use lib.ListN.{length, take, drop, length-take, length-drop}
 use Rattle.call_numbers.specs.CallNumbers.{callLength, callNumbers}
 
 module _ (numbers : List ℤ) (j : ℕ) where
-  pub call-part : take (20 * j + 20 - 20 * j) (drop (20 * j) numbers) ≡ callNumbers numbers j
+  pub call-part : take (callLength * j + callLength - callLength * j) (drop (callLength * j) numbers) ≡ callNumbers numbers j
   call-part =
-      let long : 20 * j + 20 - 20 * j ≡ 20 = omega arith in
-      ap (λ (n : ℕ). take n (drop (20 * j) numbers)) long
+      let long : callLength * j + callLength - callLength * j ≡ callLength = omega arith in
+      ap (λ (n : ℕ). take n (drop (callLength * j) numbers)) long
 
-  pub call-part-length : 20 * j + 20 ≤ length numbers → length (take (20 * j + 20 - 20 * j) (drop (20 * j) numbers)) ≡ callLength
+  pub call-part-length : callLength * j + callLength ≤ length numbers → length (take (callLength * j + callLength - callLength * j) (drop (callLength * j) numbers)) ≡ callLength
   call-part-length within = simp (length-take, length-drop) (omega arith)

@@ -8,7 +8,7 @@
 -- Assumes nothing.
 use mathlib.Core.Bool.{Bool, cond, _&&_}
 use mathlib.Core.List.{List}
-use Prim.Native.Nat.{ℕ, _*_, _/_, _%_}
+use Prim.Native.Nat.{ℕ, _+_, _*_, _/_, _%_}
 use lib.Dec.{eqb}
 use lib.IntN.{ℤ, pos}
 use lib.ListN.{length, take, drop}
@@ -22,24 +22,44 @@ use Rattle.drawing.specs.Drawing.{StyledFigure, styledFigure}
 abbrev pub callLength : ℕ
 callLength = 20
 
--- those of its figure, and of its style
+-- where its kind stands, and behind that the layer of a paint call, or the figure and the style of an add call
+abbrev pub callKindAt : ℕ
+callKindAt = 0
+
+abbrev pub callLayerAt : ℕ
+callLayerAt = 1
+
+abbrev pub callFigureAt : ℕ
+callFigureAt = 1
+
+abbrev pub callStyleAt : ℕ
+callStyleAt = callFigureAt + figureLength
+
+-- the kinds of a call
+abbrev pub addKind : ℤ
+addKind = pos 0
+
+abbrev pub paintKind : ℤ
+paintKind = pos 1
+
+-- the numbers of its figure, and of its style
 abbrev pub figurePart : List ℤ → List ℤ
-figurePart numbers = take figureLength (drop 1 numbers)
+figurePart numbers = take figureLength (drop callFigureAt numbers)
 
 abbrev pub stylePart : List ℤ → List ℤ
-stylePart numbers = take styleLength (drop 14 numbers)
+stylePart numbers = take styleLength (drop callStyleAt numbers)
 
 -- which numbers are a call
 unfoldable pub isCall : List ℤ → Bool
 isCall numbers =
-    within (pos 0) (pos 1) (numberAt numbers 0)
-    && cond (leZ (pos 1) (numberAt numbers 0)) (leZ (pos 0) (numberAt numbers 1))
+    within addKind paintKind (numberAt numbers callKindAt)
+    && cond (leZ paintKind (numberAt numbers callKindAt)) (leZ (pos 0) (numberAt numbers callLayerAt))
     (isFigure (figurePart numbers) && isStyle (stylePart numbers))
 
 -- which call it is
 unfoldable pub callOf : List ℤ → Call StyledFigure
 callOf numbers =
-    cond (leZ (pos 1) (numberAt numbers 0)) (paint (floor0 (numberAt numbers 1)))
+    cond (leZ paintKind (numberAt numbers callKindAt)) (paint (floor0 (numberAt numbers callLayerAt)))
     (add (styledFigure (figureOf (figurePart numbers)) (styleOf (stylePart numbers))))
 
 -- ---- The list.

@@ -1,4 +1,6 @@
 // Sheet calls written as numbers, 20 for each call, as specs/CallNumbers.antt lists them.
+use record_numbers::FIGURE_LENGTH;
+use record_numbers::STYLE_LENGTH;
 use record_numbers::is_figure;
 use record_numbers::is_style;
 use record_numbers::is_within;
@@ -9,21 +11,38 @@ ghost use Rattle.call_numbers.specs.CallNumbers.{callLength, isCall, enc
 // How many numbers a call has.
 pub const CALL_LENGTH: usize = 20;
 
+// Where its kind stands, and behind that the layer of a paint call, or the figure and the style of an
+// add call up to the style's end.
+pub const KIND: usize = 0;
+
+pub const LAYER: usize = 1;
+
+pub const FIGURE: usize = 1;
+
+pub const STYLE: usize = FIGURE + FIGURE_LENGTH;
+
+pub const STYLE_END: usize = STYLE + STYLE_LENGTH;
+
+// The kinds of a call.
+pub const ADD: i32 = 0;
+
+pub const PAINT: i32 = 1;
+
 // Whether the numbers are a call's.
 fn is_call(numbers: &[i32]) -> bool
     requires { ⌜ length (now numbers) ≡ callLength ⌝ }
     ensures { λ r. ⌜ r ≡ isCall (now (numbers .entry)) ⌝ }
 {
-    if !is_within(0, 1, numbers[0]) {
+    if !is_within(ADD, PAINT, numbers[KIND]) {
         return false;
     }
-    if 1 <= numbers[0] {
-        return 0 <= numbers[1];
+    if PAINT <= numbers[KIND] {
+        return 0 <= numbers[LAYER];
     }
-    if !is_figure(&numbers[1..14]) {
+    if !is_figure(&numbers[FIGURE..STYLE]) {
         return false;
     }
-    is_style(&numbers[14..18])
+    is_style(&numbers[STYLE..STYLE_END])
 }
 
 // Whether the whole list is calls.

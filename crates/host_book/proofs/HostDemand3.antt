@@ -25,7 +25,7 @@ use Rattle.sheet.specs.Sheet.{stateOf, openedSheet, sheetAnswer, sheetAfter, ca
 use Rattle.sheet.specs.SheetDemand3.{sheetAnswers, sheetAfterAll, canvasAfterAll as Sheet·canvasAfterAll}
 use Rattle.sheet.proofs.Records.{add-takes-no-canvas}
 use Rattle.sheet.proofs.SheetDemand3.{sheet-demand3}
-use Rattle.sheet_record.specs.SheetRecord.{isSheet, sheetOf}
+use Rattle.sheet_record.specs.SheetRecord.{sheetLength, isSheet, sheetOf}
 use Rattle.host_answers.specs.HostAnswers.{noRecord, heldBy32, outAfter, told}
 use Rattle.host_sheets.specs.Sheets.{unusedPlaces, openedNumbers, openSaid, addTold, addNumbers, areRecords, paintTold, paintCanvas}
 use Rattle.host_sheets.proofs.NumbersAfter.{open-reads-back, add-reads-back, paint-reads-back}
@@ -114,11 +114,11 @@ run (call ∷ calls) numbers canvas s bytes is same kept =
         }
 
 -- ---- opening
-module _ (W H : ℕ) (width : WithinSide drawing W) (height : WithinSide drawing H) (out : List ℤ) (long : length out ≡ 291) where
+module _ (W H : ℕ) (width : WithinSide drawing W) (height : WithinSide drawing H) (out : List ℤ) (long : length out ≡ sheetLength) where
   size-passed : canvasSizeCheck W H ≡ Passed
   size-passed = sides-pass W H width height
 
-  room : roomCheck 291 (length out) ≡ Passed
+  room : roomCheck sheetLength (length out) ≡ Passed
   room = rw long
 
   open-done : told (openSaid W H) (length out) ≡ 0
@@ -132,7 +132,7 @@ module _ (W H : ℕ) (width : WithinSide drawing W) (height : WithinSide drawing
       let h : ltZ (pos H) (pos 2147483648) ≡ true = let most = height .1 in omega (arith, int) in
       rw (w, h)
 
-  many : length (openedNumbers W H) ≡ 291
+  many : length (openedNumbers W H) ≡ sheetLength
   unfolding unusedPlaces
   many = refl
 

@@ -15,13 +15,13 @@ use Rattle.book.specs.Sheet.{Layers, Rules}
 use Rattle.drawing.specs.Drawing.{styledCheck, drawing}
 use Rattle.layers.specs.Layers.{layersOf}
 use Rattle.record_numbers.specs.RecordNumbers.{numberAt, figureOf, styleOf}
-use Rattle.sheet_record.specs.SheetRecord.{isSheet, holdsRecords, sheetOf}
+use Rattle.sheet_record.specs.SheetRecord.{countAt, isSheet, holdsRecords, sheetOf}
 use Rattle.host_sheets.specs.Sheets.{areRecords, addTold, paintTold}
 
 -- The layers that a sheet's numbers say ('The records'): those in the first places, as many as the third number says. That
--- number is taken as it stands, where `sheetOf` reads numbers that are no sheet's as 17 layers.
+-- number is taken as it stands, where `sheetOf` reads numbers that are no sheet's as one layer too many.
 abbrev pub layersSaid : List ℤ → Layers drawing
-layersSaid numbers = layersOf (floor0 (numberAt numbers 2)) (sheetOf numbers .layers)
+layersSaid numbers = layersOf (floor0 (numberAt numbers countAt)) (sheetOf numbers .layers)
 
 -- The rules ('Sheet') hold of the size and the layers that the numbers say.
 abbrev pub RulesHold : List ℤ → Type 0

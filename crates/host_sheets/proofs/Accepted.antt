@@ -9,6 +9,7 @@ use lib.IntN.{ℤ}
 use lib.ListN.{set, getD}
 use lib.Seq.{getD-set-same}
 use Rattle.refusal.specs.declared.Checked.the-variants.{Passed}
+use Rattle.geometry.specs.Limits.{maxLayers}
 use Rattle.book.specs.Book.{paint}
 use Rattle.sheet.proofs.Places.{kept-few}
 use Rattle.sheet.proofs.Answers.{added-room, painted-accepted}
@@ -19,17 +20,17 @@ use Rattle.sheet.specs.Sheet.{sheetAnswer, paintedLayer, carriedOutSheet, sheet
 use Rattle.sheet.proofs.Records.{added-record}
 use Rattle.record_numbers.specs.RecordNumbers.{figureOf, styleOf}
 use Rattle.drawing.specs.Drawing.{styledFigure}
-use Rattle.sheet_record.specs.SheetRecord.{placeAt, sheetOf, rowPainted}
+use Rattle.sheet_record.specs.SheetRecord.{nextRowAt, placeAt, sheetOf, rowPainted}
 use Rattle.sheet_record.proofs.Parts.{sixteen}
 use Rattle.sheet_record.proofs.ReadBack.{layer-in-place}
 use Rattle.host_sheets.specs.Sheets.{addOf, nextRow, withPainted}
 
-pub added-place : (numbers figure style : List ℤ) → sheetAnswer (sheetOf numbers) [] (addOf figure style) ≡ Passed → sheetOf numbers .count < 16
+pub added-place : (numbers figure style : List ℤ) → sheetAnswer (sheetOf numbers) [] (addOf figure style) ≡ Passed → sheetOf numbers .count < maxLayers
 added-place numbers figure style e =
     let s = sheetOf numbers in
     added-room (s .width) (s .height) (s .count) (s .layers) (sixteen numbers) (styledFigure (figureOf figure) (styleOf style)) [] e
 
-pub painted-place : (numbers : List ℤ) (i : ℕ) (canvas : List ℕ) → sheetAnswer (sheetOf numbers) canvas (paint i) ≡ Passed → i < 16
+pub painted-place : (numbers : List ℤ) (i : ℕ) (canvas : List ℕ) → sheetAnswer (sheetOf numbers) canvas (paint i) ≡ Passed → i < maxLayers
 painted-place numbers i canvas e =
     let s = sheetOf numbers in
     let told = painted-accepted (s .width) (s .height) (s .count) (s .layers) (sixteen numbers) i canvas e in
@@ -37,14 +38,14 @@ painted-place numbers i canvas e =
     let few = kept-few (s .width) (s .height) (s .count) (s .layers) (sixteen numbers) (told .rules) in
     omega arith
 
-pub painted-few : (numbers : List ℤ) (i : ℕ) (canvas : List ℕ) → sheetAnswer (sheetOf numbers) canvas (paint i) ≡ Passed → sheetOf numbers .count ≤ 16
+pub painted-few : (numbers : List ℤ) (i : ℕ) (canvas : List ℕ) → sheetAnswer (sheetOf numbers) canvas (paint i) ≡ Passed → sheetOf numbers .count ≤ maxLayers
 painted-few numbers i canvas e =
     let s = sheetOf numbers in
     kept-few (s .width) (s .height) (s .count) (s .layers) (sixteen numbers)
     (painted-accepted (s .width) (s .height) (s .count) (s .layers) (sixteen numbers) i canvas e .rules)
 
 -- a painted layer's next row is the one below
-pub painted-next : (numbers : List ℤ) (i : ℕ) → i < 16
+pub painted-next : (numbers : List ℤ) (i : ℕ) → i < maxLayers
     → nextRow (carriedOutSheet (sheetOf numbers) (paint i)) i ≡ paintedLayer (getD (sheetOf numbers .layers) i blankLayer) .«next_row»
 unfolding carriedOutSheet
 painted-next numbers i place =
@@ -55,7 +56,7 @@ pub painted-numbers : (numbers : List ℤ) (i : ℕ) (canvas : List ℕ) → she
     → rowPainted numbers i ≡ withPainted numbers i (carriedOutSheet (sheetOf numbers) (paint i))
 painted-numbers numbers i canvas e =
     let place = painted-place numbers i canvas e in
-    ap (λ (z : ℤ). set numbers (placeAt i + 17) z)
+    ap (λ (z : ℤ). set numbers (placeAt i + nextRowAt) z)
     (sym (painted-next numbers i place ∙ ap (λ (l : Layer). paintedLayer l .«next_row») (layer-in-place numbers i place)))
 
 -- and the new count is small

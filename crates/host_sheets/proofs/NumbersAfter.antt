@@ -22,7 +22,7 @@ use Rattle.layers.specs.Layers.{blankLayer}
 use Rattle.sheet.specs.Sheet.{openedSheet, sheetAnswer, withLayer, addedLayer, carriedOutSheet, sheetAfter}
 use Rattle.record_numbers.specs.RecordNumbers.{isFigure, isStyle, listFrom, allFrom, noneNegative, figureOf, styleOf, paintOf, alignmentOf}
 use Rattle.record_numbers.proofs.Records.{figure-length, style-length}
-use Rattle.sheet_record.specs.SheetRecord.{isSheet, holdsRecords, sheetOf, placeAt, layerPut}
+use Rattle.sheet_record.specs.SheetRecord.{styleAt, nextRowAt, sheetLength, isSheet, holdsRecords, sheetOf, placeAt, layerPut}
 use Rattle.sheet_record.proofs.Parts.{sheet-length, sixteen, records-of-few, count-of-records}
 use Rattle.sheet_record.proofs.ReadBack.{row-read-back, layer-read-back}
 use Rattle.host_sheets.specs.Sheets.{unusedPlaces, openedNumbers, nextRow, addOf, addNumbers, paintNumbers, OpenReadsBack, AddReadsBack, PaintReadsBack}
@@ -41,7 +41,7 @@ paint-reads-back numbers i canvas is = by (sheetAnswer (sheetOf numbers) canvas 
         let long = sheet-length numbers is in
         let row = painted-next numbers i place in
         rw (is, e) (
-          ap (λ (n : ℕ). eqb n 291) (length-set numbers (placeAt i + 17) _) ∙ is,
+          ap (λ (n : ℕ). eqb n sheetLength) (length-set numbers (placeAt i + nextRowAt) _) ∙ is,
           row-read-back numbers long i place _ (records-of-few numbers few)
               ∙ ap (λ (z : ℤ).
               withLayer (sheetOf numbers) (sheetOf numbers .count) i
@@ -73,10 +73,10 @@ add-reads-back numbers figure style all = by (sheetAnswer (sheetOf numbers) [] (
         ap (λ (l : Layer). l .«next_row»)
         (getD-set-same (sheetOf numbers .layers) (sheetOf numbers .count) (addedLayer (styledFigure (figureOf figure) (styleOf style))) blankLayer (omega (arith, sixteen numbers, place))) in
         rw (is, is-figure, is-style, e) (
-          ap (λ (n : ℕ). eqb n 291)
+          ap (λ (n : ℕ). eqb n sheetLength)
               (length-set (layerPut numbers (sheetOf numbers .count) figure style _) 2 _
-              ∙ length-set (sets (sets numbers (placeAt (sheetOf numbers .count)) figure) (placeAt (sheetOf numbers .count) + 13) style) (placeAt (sheetOf numbers .count) + 17) _
-              ∙ length-sets (sets numbers (placeAt (sheetOf numbers .count)) figure) (placeAt (sheetOf numbers .count) + 13) style
+              ∙ length-set (sets (sets numbers (placeAt (sheetOf numbers .count)) figure) (placeAt (sheetOf numbers .count) + styleAt) style) (placeAt (sheetOf numbers .count) + nextRowAt) _
+              ∙ length-sets (sets numbers (placeAt (sheetOf numbers .count)) figure) (placeAt (sheetOf numbers .count) + styleAt) style
               ∙ length-sets numbers (placeAt (sheetOf numbers .count)) figure)
               ∙ is,
           layer-read-back numbers long (sheetOf numbers .count) place figure style _ _ (figure-length figure is-figure) (style-length style is-style)

@@ -4,7 +4,7 @@ use mathlib.Core.Path.{_≡_}
 use mathlib.Core.Bool.{Bool, true, cond, _&&_}
 use mathlib.Core.List.{List, [], _∷_, _++_}
 use Prim.Native.Nat.{ℕ, zero, suc, _+_}
-use lib.IntN.{ℤ, pos, negsuc}
+use lib.IntN.{ℤ, pos}
 use lib.ListN.{set, getD, replicate}
 use Rattle.geometry.specs.Limits.{maxLayers}
 use Rattle.refusal.specs.declared.Checked.{Checked}
@@ -15,15 +15,15 @@ use Rattle.drawing.specs.Drawing.{StyledFigure, styledFigure}
 use Rattle.layers.specs.Layers.{blankLayer}
 use Rattle.sheet.specs.declared.Sheet.{Sheet}
 use Rattle.sheet.specs.Sheet.{openedSheet, sheetAnswer, sheetAfter, canvasAfter}
-use Rattle.record_numbers.specs.RecordNumbers.{isFigure, isStyle, figureOf, styleOf}
-use Rattle.sheet_record.specs.SheetRecord.{isSheet, sheetOf, placeAt, layerPut}
+use Rattle.record_numbers.specs.RecordNumbers.{figureLength, absentPaint, isFigure, isStyle, figureOf, styleOf}
+use Rattle.sheet_record.specs.SheetRecord.{nextRowAt, countAt, placeAt, isSheet, sheetOf, layerPut}
 use Rattle.host_answers.specs.HostAnswers.{noRecord, ifRecord}
 
 -- ---- Opening: 6, else the numbers of a sheet without layers.
 
 -- an unused place: an ellipse 0 by 0 at (0, 0) without paint, next row 0
 abbrev pub unusedPlace : List ℤ
-unusedPlace = replicate 13 (pos 0) ++ negsuc 0 ∷ negsuc 0 ∷ replicate 3 (pos 0)
+unusedPlace = replicate figureLength (pos 0) ++ absentPaint ∷ absentPaint ∷ replicate 3 (pos 0)
 
 -- n of them
 unfoldable pub unusedPlaces : ℕ → List ℤ
@@ -61,7 +61,8 @@ areRecords sheet figure style = isSheet sheet && (isFigure figure && isStyle sty
 -- `Sheet::add`: the layer's numbers as given and its next row in the first unused place, and the new count
 abbrev pub withAdded : List ℤ → List ℤ → List ℤ → Sheet → List ℤ
 withAdded numbers figure style after =
-    set (layerPut numbers (sheetOf numbers .count) figure style (nextRow after (sheetOf numbers .count))) 2 (pos (after .count))
+    set (layerPut numbers (sheetOf numbers .count) figure style (nextRow after (sheetOf numbers .count))) countAt
+    (pos (after .count))
 
 -- what the host is told of it: 1, 2, 3, 5, 7, 9, or done
 unfoldable pub addTold : List ℤ → List ℤ → List ℤ → ℕ
@@ -75,7 +76,7 @@ addNumbers sheet figure style =
 
 -- `Sheet::paint`: the layer's new next row, and the canvas
 abbrev pub withPainted : List ℤ → ℕ → Sheet → List ℤ
-withPainted numbers i after = set numbers (placeAt i + 17) (nextRow after i)
+withPainted numbers i after = set numbers (placeAt i + nextRowAt) (nextRow after i)
 
 -- what the host is told of it: 7, 8, 10, 11, 12, or done
 unfoldable pub paintTold : List ℤ → ℕ → List ℕ → ℕ

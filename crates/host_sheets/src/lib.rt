@@ -7,7 +7,7 @@ use host_answers::NO_RECORD;
 use host_answers::held;
 use host_answers::put_numbers;
 use layers::Layer;
-use record_numbers::FIGURE_LENGTH;
+use record_numbers::ABSENT;
 use record_numbers::figure_of;
 use record_numbers::is_figure;
 use record_numbers::is_style;
@@ -17,8 +17,13 @@ use record_paint::paint_next;
 use refusal::Checked;
 use sheet::SheetAnswer;
 use sheet_calls::number_of;
+use sheet_record::CANVAS_HEIGHT;
+use sheet_record::CANVAS_WIDTH;
+use sheet_record::COUNT;
+use sheet_record::FIRST_PLACE;
 use sheet_record::LAYER_LENGTH;
 use sheet_record::SHEET_LENGTH;
+use sheet_record::STYLE;
 use sheet_record::is_sheet;
 use sheet_record::put_layer;
 use sheet_record::sheet_of;
@@ -33,9 +38,9 @@ fn unused_places() -> [i32; SHEET_LENGTH]
     let mut numbers = [0i32; SHEET_LENGTH];
     let mut j: usize = 0;
     while j < Layer::PLACES {
-        let style = 3 + LAYER_LENGTH * j + FIGURE_LENGTH;
-        numbers[style] = -1;
-        numbers[style + 1] = -1;
+        let style = FIRST_PLACE + LAYER_LENGTH * j + STYLE;
+        numbers[style] = ABSENT;
+        numbers[style + 1] = ABSENT;
         j += 1;
     }
     numbers
@@ -54,8 +59,8 @@ pub fn open(width: u32, height: u32, sheet: &mut [i32]) -> u32
         return checked.refusal().number();
     };
     let mut numbers = unused_places();
-    numbers[0] = held(width);
-    numbers[1] = held(height);
+    numbers[CANVAS_WIDTH] = held(width);
+    numbers[CANVAS_HEIGHT] = held(height);
     put_numbers(sheet, &numbers)
 }
 
@@ -84,7 +89,7 @@ pub fn add(sheet: &mut [i32], figure: &[i32], style: &[i32]) -> u32
     let place = before.count as usize;
     let added = places[place];
     put_layer(sheet, place, figure, style, added.next_row);
-    sheet[2] = signed::from_u32(after.count);
+    sheet[COUNT] = signed::from_u32(after.count);
     DONE
 }
 

@@ -5,7 +5,7 @@ use mathlib.Core.Bool.{Bool, cond, _&&_, _||_}
 use mathlib.Core.List.{List}
 use Prim.Native.Nat.{ℕ, _+_, _-_, _*_}
 use lib.Dec.{eqb}
-use lib.IntN.{ℤ, pos, negsuc, negℤ, _-ℤ_}
+use lib.IntN.{ℤ, pos, negℤ, _-ℤ_}
 use lib.Signed.{leZ, ltZ}
 use Rattle.signed.specs.Signed.{floor0}
 use Rattle.geometry.specs.Limits.{maxSide, maxRadius, maxPosition, maxStrokeWidth}
@@ -14,8 +14,8 @@ use Rattle.style.specs.Style.{outsideWidth}
 use Rattle.book.specs.Sheet.{layerKeepsRules}
 use Rattle.drawing.specs.Drawing.{drawing}
 use Rattle.layers.specs.Layers.{layerOf as Layers·layerOf}
-use Rattle.record_numbers.specs.RecordNumbers.{numberAt, allFrom, within, alignmentOf}
-use Rattle.sheet_record.specs.SheetRecord.{isLayer, layerOf}
+use Rattle.record_numbers.specs.RecordNumbers.{figureLength, kindAt, xAt, yAt, widthAt, heightAt, radiiAt, strokeAt, fillAt, strokeWidthAt, alignmentAt, ellipseKind, crateBoxKind, w3cBoxKind, insideAlignment, outsideAlignment, absentPaint, maxColour, numberAt, allFrom, within, alignmentOf}
+use Rattle.sheet_record.specs.SheetRecord.{styleAt, isLayer, layerOf}
 
 -- ---- What is promised: the numbers are a layer's, and the layer keeps its own rules.
 abbrev pub placeKept : List ℤ → Bool
@@ -33,24 +33,28 @@ highestRadius any = cond any (pos 2147483647) (pos maxRadius)
 
 -- the eight numbers of a figure's radii
 unfoldable pub radiiKept : Bool → List ℤ → Bool
-radiiKept any numbers = allFrom (λ k. radiusKept any (numberAt numbers k)) 5 8
+radiiKept any numbers = allFrom (λ k. radiusKept any (numberAt numbers k)) radiiAt (figureLength - radiiAt)
 
 -- the figure's numbers before its radii: kind, x and y, width and height
 unfoldable pub rectangleKept : List ℤ → Bool
 rectangleKept numbers =
-    (((within (pos 0) (pos 2) (numberAt numbers 0) && within (negℤ (pos maxPosition)) (pos maxPosition) (numberAt numbers 1))
-    && within (negℤ (pos maxPosition)) (pos maxPosition) (numberAt numbers 2)) && within (pos 0) (pos maxSide) (numberAt numbers 3))
-    && within (pos 0) (pos maxSide) (numberAt numbers 4)
+    (((within ellipseKind w3cBoxKind (numberAt numbers kindAt)
+    && within (negℤ (pos maxPosition)) (pos maxPosition) (numberAt numbers xAt))
+    && within (negℤ (pos maxPosition)) (pos maxPosition) (numberAt numbers yAt))
+    && within (pos 0) (pos maxSide) (numberAt numbers widthAt))
+    && within (pos 0) (pos maxSide) (numberAt numbers heightAt)
 
 -- all of the figure's numbers; the radii of an ellipse may be any numbers that are not negative
 unfoldable pub figureKept : List ℤ → Bool
-figureKept numbers = rectangleKept numbers && radiiKept (ltZ (numberAt numbers 0) (pos 1)) numbers
+figureKept numbers = rectangleKept numbers && radiiKept (ltZ (numberAt numbers kindAt) crateBoxKind) numbers
 
 -- the style's numbers: stroke, fill, stroke width, alignment
 unfoldable pub styleKept : List ℤ → Bool
 styleKept numbers =
-    ((within (negsuc 0) (pos 255) (numberAt numbers 13) && within (negsuc 0) (pos 255) (numberAt numbers 14))
-    && within (pos 0) (pos maxStrokeWidth) (numberAt numbers 15)) && within (pos 0) (pos 2) (numberAt numbers 16)
+    ((within absentPaint maxColour (numberAt numbers (styleAt + strokeAt))
+    && within absentPaint maxColour (numberAt numbers (styleAt + fillAt)))
+    && within (pos 0) (pos maxStrokeWidth) (numberAt numbers (styleAt + strokeWidthAt)))
+    && within insideAlignment outsideAlignment (numberAt numbers (styleAt + alignmentAt))
 
 -- ---- Rows.
 
@@ -64,14 +68,15 @@ strokeCount ellipse w h = cond ellipse (cond (firstRowInside w h) h 0) h
 
 -- the outside width of a place's stroke
 abbrev pub outsideOf : List ℤ → ℕ
-outsideOf numbers = outsideWidth (alignmentOf (numberAt numbers 16)) (floor0 (numberAt numbers 15))
+outsideOf numbers =
+    outsideWidth (alignmentOf (numberAt numbers (styleAt + alignmentAt))) (floor0 (numberAt numbers (styleAt + strokeWidthAt)))
 
 -- the first row of a place's layer
 abbrev pub firstRowOf : List ℤ → ℤ
-firstRowOf numbers = numberAt numbers 2 -ℤ pos (rowsAbove (floor0 (numberAt numbers 4)) (outsideOf numbers))
+firstRowOf numbers = numberAt numbers yAt -ℤ pos (rowsAbove (floor0 (numberAt numbers heightAt)) (outsideOf numbers))
 
 -- how many rows it has
 abbrev pub countOf : List ℤ → ℕ
 countOf numbers =
-    strokeCount (ltZ (numberAt numbers 0) (pos 1)) (floor0 (numberAt numbers 3) + 2 * outsideOf numbers)
-    (floor0 (numberAt numbers 4) + 2 * outsideOf numbers)
+    strokeCount (ltZ (numberAt numbers kindAt) crateBoxKind) (floor0 (numberAt numbers widthAt) + 2 * outsideOf numbers)
+    (floor0 (numberAt numbers heightAt) + 2 * outsideOf numbers)

@@ -7,7 +7,24 @@ use geometry::Point;
 use geometry::Size;
 use layer_rows::LayerRows;
 use layers::RowsFound;
+use record_numbers::ABSENT;
+use record_numbers::CENTER;
+use record_numbers::CRATE_BOX;
+use record_numbers::ELLIPSE;
+use record_numbers::FIGURE_LENGTH;
+use record_numbers::HEIGHT;
+use record_numbers::INSIDE;
+use record_numbers::KIND;
+use record_numbers::MAX_COLOUR;
+use record_numbers::OUTSIDE;
+use record_numbers::RADII;
+use record_numbers::W3C_BOX;
+use record_numbers::WIDTH;
+use record_numbers::X;
+use record_numbers::Y;
 use record_numbers::is_within;
+use sheet_record::NEXT_ROW;
+use sheet_record::STYLE;
 use style::Style;
 ghost use mathlib.Core.Path.{_≡_};
 ghost use mathlib.Core.Bool.{true, cond, _&&_};
@@ -38,6 +55,15 @@ const MIN_POSITION: i32 = -MAX_POSITION;
 
 const MAX_STROKE_WIDTH: i32 = Style::MAX_STROKE_WIDTH as i32;
 
+// Where the numbers of a layer's style stand.
+const STROKE: usize = STYLE + record_numbers::STROKE;
+
+const FILL: usize = STYLE + record_numbers::FILL;
+
+const STROKE_WIDTH: usize = STYLE + record_numbers::STROKE_WIDTH;
+
+const ALIGNMENT: usize = STYLE + record_numbers::ALIGNMENT;
+
 // The highest number of a radius. Those of an ellipse may be any that are not negative.
 fn highest_radius(any: bool) -> i32
     ensures { λ r. ⌜ Is (highestRadius any) r ⌝ }
@@ -53,8 +79,8 @@ fn radii_kept(numbers: &[i32], any: bool) -> bool
 {
     let limit = highest_radius(any);
     let mut kept = true;
-    let mut k: usize = 5;
-    while k < 13 {
+    let mut k: usize = RADII;
+    while k < FIGURE_LENGTH {
         kept = kept & is_within(0, limit, numbers[k]);
         k += 1;
     }
@@ -66,11 +92,11 @@ fn rectangle_kept(numbers: &[i32]) -> bool
     requires { ⌜ length (now numbers) ≡ layerLength ⌝ }
     ensures { λ r. ⌜ r ≡ rectangleKept (now (numbers .entry)) ⌝ }
 {
-    is_within(0, 2, numbers[0])
-        & is_within(MIN_POSITION, MAX_POSITION, numbers[1])
-        & is_within(MIN_POSITION, MAX_POSITION, numbers[2])
-        & is_within(0, MAX_SIDE, numbers[3])
-        & is_within(0, MAX_SIDE, numbers[4])
+    is_within(ELLIPSE, W3C_BOX, numbers[KIND])
+        & is_within(MIN_POSITION, MAX_POSITION, numbers[X])
+        & is_within(MIN_POSITION, MAX_POSITION, numbers[Y])
+        & is_within(0, MAX_SIDE, numbers[WIDTH])
+        & is_within(0, MAX_SIDE, numbers[HEIGHT])
 }
 
 // Whether the numbers are a figure's within limits. The radii are tested by one loop for each kind of
@@ -82,7 +108,7 @@ fn figure_kept(numbers: &[i32]) -> bool
     if !rectangle_kept(numbers) {
         return false;
     }
-    if numbers[0] < 1 {
+    if numbers[KIND] < CRATE_BOX {
         return radii_kept(numbers, true);
     }
     radii_kept(numbers, false)
@@ -93,20 +119,20 @@ fn style_kept(numbers: &[i32]) -> bool
     requires { ⌜ length (now numbers) ≡ layerLength ⌝ }
     ensures { λ r. ⌜ r ≡ styleKept (now (numbers .entry)) ⌝ }
 {
-    is_within(-1, 255, numbers[13])
-        & is_within(-1, 255, numbers[14])
-        & is_within(0, MAX_STROKE_WIDTH, numbers[15])
-        & is_within(0, 2, numbers[16])
+    is_within(ABSENT, MAX_COLOUR, numbers[STROKE])
+        & is_within(ABSENT, MAX_COLOUR, numbers[FILL])
+        & is_within(0, MAX_STROKE_WIDTH, numbers[STROKE_WIDTH])
+        & is_within(INSIDE, OUTSIDE, numbers[ALIGNMENT])
 }
 
 // How much of a stroke of this width lies outside the outline, by the alignment's number.
 fn outside_width(width: i32, alignment: i32) -> u32
     ensures { λ r. ⌜ r ≡ outsideWidth (alignmentOf alignment) (Signed·floor0 width) ⌝ }
 {
-    if alignment < 1 {
+    if alignment < CENTER {
         return 0;
     }
-    if alignment < 2 {
+    if alignment < OUTSIDE {
         return signed::floor0(width) / 2;
     }
     signed::floor0(width)
@@ -171,9 +197,9 @@ pub fn first_row(numbers: &[i32]) -> i32
     ensures { λ r. ⌜ Is (firstRowOf (now (numbers .entry))) r ⌝ }
 {
     area_top(
-        numbers[2],
-        signed::floor0(numbers[4]),
-        outside_width(numbers[15], numbers[16]),
+        numbers[Y],
+        signed::floor0(numbers[HEIGHT]),
+        outside_width(numbers[STROKE_WIDTH], numbers[ALIGNMENT]),
     )
 }
 
@@ -183,13 +209,18 @@ fn rows_within(numbers: &[i32]) -> LayerRows
     requires { ⌜ (figureKept (now numbers) && styleKept (now numbers)) ≡ true ⌝ }
     ensures { λ r. ⌜ (r ≡ layerRows (layerOf (now (numbers .entry)))) × RowsFit r ⌝ }
 {
-    let height = signed::floor0(numbers[4]);
-    let outside = outside_width(numbers[15], numbers[16]);
-    let first = area_top(numbers[2], height, outside);
-    let count = area_rows(numbers[0] < 1, signed::floor0(numbers[3]), height, outside);
+    let height = signed::floor0(numbers[HEIGHT]);
+    let outside = outside_width(numbers[STROKE_WIDTH], numbers[ALIGNMENT]);
+    let first = area_top(numbers[Y], height, outside);
+    let count = area_rows(
+        numbers[KIND] < CRATE_BOX,
+        signed::floor0(numbers[WIDTH]),
+        height,
+        outside,
+    );
     LayerRows {
         first: first,
-        next: numbers[17],
+        next: numbers[NEXT_ROW],
         end: signed::add(first, signed::from_u32(count)),
     }
 }

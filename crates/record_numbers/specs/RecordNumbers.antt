@@ -10,7 +10,7 @@
 -- Assumes nothing.
 use mathlib.Core.Bool.{Bool, true, cond, _&&_}
 use mathlib.Core.List.{List, [], _∷_}
-use Prim.Native.Nat.{ℕ, zero, suc, _%_}
+use Prim.Native.Nat.{ℕ, zero, suc, _+_, _-_, _%_}
 use lib.Dec.{eqb}
 use lib.IntN.{ℤ, pos, negsuc}
 use lib.ListN.{length, take, drop, getD}
@@ -34,6 +34,65 @@ figureLength = 13
 
 abbrev pub styleLength : ℕ
 styleLength = 4
+
+-- where a figure's numbers stand; the radii's are the last eight
+abbrev pub kindAt : ℕ
+kindAt = 0
+
+abbrev pub xAt : ℕ
+xAt = 1
+
+abbrev pub yAt : ℕ
+yAt = 2
+
+abbrev pub widthAt : ℕ
+widthAt = 3
+
+abbrev pub heightAt : ℕ
+heightAt = 4
+
+abbrev pub radiiAt : ℕ
+radiiAt = 5
+
+-- where a style's numbers stand
+abbrev pub strokeAt : ℕ
+strokeAt = 0
+
+abbrev pub fillAt : ℕ
+fillAt = 1
+
+abbrev pub strokeWidthAt : ℕ
+strokeWidthAt = 2
+
+abbrev pub alignmentAt : ℕ
+alignmentAt = 3
+
+-- the kinds of a figure
+abbrev pub ellipseKind : ℤ
+ellipseKind = pos 0
+
+abbrev pub crateBoxKind : ℤ
+crateBoxKind = pos 1
+
+abbrev pub w3cBoxKind : ℤ
+w3cBoxKind = pos 2
+
+-- the alignments of a stroke
+abbrev pub insideAlignment : ℤ
+insideAlignment = pos 0
+
+abbrev pub centerAlignment : ℤ
+centerAlignment = pos 1
+
+abbrev pub outsideAlignment : ℤ
+outsideAlignment = pos 2
+
+-- no paint, which is one below the lowest colour, and the highest colour
+abbrev pub absentPaint : ℤ
+absentPaint = negsuc 0
+
+abbrev pub maxColour : ℤ
+maxColour = pos 255
 
 -- the k-th of some numbers
 abbrev pub numberAt : List ℤ → ℕ → ℤ
@@ -62,14 +121,15 @@ noneNegative (v ∷ rest) = leZ (pos 0) v && noneNegative rest
 -- the numbers of a figure
 unfoldable pub isFigure : List ℤ → Bool
 isFigure numbers =
-    eqb (length numbers) figureLength && (within (pos 0) (pos 2) (numberAt numbers 0) && noneNegative (take 10 (drop 3 numbers)))
+    eqb (length numbers) figureLength
+    && (within ellipseKind w3cBoxKind (numberAt numbers kindAt) && noneNegative (take (figureLength - widthAt) (drop widthAt numbers)))
 
 -- the numbers of a style
 unfoldable pub isStyle : List ℤ → Bool
 isStyle numbers =
     eqb (length numbers) styleLength
-    && (within (negsuc 0) (pos 255) (numberAt numbers 0) && (within (negsuc 0) (pos 255) (numberAt numbers 1)
-    && (leZ (pos 0) (numberAt numbers 2) && within (pos 0) (pos 2) (numberAt numbers 3))))
+    && (within absentPaint maxColour (numberAt numbers strokeAt) && (within absentPaint maxColour (numberAt numbers fillAt)
+    && (leZ (pos 0) (numberAt numbers strokeWidthAt) && within insideAlignment outsideAlignment (numberAt numbers alignmentAt))))
 
 -- ---- Which record it is, by the numbers above.
 
@@ -79,7 +139,7 @@ paintOf v = cond (ltZ v (pos 0)) Absent (Colour (floor0 v % 256))
 
 -- an alignment
 unfoldable pub alignmentOf : ℤ → StrokeAlignment
-alignmentOf v = cond (ltZ v (pos 1)) Inside (cond (ltZ v (pos 2)) Center Outside)
+alignmentOf v = cond (ltZ v centerAlignment) Inside (cond (ltZ v outsideAlignment) Center Outside)
 
 -- a size
 abbrev pub sizeOf : ℤ → ℤ → Size
@@ -89,18 +149,18 @@ sizeOf w h = record { width = floor0 w; height = floor0 h }
 abbrev pub rectangleOf : List ℤ → Rectangle
 rectangleOf numbers =
     record {
-      «top_left» = record { x = numberAt numbers 1; y = numberAt numbers 2 };
-      size = sizeOf (numberAt numbers 3) (numberAt numbers 4);
+      «top_left» = record { x = numberAt numbers xAt; y = numberAt numbers yAt };
+      size = sizeOf (numberAt numbers widthAt) (numberAt numbers heightAt);
     }
 
 -- its radii
 abbrev pub cornersOf : List ℤ → CornerRadii
 cornersOf numbers =
     record {
-      «top_left» = sizeOf (numberAt numbers 5) (numberAt numbers 6);
-      «top_right» = sizeOf (numberAt numbers 7) (numberAt numbers 8);
-      «bottom_right» = sizeOf (numberAt numbers 9) (numberAt numbers 10);
-      «bottom_left» = sizeOf (numberAt numbers 11) (numberAt numbers 12);
+      «top_left» = sizeOf (numberAt numbers radiiAt) (numberAt numbers (radiiAt + 1));
+      «top_right» = sizeOf (numberAt numbers (radiiAt + 2)) (numberAt numbers (radiiAt + 3));
+      «bottom_right» = sizeOf (numberAt numbers (radiiAt + 4)) (numberAt numbers (radiiAt + 5));
+      «bottom_left» = sizeOf (numberAt numbers (radiiAt + 6)) (numberAt numbers (radiiAt + 7));
     }
 
 -- both as a box
@@ -110,15 +170,15 @@ boxOf numbers = record { rectangle = rectangleOf numbers; corners = cornersOf nu
 -- the figure
 unfoldable pub figureOf : List ℤ → Figure
 figureOf numbers =
-    cond (ltZ (numberAt numbers 0) (pos 1)) (Ellipse (rectangleOf numbers))
-    (cond (ltZ (numberAt numbers 0) (pos 2)) (CrateBox (boxOf numbers)) (W3cBox (boxOf numbers)))
+    cond (ltZ (numberAt numbers kindAt) crateBoxKind) (Ellipse (rectangleOf numbers))
+    (cond (ltZ (numberAt numbers kindAt) w3cBoxKind) (CrateBox (boxOf numbers)) (W3cBox (boxOf numbers)))
 
 -- the style
 unfoldable pub styleOf : List ℤ → Style
 styleOf numbers =
     record {
-      stroke = paintOf (numberAt numbers 0);
-      fill = paintOf (numberAt numbers 1);
-      «stroke_width» = floor0 (numberAt numbers 2);
-      alignment = alignmentOf (numberAt numbers 3);
+      stroke = paintOf (numberAt numbers strokeAt);
+      fill = paintOf (numberAt numbers fillAt);
+      «stroke_width» = floor0 (numberAt numbers strokeWidthAt);
+      alignment = alignmentOf (numberAt numbers alignmentAt);
     }

@@ -18,6 +18,63 @@ pub const FIGURE_LENGTH: usize = 13;
 
 pub const STYLE_LENGTH: usize = 4;
 
+// Where a figure's numbers stand. The radii's are the last eight.
+pub const KIND: usize = 0;
+
+pub const X: usize = 1;
+
+pub const Y: usize = 2;
+
+pub const WIDTH: usize = 3;
+
+pub const HEIGHT: usize = 4;
+
+pub const RADII: usize = 5;
+
+const TOP_LEFT_WIDTH: usize = RADII;
+
+const TOP_LEFT_HEIGHT: usize = RADII + 1;
+
+const TOP_RIGHT_WIDTH: usize = RADII + 2;
+
+const TOP_RIGHT_HEIGHT: usize = RADII + 3;
+
+const BOTTOM_RIGHT_WIDTH: usize = RADII + 4;
+
+const BOTTOM_RIGHT_HEIGHT: usize = RADII + 5;
+
+const BOTTOM_LEFT_WIDTH: usize = RADII + 6;
+
+const BOTTOM_LEFT_HEIGHT: usize = RADII + 7;
+
+// Where a style's numbers stand.
+pub const STROKE: usize = 0;
+
+pub const FILL: usize = 1;
+
+pub const STROKE_WIDTH: usize = 2;
+
+pub const ALIGNMENT: usize = 3;
+
+// The kinds of a figure.
+pub const ELLIPSE: i32 = 0;
+
+pub const CRATE_BOX: i32 = 1;
+
+pub const W3C_BOX: i32 = 2;
+
+// The alignments of a stroke.
+pub const INSIDE: i32 = 0;
+
+pub const CENTER: i32 = 1;
+
+pub const OUTSIDE: i32 = 2;
+
+// No paint, which is one below the lowest colour, and the highest colour.
+pub const ABSENT: i32 = -1;
+
+pub const MAX_COLOUR: i32 = 255;
+
 // Whether v is from low to high.
 pub fn is_within(low: i32, high: i32, v: i32) -> bool
     ensures { λ r. ⌜ r ≡ within low high v ⌝ }
@@ -49,10 +106,10 @@ pub fn is_figure(numbers: &[i32]) -> bool
     if numbers.len() != FIGURE_LENGTH {
         return false;
     }
-    if !is_within(0, 2, numbers[0]) {
+    if !is_within(ELLIPSE, W3C_BOX, numbers[KIND]) {
         return false;
     }
-    none_negative(&numbers[3..13])
+    none_negative(&numbers[WIDTH..FIGURE_LENGTH])
 }
 
 // Whether the numbers are a style's.
@@ -62,16 +119,16 @@ pub fn is_style(numbers: &[i32]) -> bool
     if numbers.len() != STYLE_LENGTH {
         return false;
     }
-    if !is_within(-1, 255, numbers[0]) {
+    if !is_within(ABSENT, MAX_COLOUR, numbers[STROKE]) {
         return false;
     }
-    if !is_within(-1, 255, numbers[1]) {
+    if !is_within(ABSENT, MAX_COLOUR, numbers[FILL]) {
         return false;
     }
-    if numbers[2] < 0 {
+    if numbers[STROKE_WIDTH] < 0 {
         return false;
     }
-    is_within(0, 2, numbers[3])
+    is_within(INSIDE, OUTSIDE, numbers[ALIGNMENT])
 }
 
 fn paint_of(v: i32) -> Paint
@@ -86,10 +143,10 @@ fn paint_of(v: i32) -> Paint
 fn alignment_of(v: i32) -> StrokeAlignment
     ensures { λ r. ⌜ r ≡ alignmentOf v ⌝ }
 {
-    if v < 1 {
+    if v < CENTER {
         return StrokeAlignment::Inside;
     }
-    if v < 2 {
+    if v < OUTSIDE {
         return StrokeAlignment::Center;
     }
     StrokeAlignment::Outside
@@ -110,10 +167,10 @@ fn rectangle_of(numbers: &[i32]) -> Rectangle
 {
     Rectangle {
         top_left: Point {
-            x: numbers[1],
-            y: numbers[2],
+            x: numbers[X],
+            y: numbers[Y],
         },
-        size: size_of(numbers[3], numbers[4]),
+        size: size_of(numbers[WIDTH], numbers[HEIGHT]),
     }
 }
 
@@ -122,10 +179,10 @@ fn corners_of(numbers: &[i32]) -> CornerRadii
     ensures { λ r. ⌜ r ≡ cornersOf (now (numbers .entry)) ⌝ }
 {
     CornerRadii {
-        top_left: size_of(numbers[5], numbers[6]),
-        top_right: size_of(numbers[7], numbers[8]),
-        bottom_right: size_of(numbers[9], numbers[10]),
-        bottom_left: size_of(numbers[11], numbers[12]),
+        top_left: size_of(numbers[TOP_LEFT_WIDTH], numbers[TOP_LEFT_HEIGHT]),
+        top_right: size_of(numbers[TOP_RIGHT_WIDTH], numbers[TOP_RIGHT_HEIGHT]),
+        bottom_right: size_of(numbers[BOTTOM_RIGHT_WIDTH], numbers[BOTTOM_RIGHT_HEIGHT]),
+        bottom_left: size_of(numbers[BOTTOM_LEFT_WIDTH], numbers[BOTTOM_LEFT_HEIGHT]),
     }
 }
 
@@ -135,14 +192,14 @@ pub fn figure_of(numbers: &[i32]) -> Figure
     ensures { λ r. ⌜ r ≡ figureOf (now (numbers .entry)) ⌝ }
 {
     let rectangle = rectangle_of(numbers);
-    if numbers[0] < 1 {
+    if numbers[KIND] < CRATE_BOX {
         return Figure::Ellipse(rectangle);
     }
     let b = RoundedRectangle {
         rectangle: rectangle,
         corners: corners_of(numbers),
     };
-    if numbers[0] < 2 {
+    if numbers[KIND] < W3C_BOX {
         return Figure::CrateBox(b);
     }
     Figure::W3cBox(b)
@@ -154,9 +211,9 @@ pub fn style_of(numbers: &[i32]) -> Style
     ensures { λ r. ⌜ r ≡ styleOf (now (numbers .entry)) ⌝ }
 {
     Style {
-        stroke: paint_of(numbers[0]),
-        fill: paint_of(numbers[1]),
-        stroke_width: signed::floor0(numbers[2]),
-        alignment: alignment_of(numbers[3]),
+        stroke: paint_of(numbers[STROKE]),
+        fill: paint_of(numbers[FILL]),
+        stroke_width: signed::floor0(numbers[STROKE_WIDTH]),
+        alignment: alignment_of(numbers[ALIGNMENT]),
     }
 }

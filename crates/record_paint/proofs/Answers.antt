@@ -10,6 +10,7 @@ use lib.Dec.{leb}
 use lib.IntN.{ℤ}
 use lib.ListN.{length, take, getD}
 use lib.Signed.{leZ, ltZ}
+use Rattle.geometry.specs.Limits.{maxLayers}
 use Rattle.signed.proofs.Laws.{int}
 use Rattle.refusal.specs.declared.Refusal.the-variants.{RowOwed}
 use Rattle.refusal.specs.declared.Checked.{Checked}
@@ -24,7 +25,7 @@ use Rattle.layers.specs.Layers.{blankLayer, layerRows}
 use Rattle.sheet.proofs.Answers.{paint-length, paint-no-layer, paint-finished, paint-owed, paint-free}
 use Rattle.sheet.specs.Sheet.{sheetAnswer}
 use Rattle.record_numbers.specs.RecordNumbers.{listFrom}
-use Rattle.sheet_record.specs.SheetRecord.{placeNumbers, layerOf, sheetOf}
+use Rattle.sheet_record.specs.SheetRecord.{sheetLength, placeNumbers, layerOf, sheetOf}
 use Rattle.sheet_record.proofs.Parts.{sixteen}
 use Rattle.sheet_record.proofs.ReadBack.{layer-in-place}
 use Rattle.record_rules.specs.declared.Asked.{Asked}
@@ -97,8 +98,8 @@ module _ (n : List ℤ) (count layer : ℕ) (y : ℤ) where
       by-test false e = let z : _≡_ {A = ℕ} 0 1 = cc in absurd (omega arith)
 
 -- ---- the answers
-module _ (n : List ℤ) (long : length n ≡ 291) (count layer : ℕ) (canvas : List ℕ) (rules : rulesKept n long ≡ true)
-    (says : sheetOf n .count ≡ count) (few : count ≤ 16) where
+module _ (n : List ℤ) (long : length n ≡ sheetLength) (count layer : ℕ) (canvas : List ℕ) (rules : rulesKept n long ≡ true)
+    (says : sheetOf n .count ≡ count) (few : count ≤ maxLayers) where
   abbrev W : ℕ
   W = sheetOf n .width
 
@@ -121,11 +122,11 @@ module _ (n : List ℤ) (long : length n ≡ 291) (count layer : ℕ) (canvas : 
       earlier : layer < count → rowsFrom n 0 layer ≡ map layerRows (take layer (sheetOf n .layers))
       earlier within =
           sym (ap (λ (l : List Layer). map layerRows (take layer l)) (places-are n long)
-          ∙ ap (map layerRows) (take-list-from (λ k. layerOf (placeNumbers n k)) layer 0 16 (omega arith))
+          ∙ ap (map layerRows) (take-list-from (λ k. layerOf (placeNumbers n k)) layer 0 maxLayers (omega arith))
           ∙ map-list-from layerRows (λ k. layerOf (placeNumbers n k)) 0 layer)
 
       row : layer < count → nextOf n layer ≡ rowsAt n layer .next
-      row within = rw (lt-ltb layer 16 (omega arith))
+      row within = rw (lt-ltb layer maxLayers (omega arith))
 
       by-owed : canvasLengthCheck W H (length canvas) ≡ Passed → (within : layer < count) → found .left ≡ true → (t : Bool)
           → found .owed ≡ t

@@ -12,6 +12,7 @@ use lib.Signed.{leZ}
 use Rattle.signed.specs.Signed.{floor0}
 use Rattle.signed.proofs.Laws.{int}
 use Rattle.refusal.specs.declared.Checked.the-variants.{Passed}
+use Rattle.geometry.specs.Limits.{maxLayers}
 use Rattle.canvas_size.specs.CanvasSize.{canvasSizeCheck}
 use Rattle.canvas_size.proofs.Sides.{canvas-size-passed}
 use Rattle.layer_rows.specs.LayerRows.{rowsInOrder}
@@ -24,7 +25,7 @@ use Rattle.layers.specs.Layers.{layerOf as Layers·layerOf}
 use Rattle.layers.proofs.LayerRules.{eachKeeps, regroup, kept-by-parts}
 use Rattle.sheet.proofs.Places.{broken-count, kept-by-layers}
 use Rattle.record_numbers.specs.RecordNumbers.{numberAt, listFrom, allFrom, within, noneNegative}
-use Rattle.sheet_record.specs.SheetRecord.{placeNumbers, isLayer, holdsRecords, layerOf, sheetOf}
+use Rattle.sheet_record.specs.SheetRecord.{canvasWidthAt, canvasHeightAt, countAt, sheetLength, placeNumbers, isLayer, holdsRecords, layerOf, sheetOf}
 use Rattle.sheet_record.proofs.Parts.{sixteen, count-of-records}
 use Rattle.record_rules.specs.RecordRules.{rowsFrom, placesKept}
 
@@ -58,14 +59,14 @@ all-both s t j (suc n) =
 -- the first three numbers
 three-numbers : (n : List ℤ) → 3 ≤ length n
     → noneNegative (take 3 n)
-    ≡ (leZ (pos 0) (numberAt n 0) && (leZ (pos 0) (numberAt n 1) && (leZ (pos 0) (numberAt n 2) && true)))
+    ≡ (leZ (pos 0) (numberAt n canvasWidthAt) && (leZ (pos 0) (numberAt n canvasHeightAt) && (leZ (pos 0) (numberAt n countAt) && true)))
 unfolding noneNegative
 three-numbers [] few = absurd (omega arith)
 three-numbers (a ∷ []) few = absurd (omega arith)
 three-numbers (a ∷ b ∷ []) few = absurd (omega arith)
 three-numbers (a ∷ b ∷ c ∷ n) few = refl
 
-module _ (n : List ℤ) (long : length n ≡ 291) where
+module _ (n : List ℤ) (long : length n ≡ sheetLength) where
   abbrev W : ℕ
   W = sheetOf n .width
 
@@ -73,7 +74,7 @@ module _ (n : List ℤ) (long : length n ≡ 291) where
   H = sheetOf n .height
 
   abbrev count : ℕ
-  count = floor0 (numberAt n 2)
+  count = floor0 (numberAt n countAt)
 
   -- the layer in each place
   abbrev place : ℕ → Layer
@@ -82,46 +83,46 @@ module _ (n : List ℤ) (long : length n ≡ 291) where
   abbrev pub rulesKept : Bool
   rulesKept = keepsRules drawing W H (layersOf (sheetOf n .count) (sheetOf n .layers))
 
-  pub places-are : sheetOf n .layers ≡ listFrom place 0 16
+  pub places-are : sheetOf n .layers ≡ listFrom place 0 maxLayers
   unfolding sheetOf
   places-are = refl
 
-  -- numbers that hold no records say 17 layers
-  count-of-none : holdsRecords n ≡ false → sheetOf n .count ≡ 17
+  -- numbers that hold no records say one layer too many
+  count-of-none : holdsRecords n ≡ false → sheetOf n .count ≡ suc maxLayers
   unfolding sheetOf
-  count-of-none lacking = ap (λ (t : Bool). cond t (floor0 (numberAt n 2)) 17) lacking
+  count-of-none lacking = ap (λ (t : Bool). cond t (floor0 (numberAt n countAt)) (suc maxLayers)) lacking
 
   -- and those that do say a count that is not negative
-  count-sign : holdsRecords n ≡ true → leZ (pos 0) (numberAt n 2) ≡ true
+  count-sign : holdsRecords n ≡ true → leZ (pos 0) (numberAt n countAt) ≡ true
   unfolding holdsRecords
   count-sign holds =
-      let k0 : Bool = leZ (pos 0) (numberAt n 0) in
-      let k1 : Bool = leZ (pos 0) (numberAt n 1) in
-      let k2 : Bool = leZ (pos 0) (numberAt n 2) in
+      let k0 : Bool = leZ (pos 0) (numberAt n canvasWidthAt) in
+      let k1 : Bool = leZ (pos 0) (numberAt n canvasHeightAt) in
+      let k2 : Bool = leZ (pos 0) (numberAt n countAt) in
       let sides = and-true-parts (noneNegative (take 3 n))
-      (allFrom (λ k. isLayer (placeNumbers n k)) 0 (min (floor0 (numberAt n 2)) 16)) holds .0 in
+      (allFrom (λ k. isLayer (placeNumbers n k)) 0 (min (floor0 (numberAt n countAt)) maxLayers)) holds .0 in
       let first = and-true-parts k0 (k1 && (k2 && true)) (sym (three-numbers n (omega arith)) ∙ sides) in
       let second = and-true-parts k1 (k2 && true) (first .1) in
       and-true-parts k2 true (second .1) .0
 
-  -- a count that is negative or above 16
-  pub broken-by-count : within (pos 0) (pos 16) (numberAt n 2) ≡ false → rulesKept ≡ false
+  -- a count that is negative or above the limit
+  pub broken-by-count : within (pos 0) (pos maxLayers) (numberAt n countAt) ≡ false → rulesKept ≡ false
   broken-by-count beyond =
       broken-count W H (sheetOf n .count) (sheetOf n .layers) (sixteen n) (by-records (holdsRecords n) refl)
     where
-      above : leZ (pos 0) (numberAt n 2) ≡ true → leZ (numberAt n 2) (pos 16) ≡ false
-      above sign = sym (ap (λ (t : Bool). t && leZ (numberAt n 2) (pos 16)) sign) ∙ beyond
+      above : leZ (pos 0) (numberAt n countAt) ≡ true → leZ (numberAt n countAt) (pos maxLayers) ≡ false
+      above sign = sym (ap (λ (t : Bool). t && leZ (numberAt n countAt) (pos maxLayers)) sign) ∙ beyond
 
-      by-records : (t : Bool) → holdsRecords n ≡ t → 16 < sheetOf n .count
+      by-records : (t : Bool) → holdsRecords n ≡ t → maxLayers < sheetOf n .count
       by-records true holds =
           let high = above (count-sign holds) in
           omega (arith, int, count-of-records n holds)
       by-records false lacking = omega (arith, count-of-none lacking)
 
-  module _ (size : canvasSizeCheck W H ≡ Passed) (few : within (pos 0) (pos 16) (numberAt n 2) ≡ true) where
-    pub count-few : count ≤ 16
+  module _ (size : canvasSizeCheck W H ≡ Passed) (few : within (pos 0) (pos maxLayers) (numberAt n countAt) ≡ true) where
+    pub count-few : count ≤ maxLayers
     count-few =
-        let parts = and-true-parts (leZ (pos 0) (numberAt n 2)) (leZ (numberAt n 2) (pos 16)) few in
+        let parts = and-true-parts (leZ (pos 0) (numberAt n countAt)) (leZ (numberAt n countAt) (pos maxLayers)) few in
         omega (arith, int)
 
     abbrev layers : Bool
@@ -133,17 +134,17 @@ module _ (n : List ℤ) (long : length n ≡ 291) where
         let sides = canvas-size-passed W H size in
         let width = sides .width-least in
         let height = sides .height-least in
-        let parts = and-true-parts (leZ (pos 0) (numberAt n 2)) (leZ (numberAt n 2) (pos 16)) few in
-        let wide : leZ (pos 0) (numberAt n 0) ≡ true = omega (arith, int) in
-        let high : leZ (pos 0) (numberAt n 1) ≡ true = omega (arith, int) in
-        let used : min count 16 ≡ count = omega (arith, count-few) in
+        let parts = and-true-parts (leZ (pos 0) (numberAt n countAt)) (leZ (numberAt n countAt) (pos maxLayers)) few in
+        let wide : leZ (pos 0) (numberAt n canvasWidthAt) ≡ true = omega (arith, int) in
+        let high : leZ (pos 0) (numberAt n canvasHeightAt) ≡ true = omega (arith, int) in
+        let used : min count maxLayers ≡ count = omega (arith, count-few) in
         rw (three-numbers n (omega arith), wide, high, parts .0) (ap (allFrom (λ k. isLayer (placeNumbers n k)) 0) used)
 
     -- the rules, where all places are layers'
     rules-of-layers : layers ≡ true → rulesKept ≡ (placesKept n 0 count && rowsInOrder (rowsFrom n 0 count))
     rules-of-layers all =
         let saying = count-of-records n (records-by-layers ∙ all) in
-        let first = ap (take count) places-are ∙ take-list-from place count 0 16 count-few in
+        let first = ap (take count) places-are ∙ take-list-from place count 0 maxLayers count-few in
         ap (λ (k : ℕ). keepsRules drawing W H (layersOf k (sheetOf n .layers))) saying
         ∙ sym (kept-by-layers W H count (sheetOf n .layers) (sixteen n) size count-few)
         ∙ kept-by-parts (take count (sheetOf n .layers))
@@ -179,5 +180,5 @@ module _ (n : List ℤ) (long : length n ≡ 291) where
         by-layers : (t : Bool) → layers ≡ t → sheetOf n .count ≡ count
         by-layers true all = count-of-records n (records-by-layers ∙ all)
         by-layers false lacking =
-            let many : 16 < sheetOf n .count = omega (arith, count-of-none (records-by-layers ∙ lacking)) in
+            let many : maxLayers < sheetOf n .count = omega (arith, count-of-none (records-by-layers ∙ lacking)) in
             absurd (true≢false (sym rules ∙ broken-count W H (sheetOf n .count) (sheetOf n .layers) (sixteen n) many))

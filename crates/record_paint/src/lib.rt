@@ -9,7 +9,10 @@ use refusal::Checked;
 use refusal::Refusal;
 use row_alone::paint_row_alone;
 use sheet::Sheet;
+use sheet_record::COUNT;
+use sheet_record::FIRST_PLACE;
 use sheet_record::LAYER_LENGTH;
+use sheet_record::NEXT_ROW;
 use sheet_record::layer_at;
 use sheet_record::size_of;
 ghost use mathlib.Core.Path.{_≡_};
@@ -34,7 +37,7 @@ fn next_of(numbers: &[i32], layer: u32) -> i32
     if Sheet::MAX_LAYERS <= layer {
         return 0;
     }
-    numbers[3 + LAYER_LENGTH * (layer as usize) + 17]
+    numbers[FIRST_PLACE + LAYER_LENGTH * (layer as usize) + NEXT_ROW]
 }
 
 // Refusals 8, 10, 11 and 12, where the rules are kept.
@@ -66,10 +69,10 @@ pub fn check_paint(numbers: &[i32], layer: u32, bytes: usize) -> Checked
     let Checked::Passed = size.check() else {
         return Checked::Refused(Refusal::SheetRule);
     };
-    if !is_within(0, MAX_COUNT, numbers[2]) {
+    if !is_within(0, MAX_COUNT, numbers[COUNT]) {
         return Checked::Refused(Refusal::SheetRule);
     }
-    let count = signed::floor0(numbers[2]);
+    let count = signed::floor0(numbers[COUNT]);
     let y = next_of(numbers, layer);
     let PlacesTested::Kept(asked) = test_places(numbers, count as usize, layer as usize, y) else {
         return Checked::Refused(Refusal::SheetRule);
@@ -90,5 +93,5 @@ pub fn paint_next(numbers: &mut [i32], layer: u32, canvas: &mut [u8])
     let style = chosen.style;
     let row = chosen.next_row;
     paint_row_alone(canvas, size_of(numbers), figure, style, row);
-    numbers[3 + LAYER_LENGTH * place + 17] = signed::add(row, 1);
+    numbers[FIRST_PLACE + LAYER_LENGTH * place + NEXT_ROW] = signed::add(row, 1);
 }

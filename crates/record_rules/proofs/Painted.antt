@@ -4,7 +4,7 @@
 use mathlib.Core.Path.{_≡_, refl, sym, _∙_}
 use mathlib.Core.Bool.{Bool, true, false, _&&_}
 use mathlib.Core.List.{List, [], _∷_}
-use Prim.Native.Nat.{ℕ, _+_, _*_}
+use Prim.Native.Nat.{ℕ, _+_}
 use native.Mathlib.Omega.{arith}
 use lib.IntN.{ℤ, pos}
 use lib.ListN.{drop}
@@ -16,13 +16,14 @@ use Rattle.layer_rows.specs.declared.LayerRows.{LayerRows}
 use Rattle.layer_rows.specs.LayerRows.{rowsOvertake, noRowsOvertake}
 use Rattle.layer_rows.proofs.RowTests.{overtakes-none-painted, overtakes-none-reached, overtakes-none-left}
 use Rattle.record_numbers.specs.RecordNumbers.{numberAt}
-use Rattle.sheet_record.specs.SheetRecord.{placeNumbers}
+use Rattle.sheet_record.specs.SheetRecord.{nextRowAt, layerLength, placeAt, placeNumbers}
 use Rattle.record_rules.specs.declared.PaintedRows.{PaintedRows}
 use Rattle.record_rules.specs.RecordRules.{alsoPainted, KeepTo}
 
 -- the last number of a place is its next row
-pub next-in-place : (n : List ℤ) (j : ℕ) → numberAt (placeNumbers n j) 17 ≡ numberAt n (3 + 18 * j + 17)
-next-in-place n j = getD-take 18 (drop (3 + 18 * j) n) 17 (pos 0) (omega arith) ∙ getD-drop (3 + 18 * j) n 17 (pos 0)
+pub next-in-place : (n : List ℤ) (j : ℕ) → numberAt (placeNumbers n j) nextRowAt ≡ numberAt n (placeAt j + nextRowAt)
+next-in-place n j =
+    getD-take layerLength (drop (placeAt j) n) nextRowAt (pos 0) (omega arith) ∙ getD-drop (placeAt j) n nextRowAt (pos 0)
 
 -- whether a layer is overtaken goes by the first and the next row of the later one
 pub overtake-by-painted : (earlier a b : LayerRows) → a .first ≡ b .first → a .next ≡ b .next

@@ -4,7 +4,9 @@ use layer_rows::LayerRows;
 use layers::RowsFound;
 use place_rules::first_row;
 use place_rules::place_rows;
+use sheet_record::FIRST_PLACE;
 use sheet_record::LAYER_LENGTH;
+use sheet_record::NEXT_ROW;
 ghost use mathlib.Core.Path.{_≡_};
 ghost use mathlib.Core.Bool.{true};
 ghost use Prim.Native.Nat.{_-_, _<_, _≤_};
@@ -85,11 +87,11 @@ fn painted_at(numbers: &[i32], j: usize) -> LayerRows
     requires { ⌜ placeKept (placeNumbers (now numbers) j) ≡ true ⌝ }
     ensures { λ r. ⌜ (r .first ≡ rowsAt (now (numbers .entry)) j .first) × (r .next ≡ rowsAt (now (numbers .entry)) j .next) ⌝ }
 {
-    let at = 3 + LAYER_LENGTH * j;
+    let at = FIRST_PLACE + LAYER_LENGTH * j;
     let end = at + LAYER_LENGTH;
     LayerRows {
         first: first_row(&numbers[at..end]),
-        next: numbers[at + 17],
+        next: numbers[at + NEXT_ROW],
         end: 0,
     }
 }
@@ -154,7 +156,7 @@ pub fn test_places(numbers: &[i32], count: usize, layer: usize, y: i32) -> Place
     let mut i = count;
     while 0 < i {
         let place = i - 1;
-        let at = 3 + LAYER_LENGTH * place;
+        let at = FIRST_PLACE + LAYER_LENGTH * place;
         let end = at + LAYER_LENGTH;
         let RowsFound::Kept(rows) = place_rows(&numbers[at..end]) else {
             return PlacesTested::Broken;

@@ -10,6 +10,7 @@ use native.Mathlib.Numerals.{add-one}
 use lib.IntN.{ℤ}
 use lib.ListN.{length, take, drop, set}
 use lib.Seq.{sets}
+use Rattle.geometry.specs.Limits.{maxLayers}
 use Rattle.refusal.specs.declared.Refusal.{Refusal}
 use Rattle.refusal.specs.declared.Checked.the-variants.{Passed, Refused}
 use Rattle.refusal.specs.Refusal.{number}
@@ -28,7 +29,7 @@ use Rattle.sheet.specs.SheetDemand3.{sheetAnswers, sheetAfterAll, canvasAfterAl
 use Rattle.sheet.proofs.SheetDemand3.{calls-made, sheet-demand3}
 use Rattle.record_numbers.specs.RecordNumbers.{listFrom}
 use Rattle.record_numbers.proofs.Walks.{list-from-here}
-use Rattle.call_numbers.specs.CallNumbers.{callOf, callNumbers, callsFrom, encodesCalls}
+use Rattle.call_numbers.specs.CallNumbers.{callLength, callOf, callNumbers, callsFrom, encodesCalls}
 use Rattle.call_numbers.proofs.Walks.{call-part}
 use Rattle.sheet_calls.specs.SheetCalls.{allRan, notCalls, refusedBy, lentCheck, runAnswer, Called, answersAfter, stateAfter, Ran}
 
@@ -82,7 +83,7 @@ module _ (numbers : List ℤ) (count : ℕ) (s₀ : Sheet) (canvas₀ list : Lis
     pub width : s .width ≡ s₀ .width
     pub height : s .height ≡ s₀ .height
 
-  pub none-left : length (s₀ .layers) ≡ 16 → (j : ℕ) (s : Sheet) (canvas told : List ℕ) → CallsLeft j s canvas told
+  pub none-left : length (s₀ .layers) ≡ maxLayers → (j : ℕ) (s : Sheet) (canvas told : List ℕ) → CallsLeft j s canvas told
       → count ≤ j → AllMade s canvas told
   unfolding sheetAnswers sheetAfterAll canvasAfterAll listFrom
   none-left sixteen j s canvas told l done =
@@ -102,7 +103,7 @@ module _ (numbers : List ℤ) (count : ℕ) (s₀ : Sheet) (canvas₀ list : Lis
 
 -- the numbers lent for call j are its own
 pub called-part : (numbers : List ℤ) (j : ℕ) {s : Sheet} {canvas : List ℕ} {r : SheetOutcome} {canvas′ : List ℕ}
-    → Called (callOf (take (20 * j + 20 - 20 * j) (drop (20 * j) numbers))) s canvas r canvas′
+    → Called (callOf (take (callLength * j + callLength - callLength * j) (drop (callLength * j) numbers))) s canvas r canvas′
     → Called (callOf (callNumbers numbers j)) s canvas r canvas′
 called-part numbers j {s} {canvas} {r} {canvas′} called =
     subst (λ (part : List ℤ). Called (callOf part) s canvas r canvas′) (call-part numbers j) called

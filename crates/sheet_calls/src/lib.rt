@@ -1,5 +1,12 @@
 // A list of calls, written as numbers (crate call_numbers), run from a sheet just opened on one
 // canvas: the function whose promise is demand 3.
+use call_numbers::CALL_LENGTH;
+use call_numbers::FIGURE;
+use call_numbers::KIND;
+use call_numbers::LAYER;
+use call_numbers::PAINT;
+use call_numbers::STYLE;
+use call_numbers::STYLE_END;
 use canvas_size::CanvasSize;
 use refusal::Checked;
 use refusal::Refusal;
@@ -42,12 +49,12 @@ fn make_call(sheet: Sheet, numbers: &[i32], canvas: &mut [u8]) -> SheetOutcome
     requires { ⌜ length (now numbers) ≡ callLength ⌝ }
     ensures { λ r. ⌜ Called (callOf (now (numbers .entry))) sheet (now (canvas .entry)) r (now (canvas .exit)) ⌝ }
 {
-    if 1 <= numbers[0] {
-        return sheet.paint(signed::floor0(numbers[1]), canvas);
+    if PAINT <= numbers[KIND] {
+        return sheet.paint(signed::floor0(numbers[LAYER]), canvas);
     }
     sheet.add(
-        record_numbers::figure_of(&numbers[1..14]),
-        record_numbers::style_of(&numbers[14..18]),
+        record_numbers::figure_of(&numbers[FIGURE..STYLE]),
+        record_numbers::style_of(&numbers[STYLE..STYLE_END]),
     )
 }
 
@@ -68,8 +75,8 @@ fn make_calls(
     let mut current = sheet;
     let mut j: usize = 0;
     while j < count {
-        let at = call_numbers::CALL_LENGTH * j;
-        let end = at + call_numbers::CALL_LENGTH;
+        let at = CALL_LENGTH * j;
+        let end = at + CALL_LENGTH;
         let made = make_call(current, &numbers[at..end], canvas);
         current = made.sheet;
         let answer = made.answer;
@@ -98,7 +105,7 @@ pub fn run_calls(
         width: width,
         height: height,
     };
-    let count = calls.len() / call_numbers::CALL_LENGTH;
+    let count = calls.len() / CALL_LENGTH;
     let lent = size.check().or_else(size.check_length(canvas.len()));
     let checked = lent.or_else(check_room(count, answers.len()));
     let Checked::Passed = checked else {

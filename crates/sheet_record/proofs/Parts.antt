@@ -3,7 +3,7 @@
 use mathlib.Core.Path.{_≡_, refl, ap}
 use mathlib.Core.Bool.{Bool, true, false, cond}
 use mathlib.Core.List.{List}
-use Prim.Native.Nat.{ℕ, _+_, _*_, _-_, _<_, _≤_}
+use Prim.Native.Nat.{ℕ, suc, _+_, _-_, _<_, _≤_}
 use native.Mathlib.Omega.{arith}
 use native.Mathlib.Numerals.{add-one}
 use borrow.Author.Tests.{eqb-true}
@@ -11,31 +11,32 @@ use lib.IntN.{ℤ}
 use lib.ListN.{length, take, drop, set, replicate, length-take, length-drop}
 use lib.Seq.{sets}
 use Rattle.signed.specs.Signed.{floor0}
+use Rattle.geometry.specs.Limits.{maxLayers}
 use Rattle.record_numbers.specs.RecordNumbers.{numberAt, listFrom}
 use Rattle.record_numbers.proofs.Walks.{list-from-here, list-from-past}
 use Rattle.layers.specs.declared.Layer.{Layer}
-use Rattle.sheet_record.specs.SheetRecord.{layerLength, sheetLength, placeNumbers, isSheet, holdsRecords, countOf, sheetOf}
+use Rattle.sheet_record.specs.SheetRecord.{layerLength, countAt, sheetLength, placeAt, placeNumbers, isSheet, holdsRecords, countOf, sheetOf}
 
 module _ (numbers : List ℤ) (j : ℕ) where
-  pub place-part : take (3 + 18 * j + 18 - (3 + 18 * j)) (drop (3 + 18 * j) numbers) ≡ placeNumbers numbers j
+  pub place-part : take (placeAt j + layerLength - placeAt j) (drop (placeAt j) numbers) ≡ placeNumbers numbers j
   place-part =
-      let long : 3 + 18 * j + 18 - (3 + 18 * j) ≡ 18 = omega arith in
-      ap (λ (n : ℕ). take n (drop (3 + 18 * j) numbers)) long
+      let long : placeAt j + layerLength - placeAt j ≡ layerLength = omega arith in
+      ap (λ (n : ℕ). take n (drop (placeAt j) numbers)) long
 
-  pub place-part-length : length numbers ≡ 291 → j < 16
-      → length (take (3 + 18 * j + 18 - (3 + 18 * j)) (drop (3 + 18 * j) numbers)) ≡ layerLength
+  pub place-part-length : length numbers ≡ sheetLength → j < maxLayers
+      → length (take (placeAt j + layerLength - placeAt j) (drop (placeAt j) numbers)) ≡ layerLength
   place-part-length long within = simp (length-take, length-drop) (omega arith)
 
 -- ---- 16 places, put one after another: those that are left make the whole
 module _ (f : ℕ → Layer) where
-  pub put-place : (places : List Layer) (j : ℕ) → j < 16
-      → sets places j (listFrom f j (16 - j)) ≡ sets (set places j (f j)) (j + 1) (listFrom f (j + 1) (16 - (j + 1)))
-  put-place places j within = rw (list-from-here f 16 j within, add-one j)
+  pub put-place : (places : List Layer) (j : ℕ) → j < maxLayers
+      → sets places j (listFrom f j (maxLayers - j)) ≡ sets (set places j (f j)) (j + 1) (listFrom f (j + 1) (maxLayers - (j + 1)))
+  put-place places j within = rw (list-from-here f maxLayers j within, add-one j)
 
-  pub all-put : (places : List Layer) (j : ℕ) → 16 ≤ j → sets places j (listFrom f j (16 - j)) ≡ places
-  all-put places j past = rw (list-from-past f 16 j past)
+  pub all-put : (places : List Layer) (j : ℕ) → maxLayers ≤ j → sets places j (listFrom f j (maxLayers - j)) ≡ places
+  all-put places j past = rw (list-from-past f maxLayers j past)
 
-  pub whole : (blank : Layer) → sets (replicate 16 blank) 0 (listFrom f 0 16) ≡ listFrom f 0 16
+  pub whole : (blank : Layer) → sets (replicate maxLayers blank) 0 (listFrom f 0 maxLayers) ≡ listFrom f 0 maxLayers
   unfolding listFrom
   whole blank = refl
 
@@ -43,22 +44,22 @@ module _ (f : ℕ → Layer) where
 pub sheet-length : (numbers : List ℤ) → isSheet numbers ≡ true → length numbers ≡ sheetLength
 sheet-length numbers is = eqb-true (length numbers) sheetLength is
 
-pub sixteen : (numbers : List ℤ) → length (sheetOf numbers .layers) ≡ 16
+pub sixteen : (numbers : List ℤ) → length (sheetOf numbers .layers) ≡ maxLayers
 unfolding sheetOf listFrom
 sixteen numbers = refl
 
 -- ---- numbers that say 16 layers or fewer hold records
 module _ (numbers : List ℤ) where
-  pub records-of-few : sheetOf numbers .count ≤ 16 → holdsRecords numbers ≡ true
+  pub records-of-few : sheetOf numbers .count ≤ maxLayers → holdsRecords numbers ≡ true
   unfolding sheetOf
   records-of-few few = by (holdsRecords numbers) refl
     where
       by : (t : Bool) → holdsRecords numbers ≡ t → holdsRecords numbers ≡ true
       by true holds = holds
       by false lacking =
-          let many : countOf numbers ≡ 17 = ap (λ (t : Bool). cond t (floor0 (numberAt numbers 2)) 17) lacking in
+          let many : countOf numbers ≡ suc maxLayers = ap (λ (t : Bool). cond t (floor0 (numberAt numbers countAt)) (suc maxLayers)) lacking in
           absurd (omega arith)
 
-  pub count-of-records : holdsRecords numbers ≡ true → sheetOf numbers .count ≡ floor0 (numberAt numbers 2)
+  pub count-of-records : holdsRecords numbers ≡ true → sheetOf numbers .count ≡ floor0 (numberAt numbers countAt)
   unfolding sheetOf
-  count-of-records holds = ap (λ (t : Bool). cond t (floor0 (numberAt numbers 2)) 17) holds
+  count-of-records holds = ap (λ (t : Bool). cond t (floor0 (numberAt numbers countAt)) (suc maxLayers)) holds

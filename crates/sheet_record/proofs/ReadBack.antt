@@ -14,12 +14,13 @@ use lib.Seq.{sets, sets-eq, length-sets, take-set-le, take-set-lt, drop-set-add,
 use lib.Signed.{leZ}
 use Rattle.signed.specs.Signed.{floor0}
 use Rattle.signed.proofs.Laws.{int}
-use Rattle.record_numbers.specs.RecordNumbers.{numberAt, listFrom, allFrom, noneNegative, isFigure, isStyle, figureOf, styleOf}
+use Rattle.geometry.specs.Limits.{maxLayers}
+use Rattle.record_numbers.specs.RecordNumbers.{figureLength, styleLength, numberAt, listFrom, allFrom, noneNegative, isFigure, isStyle, figureOf, styleOf}
 use Rattle.book.proofs.Tests.{and-true-parts, and-true-of}
 use Rattle.layers.specs.declared.Layer.{Layer}
 use Rattle.layers.specs.Layers.{blankLayer}
 use Rattle.sheet.specs.Sheet.{withLayer}
-use Rattle.sheet_record.specs.SheetRecord.{placeAt, placeNumbers, isLayer, holdsRecords, layerOf, sheetOf, layerPut}
+use Rattle.sheet_record.specs.SheetRecord.{styleAt, nextRowAt, layerLength, canvasWidthAt, canvasHeightAt, countAt, firstPlaceAt, sheetLength, placeAt, placeNumbers, isLayer, holdsRecords, layerOf, sheetOf, layerPut}
 use Rattle.sheet_record.proofs.Parts.{count-of-records}
 use Rattle.sheet_record.proofs.Windows.{drop-sets-before, drop-sets-add, take-sets-behind, part-before, part-behind}
 
@@ -88,36 +89,36 @@ none-negative-set (v ∷ l) (suc k) n none =
 
 -- how many places are used
 abbrev used : List ℤ → ℕ
-used numbers = min (floor0 (numberAt numbers 2)) 16
+used numbers = min (floor0 (numberAt numbers countAt)) maxLayers
 
 module _ (before after : List ℤ) (records : holdsRecords before ≡ true) where
   places-before : (j : ℕ) → j < used before → isLayer (placeNumbers before j) ≡ true
   unfolding holdsRecords
   places-before j within =
       each-of-all (λ k. isLayer (placeNumbers before k)) (used before) 0 j (omega arith) (omega arith)
-      (and-true-parts (noneNegative (take 3 before)) (allFrom (λ k. isLayer (placeNumbers before k)) 0 (used before)) records .1)
+      (and-true-parts (noneNegative (take firstPlaceAt before)) (allFrom (λ k. isLayer (placeNumbers before k)) 0 (used before)) records .1)
 
-  sides-before : noneNegative (take 3 before) ≡ true
+  sides-before : noneNegative (take firstPlaceAt before) ≡ true
   unfolding holdsRecords
-  sides-before = and-true-parts (noneNegative (take 3 before)) (allFrom (λ k. isLayer (placeNumbers before k)) 0 (used before)) records .0
+  sides-before = and-true-parts (noneNegative (take firstPlaceAt before)) (allFrom (λ k. isLayer (placeNumbers before k)) 0 (used before)) records .0
 
-  still-records : noneNegative (take 3 after) ≡ true → ((j : ℕ) → j < used after → isLayer (placeNumbers after j) ≡ true)
+  still-records : noneNegative (take firstPlaceAt after) ≡ true → ((j : ℕ) → j < used after → isLayer (placeNumbers after j) ≡ true)
       → holdsRecords after ≡ true
   unfolding holdsRecords
   still-records sides places =
       rw sides (all-of-each (λ k. isLayer (placeNumbers after k)) (used after) 0 (λ j from to. places j (omega arith)))
 
 -- ---- The layer in a place.
-pub layer-in-place : (numbers : List ℤ) (i : ℕ) → i < 16 → getD (sheetOf numbers .layers) i blankLayer ≡ layerOf (placeNumbers numbers i)
+pub layer-in-place : (numbers : List ℤ) (i : ℕ) → i < maxLayers → getD (sheetOf numbers .layers) i blankLayer ≡ layerOf (placeNumbers numbers i)
 unfolding sheetOf
 layer-in-place numbers i place =
     let here : 0 + i ≡ i = omega arith in
-    get-list-from (λ j. layerOf (placeNumbers numbers j)) blankLayer 16 0 i place ∙ ap (λ (j : ℕ). layerOf (placeNumbers numbers j)) here
+    get-list-from (λ j. layerOf (placeNumbers numbers j)) blankLayer maxLayers 0 i place ∙ ap (λ (j : ℕ). layerOf (placeNumbers numbers j)) here
 
 -- ---- A next row.
-module _ (numbers : List ℤ) (long : length numbers ≡ 291) (i : ℕ) (place : i < 16) (row : ℤ) where
+module _ (numbers : List ℤ) (long : length numbers ≡ sheetLength) (i : ℕ) (place : i < maxLayers) (row : ℤ) where
   abbrev written : List ℤ
-  written = set numbers (placeAt i + 17) row
+  written = set numbers (placeAt i + nextRowAt) row
 
   abbrev old : Layer
   old = getD (sheetOf numbers .layers) i blankLayer
@@ -128,14 +129,14 @@ module _ (numbers : List ℤ) (long : length numbers ≡ 291) (i : ℕ) (place :
   same-place : (j : ℕ) → j ≢ i → placeNumbers written j ≡ placeNumbers numbers j
   same-place j other =
       apart i j other (leb i j) refl (placeNumbers written j ≡ placeNumbers numbers j)
-      (λ after. part-before 18 (placeAt j) (placeAt i + 17) numbers (row ∷ []) (omega arith))
-      (λ before. part-behind 18 (placeAt j) (placeAt i + 17) numbers (row ∷ []) (omega arith))
+      (λ after. part-before layerLength (placeAt j) (placeAt i + nextRowAt) numbers (row ∷ []) (omega arith))
+      (λ before. part-behind layerLength (placeAt j) (placeAt i + nextRowAt) numbers (row ∷ []) (omega arith))
 
-  this-place : placeNumbers written i ≡ set (placeNumbers numbers i) 17 row
+  this-place : placeNumbers written i ≡ set (placeNumbers numbers i) nextRowAt row
   this-place =
-      ap (take 18) (drop-set-add (placeAt i) numbers 17 row) ∙ take-set-lt 18 (drop (placeAt i) numbers) 17 row (omega arith)
+      ap (take layerLength) (drop-set-add (placeAt i) numbers nextRowAt row) ∙ take-set-lt layerLength (drop (placeAt i) numbers) nextRowAt row (omega arith)
 
-  place-length : length (placeNumbers numbers i) ≡ 18
+  place-length : length (placeNumbers numbers i) ≡ layerLength
   place-length = simp (length-take, length-drop) (omega arith)
 
   old-is : old ≡ layerOf (placeNumbers numbers i)
@@ -144,163 +145,163 @@ module _ (numbers : List ℤ) (long : length numbers ≡ 291) (i : ℕ) (place :
   this-layer : layerOf (placeNumbers written i) ≡ new
   this-layer =
       let p = placeNumbers numbers i in
-      let style = ap (take 4) (drop-set-add 13 p 4 row) ∙ take-set-le 4 (drop 13 p) 4 row (omega arith) in
+      let style = ap (take styleLength) (drop-set-add styleAt p styleLength row) ∙ take-set-le styleLength (drop styleAt p) styleLength row (omega arith) in
       ap layerOf this-place
-      ∙ (λ k. record { figure = figureOf (take-set-le 13 p 17 row (omega arith) k); style = styleOf (style k); «next_row» = getD-set-same p 17 row (pos 0) (omega (arith, place-length)) k })
+      ∙ (λ k. record { figure = figureOf (take-set-le figureLength p nextRowAt row (omega arith) k); style = styleOf (style k); «next_row» = getD-set-same p nextRowAt row (pos 0) (omega (arith, place-length)) k })
       ∙ ap (λ (l : Layer). record { figure = l .figure; style = l .style; «next_row» = row }) (sym old-is)
 
-  other-number : (k : ℕ) → k < 20 → numberAt written k ≡ numberAt numbers k
-  other-number k small = getD-set-other numbers (placeAt i + 17) k row (pos 0) (omega arith)
+  other-number : (k : ℕ) → k < firstPlaceAt → numberAt written k ≡ numberAt numbers k
+  other-number k small = getD-set-other numbers (placeAt i + nextRowAt) k row (pos 0) (omega arith)
 
   pub row-kept : holdsRecords numbers ≡ true → holdsRecords written ≡ true
   row-kept records =
       still-records numbers written records
-      (ap noneNegative (take-set-le 3 numbers (placeAt i + 17) row (omega arith)) ∙ sides-before numbers written records)
+      (ap noneNegative (take-set-le firstPlaceAt numbers (placeAt i + nextRowAt) row (omega arith)) ∙ sides-before numbers written records)
       (λ j within. by-place j (before j within) (eqb j i) refl)
     where
       before : (j : ℕ) → j < used written → j < used numbers
       before j within =
-          let same = ap (λ (z : ℤ). min (floor0 z) 16) (other-number 2 (omega arith)) in
+          let same = ap (λ (z : ℤ). min (floor0 z) maxLayers) (other-number countAt (omega arith)) in
           omega arith
 
       by-place : (j : ℕ) → j < used numbers → (t : Bool) → eqb j i ≡ t → isLayer (placeNumbers written j) ≡ true
       by-place j within false order = ap (λ (p : List ℤ). isLayer p) (same-place j (eqb-false j i order)) ∙ places-before numbers written records j within
       by-place j within true order =
           let p = placeNumbers numbers i in
-          let style = ap (take 4) (drop-set-add 13 p 4 row) ∙ take-set-le 4 (drop 13 p) 4 row (omega arith) in
+          let style = ap (take styleLength) (drop-set-add styleAt p styleLength row) ∙ take-set-le styleLength (drop styleAt p) styleLength row (omega arith) in
           let here = eqb-true j i order in
           ap (λ (k : ℕ). isLayer (placeNumbers written k)) here
           ∙ ap (λ (q : List ℤ). isLayer q) this-place
-          ∙ ap₂ (λ (f s : List ℤ). isFigure f && isStyle s) (take-set-le 13 p 17 row (omega arith)) style
+          ∙ ap₂ (λ (f s : List ℤ). isFigure f && isStyle s) (take-set-le figureLength p nextRowAt row (omega arith)) style
           ∙ places-before numbers written records i (omega arith)
 
   pub row-read-back : holdsRecords numbers ≡ true → sheetOf written ≡ withLayer (sheetOf numbers) (sheetOf numbers .count) i new
   unfolding sheetOf
   row-read-back records k =
       record {
-        width = floor0 (other-number 0 (omega arith) k);
-        height = floor0 (other-number 1 (omega arith) k);
-        count = (count-of-records written (row-kept records) ∙ ap (λ (z : ℤ). floor0 z) (other-number 2 (omega arith)) ∙ sym (count-of-records numbers records)) k;
-        layers = (but-one (λ j. layerOf (placeNumbers numbers j)) (λ j. layerOf (placeNumbers written j)) i (λ j other. ap layerOf (same-place j other)) 16 0 i (omega arith)
+        width = floor0 (other-number canvasWidthAt (omega arith) k);
+        height = floor0 (other-number canvasHeightAt (omega arith) k);
+        count = (count-of-records written (row-kept records) ∙ ap (λ (z : ℤ). floor0 z) (other-number countAt (omega arith)) ∙ sym (count-of-records numbers records)) k;
+        layers = (but-one (λ j. layerOf (placeNumbers numbers j)) (λ j. layerOf (placeNumbers written j)) i (λ j other. ap layerOf (same-place j other)) maxLayers 0 i (omega arith)
             ∙ ap (set (sheetOf numbers .layers) i) this-layer) k;
       }
 
 -- ---- A layer and the count.
-module _ (numbers : List ℤ) (long : length numbers ≡ 291) (i : ℕ) (place : i < 16) (figure style : List ℤ) (row : ℤ) (count : ℕ)
-    (figure-long : length figure ≡ 13) (style-long : length style ≡ 4) where
+module _ (numbers : List ℤ) (long : length numbers ≡ sheetLength) (i : ℕ) (place : i < maxLayers) (figure style : List ℤ) (row : ℤ) (count : ℕ)
+    (figure-long : length figure ≡ figureLength) (style-long : length style ≡ styleLength) where
   abbrev at : ℕ
   at = placeAt i
 
   abbrev added : List ℤ
-  added = set (layerPut numbers i figure style row) 2 (pos count)
+  added = set (layerPut numbers i figure style row) countAt (pos count)
 
   abbrev put : Layer
   put = record { figure = figureOf figure; style = styleOf style; «next_row» = row }
 
   added-elsewhere : (j : ℕ) → j ≢ i → placeNumbers added j ≡ placeNumbers numbers j
   added-elsewhere j other =
-      part-before 18 (placeAt j) 2 (layerPut numbers i figure style row) (pos count ∷ []) (omega arith)
+      part-before layerLength (placeAt j) countAt (layerPut numbers i figure style row) (pos count ∷ []) (omega arith)
       ∙ apart i j other (leb i j) refl (placeNumbers (layerPut numbers i figure style row) j ≡ placeNumbers numbers j)
       (λ after.
-      part-before 18 (placeAt j) (at + 17) (sets (sets numbers at figure) (at + 13) style) (row ∷ []) (omega arith)
-      ∙ part-before 18 (placeAt j) (at + 13) (sets numbers at figure) style (omega arith)
-      ∙ part-before 18 (placeAt j) at numbers figure (omega arith))
+      part-before layerLength (placeAt j) (at + nextRowAt) (sets (sets numbers at figure) (at + styleAt) style) (row ∷ []) (omega arith)
+      ∙ part-before layerLength (placeAt j) (at + styleAt) (sets numbers at figure) style (omega arith)
+      ∙ part-before layerLength (placeAt j) at numbers figure (omega arith))
       (λ before.
-      part-behind 18 (placeAt j) (at + 17) (sets (sets numbers at figure) (at + 13) style) (row ∷ []) (omega arith)
-      ∙ part-behind 18 (placeAt j) (at + 13) (sets numbers at figure) style (omega arith)
-      ∙ part-behind 18 (placeAt j) at numbers figure (omega arith))
+      part-behind layerLength (placeAt j) (at + nextRowAt) (sets (sets numbers at figure) (at + styleAt) style) (row ∷ []) (omega arith)
+      ∙ part-behind layerLength (placeAt j) (at + styleAt) (sets numbers at figure) style (omega arith)
+      ∙ part-behind layerLength (placeAt j) at numbers figure (omega arith))
 
   -- the place's own numbers, before they are cut off behind
   abbrev rest : List ℤ
   rest = drop at numbers
 
   abbrev own : List ℤ
-  own = set (sets (sets rest 0 figure) 13 style) 17 row
+  own = set (sets (sets rest 0 figure) styleAt style) nextRowAt row
 
-  rest-long : 18 ≤ length rest
+  rest-long : layerLength ≤ length rest
   rest-long = omega (arith, length-drop at numbers)
 
-  own-numbers : placeNumbers added i ≡ take 18 own
+  own-numbers : placeNumbers added i ≡ take layerLength own
   own-numbers =
       let from : at ≡ at + 0 = omega arith in
-      ap (take 18)
-      (drop-sets-before at 2 (layerPut numbers i figure style row) (pos count ∷ []) (omega arith)
-      ∙ drop-sets-add at 17 (sets (sets numbers at figure) (at + 13) style) (row ∷ [])
-      ∙ ap (λ (l : List ℤ). set l 17 row)
-      (drop-sets-add at 13 (sets numbers at figure) style
-      ∙ ap (λ (l : List ℤ). sets l 13 style) (ap (λ (k : ℕ). drop at (sets numbers k figure)) from ∙ drop-sets-add at 0 numbers figure)))
+      ap (take layerLength)
+      (drop-sets-before at countAt (layerPut numbers i figure style row) (pos count ∷ []) (omega arith)
+      ∙ drop-sets-add at nextRowAt (sets (sets numbers at figure) (at + styleAt) style) (row ∷ [])
+      ∙ ap (λ (l : List ℤ). set l nextRowAt row)
+      (drop-sets-add at styleAt (sets numbers at figure) style
+      ∙ ap (λ (l : List ℤ). sets l styleAt style) (ap (λ (k : ℕ). drop at (sets numbers k figure)) from ∙ drop-sets-add at 0 numbers figure)))
 
   -- what was put at a list's start stands there
   starts : (l vs : List ℤ) (n : ℕ) → length vs ≡ n → n ≤ length l → take n (sets l 0 vs) ≡ vs
   starts l vs n many fits =
       ap (take n) (sets-eq vs l 0 (omega arith)) ∙ ap (λ (k : ℕ). take k (vs ++ drop (0 + length vs) l)) (sym many) ∙ take-append-seam vs (drop (0 + length vs) l)
 
-  own-figure : take 13 (take 18 own) ≡ figure
+  own-figure : take figureLength (take layerLength own) ≡ figure
   own-figure =
-      take-take 13 18 own (omega arith)
-      ∙ take-set-le 13 (sets (sets rest 0 figure) 13 style) 17 row (omega arith)
-      ∙ take-sets-behind 13 13 (sets rest 0 figure) style (omega arith)
-      ∙ starts rest figure 13 figure-long (omega (arith, rest-long))
+      take-take figureLength layerLength own (omega arith)
+      ∙ take-set-le figureLength (sets (sets rest 0 figure) styleAt style) nextRowAt row (omega arith)
+      ∙ take-sets-behind figureLength styleAt (sets rest 0 figure) style (omega arith)
+      ∙ starts rest figure figureLength figure-long (omega (arith, rest-long))
 
   own-long : length own ≡ length rest
-  own-long = simp length-set (length-sets (sets rest 0 figure) 13 style ∙ length-sets rest 0 figure)
+  own-long = simp length-set (length-sets (sets rest 0 figure) styleAt style ∙ length-sets rest 0 figure)
 
-  own-style : take 4 (drop 13 (take 18 own)) ≡ style
+  own-style : take styleLength (drop styleAt (take layerLength own)) ≡ style
   own-style =
-      let split = take-add 13 5 own in
-      let first = length-take-le 13 own (omega (arith, own-long, rest-long)) in
-      let five : take 5 (drop 13 own) ≡ drop 13 (take 13 own ++ take 5 (drop 13 own)) =
-      sym (ap (λ (k : ℕ). drop k (take 13 own ++ take 5 (drop 13 own))) (sym first) ∙ drop-append-seam (take 13 own) (take 5 (drop 13 own))) in
-      ap (λ (l : List ℤ). take 4 (drop 13 l)) split
-      ∙ ap (take 4) (sym five)
-      ∙ take-take 4 5 (drop 13 own) (omega arith)
-      ∙ ap (take 4) (drop-set-add 13 (sets (sets rest 0 figure) 13 style) 4 row)
-      ∙ take-set-le 4 (drop 13 (sets (sets rest 0 figure) 13 style)) 4 row (omega arith)
-      ∙ ap (take 4) (drop-sets-add 13 0 (sets rest 0 figure) style)
-      ∙ starts (drop 13 (sets rest 0 figure)) style 4 style-long (omega (arith, length-drop 13 (sets rest 0 figure), length-sets rest 0 figure, rest-long))
+      let split = take-add figureLength (styleLength + 1) own in
+      let first = length-take-le figureLength own (omega (arith, own-long, rest-long)) in
+      let tail : take (styleLength + 1) (drop styleAt own) ≡ drop styleAt (take figureLength own ++ take (styleLength + 1) (drop styleAt own)) =
+      sym (ap (λ (k : ℕ). drop k (take figureLength own ++ take (styleLength + 1) (drop styleAt own))) (sym first) ∙ drop-append-seam (take figureLength own) (take (styleLength + 1) (drop styleAt own))) in
+      ap (λ (l : List ℤ). take styleLength (drop styleAt l)) split
+      ∙ ap (take styleLength) (sym tail)
+      ∙ take-take styleLength (styleLength + 1) (drop styleAt own) (omega arith)
+      ∙ ap (take styleLength) (drop-set-add styleAt (sets (sets rest 0 figure) styleAt style) styleLength row)
+      ∙ take-set-le styleLength (drop styleAt (sets (sets rest 0 figure) styleAt style)) styleLength row (omega arith)
+      ∙ ap (take styleLength) (drop-sets-add styleAt 0 (sets rest 0 figure) style)
+      ∙ starts (drop styleAt (sets rest 0 figure)) style styleLength style-long (omega (arith, length-drop styleAt (sets rest 0 figure), length-sets rest 0 figure, rest-long))
 
-  own-row : numberAt (take 18 own) 17 ≡ row
+  own-row : numberAt (take layerLength own) nextRowAt ≡ row
   own-row =
-      getD-take 18 own 17 (pos 0) (omega arith)
-      ∙ getD-set-same (sets (sets rest 0 figure) 13 style) 17 row (pos 0)
-      (omega (arith, length-sets (sets rest 0 figure) 13 style, length-sets rest 0 figure, rest-long))
+      getD-take layerLength own nextRowAt (pos 0) (omega arith)
+      ∙ getD-set-same (sets (sets rest 0 figure) styleAt style) nextRowAt row (pos 0)
+      (omega (arith, length-sets (sets rest 0 figure) styleAt style, length-sets rest 0 figure, rest-long))
 
   added-here : layerOf (placeNumbers added i) ≡ put
   added-here =
       ap layerOf own-numbers ∙ (λ k. record { figure = figureOf (own-figure k); style = styleOf (own-style k); «next_row» = own-row k })
 
-  first-numbers : (k : ℕ) → k < 2 → numberAt added k ≡ numberAt numbers k
+  first-numbers : (k : ℕ) → k < countAt → numberAt added k ≡ numberAt numbers k
   first-numbers k small =
-      getD-set-other (layerPut numbers i figure style row) 2 k (pos count) (pos 0) (omega arith)
+      getD-set-other (layerPut numbers i figure style row) countAt k (pos count) (pos 0) (omega arith)
       ∙ sym (getD-take at (layerPut numbers i figure style row) k (pos 0) (omega arith))
       ∙ ap (λ (l : List ℤ). numberAt l k)
-      (take-sets-behind at (at + 17) (sets (sets numbers at figure) (at + 13) style) (row ∷ []) (omega arith)
-      ∙ take-sets-behind at (at + 13) (sets numbers at figure) style (omega arith)
+      (take-sets-behind at (at + nextRowAt) (sets (sets numbers at figure) (at + styleAt) style) (row ∷ []) (omega arith)
+      ∙ take-sets-behind at (at + styleAt) (sets numbers at figure) style (omega arith)
       ∙ take-sets-behind at at numbers figure (omega arith))
       ∙ getD-take at numbers k (pos 0) (omega arith)
 
-  put-long : length (layerPut numbers i figure style row) ≡ 291
-  put-long = simp length-set (length-sets (sets numbers at figure) (at + 13) style ∙ length-sets numbers at figure ∙ long)
+  put-long : length (layerPut numbers i figure style row) ≡ sheetLength
+  put-long = simp length-set (length-sets (sets numbers at figure) (at + styleAt) style ∙ length-sets numbers at figure ∙ long)
 
-  module _ (records : holdsRecords numbers ≡ true) (first-free : floor0 (numberAt numbers 2) ≡ i) (one-more : count ≡ i + 1)
+  module _ (records : holdsRecords numbers ≡ true) (first-free : floor0 (numberAt numbers countAt) ≡ i) (one-more : count ≡ i + 1)
       (is-figure : isFigure figure ≡ true) (is-style : isStyle style ≡ true) where
-    count-read : floor0 (numberAt added 2) ≡ count
+    count-read : floor0 (numberAt added countAt) ≡ count
     count-read =
         let read : floor0 (pos count) ≡ count = omega arith in
-        ap (λ (z : ℤ). floor0 z) (getD-set-same (layerPut numbers i figure style row) 2 (pos count) (pos 0) (omega (arith, put-long))) ∙ read
+        ap (λ (z : ℤ). floor0 z) (getD-set-same (layerPut numbers i figure style row) countAt (pos count) (pos 0) (omega (arith, put-long))) ∙ read
 
     pub layer-kept : holdsRecords added ≡ true
     layer-kept = still-records numbers added records sides (λ j within. by-place j within (eqb j i) refl)
       where
-        sides : noneNegative (take 3 added) ≡ true
+        sides : noneNegative (take firstPlaceAt added) ≡ true
         sides =
             ap noneNegative
-            (take-set-lt 3 (layerPut numbers i figure style row) 2 (pos count) (omega arith)
-            ∙ ap (λ (l : List ℤ). set l 2 (pos count))
-            (take-set-le 3 (sets (sets numbers at figure) (at + 13) style) (at + 17) row (omega arith)
-            ∙ take-sets-behind 3 (at + 13) (sets numbers at figure) style (omega arith)
-            ∙ take-sets-behind 3 at numbers figure (omega arith)))
-            ∙ none-negative-set (take 3 numbers) 2 count (sides-before numbers added records)
+            (take-set-lt firstPlaceAt (layerPut numbers i figure style row) countAt (pos count) (omega arith)
+            ∙ ap (λ (l : List ℤ). set l countAt (pos count))
+            (take-set-le firstPlaceAt (sets (sets numbers at figure) (at + styleAt) style) (at + nextRowAt) row (omega arith)
+            ∙ take-sets-behind firstPlaceAt (at + styleAt) (sets numbers at figure) style (omega arith)
+            ∙ take-sets-behind firstPlaceAt at numbers figure (omega arith)))
+            ∙ none-negative-set (take firstPlaceAt numbers) countAt count (sides-before numbers added records)
 
         by-place : (j : ℕ) → j < used added → (t : Bool) → eqb j i ≡ t → isLayer (placeNumbers added j) ≡ true
         by-place j within false order =
@@ -316,9 +317,9 @@ module _ (numbers : List ℤ) (long : length numbers ≡ 291) (i : ℕ) (place :
     unfolding sheetOf
     layer-read-back k =
         record {
-          width = floor0 (first-numbers 0 (omega arith) k);
-          height = floor0 (first-numbers 1 (omega arith) k);
+          width = floor0 (first-numbers canvasWidthAt (omega arith) k);
+          height = floor0 (first-numbers canvasHeightAt (omega arith) k);
           count = (count-of-records added layer-kept ∙ count-read) k;
-          layers = (but-one (λ j. layerOf (placeNumbers numbers j)) (λ j. layerOf (placeNumbers added j)) i (λ j other. ap layerOf (added-elsewhere j other)) 16 0 i (omega arith)
+          layers = (but-one (λ j. layerOf (placeNumbers numbers j)) (λ j. layerOf (placeNumbers added j)) i (λ j other. ap layerOf (added-elsewhere j other)) maxLayers 0 i (omega arith)
               ∙ ap (set (sheetOf numbers .layers) i) added-here) k;
         }

@@ -17,17 +17,35 @@ use Rattle.record_numbers.specs.RecordNumbers.{figureLength, styleLength, numbe
 use Rattle.layers.specs.declared.Layer.{Layer}
 use Rattle.sheet.specs.declared.Sheet.{Sheet}
 
--- how many numbers a layer has
-abbrev pub layerLength : ℕ
-layerLength = 18
+-- where a layer's style and its next row stand, behind its figure, and how many numbers it has
+abbrev pub styleAt : ℕ
+styleAt = figureLength
 
--- how many numbers a sheet has
+abbrev pub nextRowAt : ℕ
+nextRowAt = figureLength + styleLength
+
+abbrev pub layerLength : ℕ
+layerLength = figureLength + styleLength + 1
+
+-- where a sheet's width, its height, its count of layers and its first place stand, and how many numbers it has
+abbrev pub canvasWidthAt : ℕ
+canvasWidthAt = 0
+
+abbrev pub canvasHeightAt : ℕ
+canvasHeightAt = 1
+
+abbrev pub countAt : ℕ
+countAt = 2
+
+abbrev pub firstPlaceAt : ℕ
+firstPlaceAt = 3
+
 abbrev pub sheetLength : ℕ
-sheetLength = 3 + layerLength * maxLayers
+sheetLength = firstPlaceAt + layerLength * maxLayers
 
 -- where place j begins
 abbrev pub placeAt : ℕ → ℕ
-placeAt j = 3 + layerLength * j
+placeAt j = firstPlaceAt + layerLength * j
 
 -- the numbers of place j
 abbrev pub placeNumbers : List ℤ → ℕ → List ℤ
@@ -39,12 +57,13 @@ isSheet numbers = eqb (length numbers) sheetLength
 
 -- the numbers of a layer
 abbrev pub isLayer : List ℤ → Bool
-isLayer numbers = isFigure (take figureLength numbers) && isStyle (take styleLength (drop figureLength numbers))
+isLayer numbers = isFigure (take figureLength numbers) && isStyle (take styleLength (drop styleAt numbers))
 
 -- W, H and the count are not negative, and each place that holds a layer has a layer's numbers. Unused places are not looked at
 unfoldable pub holdsRecords : List ℤ → Bool
 holdsRecords numbers =
-    noneNegative (take 3 numbers) && allFrom (λ j. isLayer (placeNumbers numbers j)) 0 (min (floor0 (numberAt numbers 2)) maxLayers)
+    noneNegative (take firstPlaceAt numbers)
+    && allFrom (λ j. isLayer (placeNumbers numbers j)) 0 (min (floor0 (numberAt numbers countAt)) maxLayers)
 
 -- ---- Which they are.
 
@@ -53,28 +72,29 @@ abbrev pub layerOf : List ℤ → Layer
 layerOf numbers =
     record {
       figure = figureOf (take figureLength numbers);
-      style = styleOf (take styleLength (drop figureLength numbers));
-      «next_row» = numberAt numbers 17;
+      style = styleOf (take styleLength (drop styleAt numbers));
+      «next_row» = numberAt numbers nextRowAt;
     }
 
 -- numbers that hold something else than records are read as a sheet that says 17 layers, and so breaks the rule on their number
 abbrev pub countOf : List ℤ → ℕ
-countOf numbers = cond (holdsRecords numbers) (floor0 (numberAt numbers 2)) (suc maxLayers)
+countOf numbers = cond (holdsRecords numbers) (floor0 (numberAt numbers countAt)) (suc maxLayers)
 
 -- the sheet
 unfoldable pub sheetOf : List ℤ → Sheet
 sheetOf numbers =
     record {
-      width = floor0 (numberAt numbers 0);
-      height = floor0 (numberAt numbers 1);
+      width = floor0 (numberAt numbers canvasWidthAt);
+      height = floor0 (numberAt numbers canvasHeightAt);
       count = countOf numbers;
       layers = listFrom (λ j. layerOf (placeNumbers numbers j)) 0 maxLayers;
     }
 
 -- ---- Numbers with a layer put in a place: its figure's, its style's, and its next row.
 abbrev pub layerPut : List ℤ → ℕ → List ℤ → List ℤ → ℤ → List ℤ
-layerPut numbers j figure style row = set (sets (sets numbers (placeAt j) figure) (placeAt j + 13) style) (placeAt j + 17) row
+layerPut numbers j figure style row =
+    set (sets (sets numbers (placeAt j) figure) (placeAt j + styleAt) style) (placeAt j + nextRowAt) row
 
 -- ---- Numbers whose layer i has painted one row more: its next row is the one below.
 abbrev pub rowPainted : List ℤ → ℕ → List ℤ
-rowPainted numbers i = set numbers (placeAt i + 17) (layerOf (placeNumbers numbers i) .«next_row» +ℤ pos 1)
+rowPainted numbers i = set numbers (placeAt i + nextRowAt) (layerOf (placeNumbers numbers i) .«next_row» +ℤ pos 1)

@@ -3,6 +3,8 @@
 use canvas_size::CanvasSize;
 use host_answers::put_from;
 use layers::Layer;
+use record_numbers::FIGURE_LENGTH;
+use record_numbers::STYLE_LENGTH;
 use record_numbers::figure_of;
 use record_numbers::is_figure;
 use record_numbers::is_style;
@@ -16,20 +18,37 @@ ghost use Rattle.geometry.specs.Limits.{maxLayers};
 ghost use Rattle.record_numbers.specs.RecordNumbers.{figureLength, styleLength};
 ghost use Rattle.sheet_record.specs.SheetRecord.{layerLength, sheetLength, isLayer, isSheet, holdsRecords, countOf, layerOf, placeNumbers, sheetOf, layerPut};
 
-// How many numbers a layer has, and a sheet.
-pub const LAYER_LENGTH: usize = 18;
+// Where a layer's style and its next row stand, behind its figure, and how many numbers it has.
+pub const STYLE: usize = FIGURE_LENGTH;
 
-pub const SHEET_LENGTH: usize = 3 + LAYER_LENGTH * Layer::PLACES;
+pub const NEXT_ROW: usize = FIGURE_LENGTH + STYLE_LENGTH;
+
+pub const LAYER_LENGTH: usize = FIGURE_LENGTH + STYLE_LENGTH + 1;
+
+// Where a sheet's width, its height, its count of layers and its first place stand, and how many numbers
+// it has.
+pub const CANVAS_WIDTH: usize = 0;
+
+pub const CANVAS_HEIGHT: usize = 1;
+
+pub const COUNT: usize = 2;
+
+pub const FIRST_PLACE: usize = 3;
+
+pub const SHEET_LENGTH: usize = FIRST_PLACE + LAYER_LENGTH * Layer::PLACES;
+
+// The count that numbers without records are read as: one more than there may be.
+const TOO_MANY: u32 = Sheet::MAX_LAYERS + 1;
 
 // Whether the numbers are a layer's.
 fn is_layer(numbers: &[i32]) -> bool
     requires { ⌜ length (now numbers) ≡ layerLength ⌝ }
     ensures { λ r. ⌜ r ≡ isLayer (now (numbers .entry)) ⌝ }
 {
-    if !is_figure(&numbers[0..13]) {
+    if !is_figure(&numbers[0..FIGURE_LENGTH]) {
         return false;
     }
-    is_style(&numbers[13..17])
+    is_style(&numbers[STYLE..NEXT_ROW])
 }
 
 // Whether the numbers are a sheet's.
@@ -44,13 +63,13 @@ fn holds_records(numbers: &[i32]) -> bool
     requires { ⌜ length (now numbers) ≡ sheetLength ⌝ }
     ensures { λ r. ⌜ r ≡ holdsRecords (now (numbers .entry)) ⌝ }
 {
-    if !none_negative(&numbers[0..3]) {
+    if !none_negative(&numbers[CANVAS_WIDTH..FIRST_PLACE]) {
         return false;
     }
-    let used = signed::least(signed::floor0(numbers[2]), Sheet::MAX_LAYERS) as usize;
+    let used = signed::least(signed::floor0(numbers[COUNT]), Sheet::MAX_LAYERS) as usize;
     let mut j: usize = 0;
     while j < used {
-        let at = 3 + LAYER_LENGTH * j;
+        let at = FIRST_PLACE + LAYER_LENGTH * j;
         let end = at + LAYER_LENGTH;
         if !is_layer(&numbers[at..end]) {
             return false;
@@ -66,9 +85,9 @@ fn count_of(numbers: &[i32]) -> u32
     ensures { λ r. ⌜ r ≡ countOf (now (numbers .entry)) ⌝ }
 {
     if holds_records(numbers) {
-        return signed::floor0(numbers[2]);
+        return signed::floor0(numbers[COUNT]);
     }
-    17
+    TOO_MANY
 }
 
 // The layer that the numbers are.
@@ -77,9 +96,9 @@ fn layer_of(numbers: &[i32]) -> Layer
     ensures { λ r. ⌜ r ≡ layerOf (now (numbers .entry)) ⌝ }
 {
     Layer {
-        figure: figure_of(&numbers[0..13]),
-        style: style_of(&numbers[13..17]),
-        next_row: numbers[17],
+        figure: figure_of(&numbers[0..FIGURE_LENGTH]),
+        style: style_of(&numbers[STYLE..NEXT_ROW]),
+        next_row: numbers[NEXT_ROW],
     }
 }
 
@@ -88,7 +107,7 @@ pub fn layer_at(numbers: &[i32], j: usize) -> Layer
     requires { ⌜ (length (now numbers) ≡ sheetLength) × (j < maxLayers) ⌝ }
     ensures { λ r. ⌜ r ≡ layerOf (placeNumbers (now (numbers .entry)) j) ⌝ }
 {
-    let at = 3 + LAYER_LENGTH * j;
+    let at = FIRST_PLACE + LAYER_LENGTH * j;
     let end = at + LAYER_LENGTH;
     layer_of(&numbers[at..end])
 }
@@ -99,8 +118,8 @@ pub fn size_of(numbers: &[i32]) -> CanvasSize
     ensures { λ r. ⌜ (r .width ≡ sheetOf (now (numbers .entry)) .width) × (r .height ≡ sheetOf (now (numbers .entry)) .height) ⌝ }
 {
     CanvasSize {
-        width: signed::floor0(numbers[0]),
-        height: signed::floor0(numbers[1]),
+        width: signed::floor0(numbers[CANVAS_WIDTH]),
+        height: signed::floor0(numbers[CANVAS_HEIGHT]),
     }
 }
 
@@ -139,8 +158,8 @@ pub fn put_layer(numbers: &mut [i32], place: usize, figure: &[i32], style: &[i32
     requires { ⌜ (length (now figure) ≡ figureLength) × (length (now style) ≡ styleLength) ⌝ }
     ensures { λ _. ⌜ now (numbers .exit) ≡ layerPut (now (numbers .entry)) place (now (figure .entry)) (now (style .entry)) row ⌝ }
 {
-    let at = 3 + LAYER_LENGTH * place;
+    let at = FIRST_PLACE + LAYER_LENGTH * place;
     put_from(numbers, at, figure);
-    put_from(numbers, at + 13, style);
-    numbers[at + 17] = row;
+    put_from(numbers, at + STYLE, style);
+    numbers[at + NEXT_ROW] = row;
 }

@@ -10,7 +10,7 @@ use borrow.Author.Needs.{needs}
 use borrow.Author.Tests.{not-true, not-false, eq-eqb, ne-eqb}
 use lib.IntN.{ℤ}
 use lib.ListN.{length}
-use Rattle.call_numbers.specs.CallNumbers.{isCall, callNumbers, areCalls, callCount, encodesCalls}
+use Rattle.call_numbers.specs.CallNumbers.{callLength, isCall, callNumbers, areCalls, callCount, encodesCalls}
 use Rattle.call_numbers.proofs.Walks.{call-part, call-part-length}
 use Rattle.record_numbers.proofs.Walks.{all-from-here, all-from-past}
 use Rattle.call_numbers.proofs.encodes_calls.Statement.{statement}
@@ -25,7 +25,7 @@ abbrev μ-loop : tie.MeasureT-loop
 -- the length is a multiple of a call's
 encodes : (c : tie.Else1 Inv-loop μ-loop) → encodesCalls (c .before .args .numbers .now) ≡ areCalls (c .before .args .numbers .now) 0 (callCount (c .before .args .numbers .now))
 unfolding encodesCalls
-encodes c = rw (eq-eqb (length (c .before .args .numbers .now) % 20) 0 (c .if1 .left))
+encodes c = rw (eq-eqb (length (c .before .args .numbers .now) % callLength) 0 (c .if1 .left))
 
 -- the calls that are left, by the one that stands there
 abbrev numbers : tie.After-is-call Inv-loop μ-loop → List ℤ
@@ -42,7 +42,7 @@ step c t found =
 
 returns : tie.Need-returns Inv-loop μ-loop
 unfolding encodesCalls
-returns c = rw (ne-eqb (length (c .before .args .numbers .now) % 20) 0 (c .if1 .taken))
+returns c = rw (ne-eqb (length (c .before .args .numbers .now) % callLength) 0 (c .if1 .taken))
 
 loop-holds : tie.Need-loop-holds Inv-loop μ-loop
 loop-holds c =

@@ -8,25 +8,25 @@ use lib.ListN.{take, drop}
 use lib.Signed.{leZ}
 use mir.Syntax.{w32}
 use mir.Val.{toZ, ofZ}
-use Rattle.record_numbers.specs.RecordNumbers.{numberAt, within, isFigure}
+use Rattle.record_numbers.specs.RecordNumbers.{figureLength, numberAt, within, isFigure}
 use Rattle.record_numbers.proofs.Walks.{read-back}
-use Rattle.call_numbers.specs.CallNumbers.{isCall}
+use Rattle.call_numbers.specs.CallNumbers.{callKindAt, callLayerAt, callFigureAt, addKind, paintKind, isCall}
 use borrow.Author.Needs.{needs}
 use Rattle.call_numbers.proofs.is_call.Statement.{statement}
 use Rattle.call_numbers.proofs.is_call.Tie as tie
 
-kind : (c : tie.After-is-within) → within (pos 0) (pos 1) (numberAt (c .before .before .args .numbers .now) 0) ≡ c .is-within .result
-kind c = sym (c .is-within .ensures ∙ ap (within (pos 0) (pos 1)) (read-back (c .before .before .args .numbers .now) 0 (c .before .is-within-arg .given)))
+kind : (c : tie.After-is-within) → within addKind paintKind (numberAt (c .before .before .args .numbers .now) callKindAt) ≡ c .is-within .result
+kind c = sym (c .is-within .ensures ∙ ap (within addKind paintKind) (read-back (c .before .before .args .numbers .now) callKindAt (c .before .is-within-arg .given)))
 
-after-kind : (c : tie.Else1) → within (pos 0) (pos 1) (numberAt (c .before .before .before .args .numbers .now) 0) ≡ true
+after-kind : (c : tie.Else1) → within addKind paintKind (numberAt (c .before .before .before .args .numbers .now) callKindAt) ≡ true
 after-kind c = kind (c .before) ∙ not-false _ (c .if1 .left)
 
 -- whether a row is painted
-by-kind : (c : tie.After-if22) {t : Bool} → leZ (pos 1) (toZ w32 (ofZ w32 (numberAt (c .before .before .before .before .args .numbers .now) 0))) ≡ t
-    → leZ (pos 1) (numberAt (c .before .before .before .before .args .numbers .now) 0) ≡ t
-by-kind c test = sym (ap (leZ (pos 1)) (read-back (c .before .before .before .before .args .numbers .now) 0 (c .if22 .given))) ∙ test
+by-kind : (c : tie.After-if22) {t : Bool} → leZ paintKind (toZ w32 (ofZ w32 (numberAt (c .before .before .before .before .args .numbers .now) callKindAt))) ≡ t
+    → leZ paintKind (numberAt (c .before .before .before .before .args .numbers .now) callKindAt) ≡ t
+by-kind c test = sym (ap (leZ paintKind) (read-back (c .before .before .before .before .args .numbers .now) callKindAt (c .if22 .given))) ∙ test
 
-figure : (c : tie.After-is-figure) → isFigure (take 13 (drop 1 (c .before .before .before .before .before .before .before .args .numbers .now))) ≡ c .is-figure .result
+figure : (c : tie.After-is-figure) → isFigure (take figureLength (drop callFigureAt (c .before .before .before .before .before .before .before .args .numbers .now))) ≡ c .is-figure .result
 figure c = sym (c .is-figure .ensures)
 
 shared-slice-copy-out-is-within : tie.Need-shared-slice-copy-out-is-within
@@ -47,7 +47,7 @@ shared-slice-copy-out-result c = search needs
 
 returns-2 : tie.Need-returns-2
 unfolding isCall
-returns-2 c = rw (after-kind (c .before .before .before), by-kind (c .before .before) (c .before .if2 .taken)) (ap (leZ (pos 0)) (read-back (c .before .before .before .before .before .before .args .numbers .now) 1 (c .result .given)))
+returns-2 c = rw (after-kind (c .before .before .before), by-kind (c .before .before) (c .before .if2 .taken)) (ap (leZ (pos 0)) (read-back (c .before .before .before .before .before .before .args .numbers .now) callLayerAt (c .result .given)))
 
 sub-is-figure : tie.Need-sub-is-figure
 sub-is-figure c = search needs

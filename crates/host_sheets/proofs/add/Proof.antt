@@ -11,6 +11,7 @@ use lib.ListN.{length-set, set}
 use mir.Facts.{toZ-ofZ}
 use Rattle.refusal.specs.declared.Checked.the-variants.{Passed}
 use Rattle.refusal.specs.Refusal.{answerNumber}
+use Rattle.geometry.specs.Limits.{maxLayers}
 use Rattle.book.specs.Book.{add as Call·add}
 use Rattle.sheet.specs.declared.Sheet.{Sheet}
 use Rattle.sheet.specs.declared.SheetAnswer.{SheetAnswer}
@@ -66,7 +67,7 @@ carried c =
 count-is : (c : tie.After-enum-told) → c .before .before .before .before .before .sheet-of .result .count ≡ sheetOf (c .before .before .before .before .before .before .before .before .before .before .before .before .before .before .args .sheet .now) .count
 count-is c = ap (λ (s : Sheet). s .count) (c .before .before .before .before .before .sheet-of .ensures)
 
-place : (c : tie.After-enum-told) → c .before .before .before .before .before .sheet-of .result .count < 16
+place : (c : tie.After-enum-told) → c .before .before .before .before .before .sheet-of .result .count < maxLayers
 place c =
     let within = added-place (c .before .before .before .before .before .before .before .before .before .before .before .before .before .before .args .sheet .now) (c .before .before .before .before .before .before .before .before .before .before .before .before .before .before .args .figure .now) (c .before .before .before .before .before .before .before .before .before .before .before .before .before .before .args .style .now) (is-accepted c) in
     let same = count-is c in

@@ -2,19 +2,22 @@
 -- Assumes nothing.
 use mathlib.Core.Path.{_≡_, refl, ap, _∙_}
 use mathlib.Core.List.{List}
-use Prim.Native.Nat.{_+_, _*_, _-_, _≤_}
+use Prim.Native.Nat.{_+_, _-_, _≤_}
 use native.Mathlib.Omega.{arith}
-use lib.IntN.{ℤ, negsuc}
+use lib.IntN.{ℤ}
 use lib.ListN.{set}
+use Rattle.geometry.specs.Limits.{maxLayers}
+use Rattle.record_numbers.specs.RecordNumbers.{absentPaint}
+use Rattle.sheet_record.specs.SheetRecord.{styleAt, placeAt}
 use Rattle.host_sheets.proofs.Unused.{unusedUpTo, unused-next, unused-all}
 use Rattle.host_sheets.proofs.unused_places.Statement.{statement}
 use Rattle.host_sheets.proofs.unused_places.Tie as tie
 
 abbrev Inv-loop : tie.InvT-loop
-Inv-loop numbers₀ j₀ numbers j = (j ≤ 16) × (numbers ≡ unusedUpTo j)
+Inv-loop numbers₀ j₀ numbers j = (j ≤ maxLayers) × (numbers ≡ unusedUpTo j)
 
 abbrev μ-loop : tie.MeasureT-loop
-μ-loop numbers₀ j₀ numbers j = 16 - j
+μ-loop numbers₀ j₀ numbers j = maxLayers - j
 
 loop-holds : tie.Need-loop-holds Inv-loop μ-loop
 unfolding unusedUpTo
@@ -53,12 +56,12 @@ loop-less c = omega arith
 loop-again : tie.Need-loop-again Inv-loop μ-loop
 loop-again c =
     let turn = c .before .loop in
-    (omega arith, ap (λ (l : List ℤ). set (set l (3 + 18 * turn .j + 13) (negsuc 0)) (3 + 18 * turn .j + 13 + 1) (negsuc 0)) (turn .inv .1) ∙ unused-next (turn .j))
+    (omega arith, ap (λ (l : List ℤ). set (set l (placeAt (turn .j) + styleAt) absentPaint) (placeAt (turn .j) + styleAt + 1) absentPaint) (turn .inv .1) ∙ unused-next (turn .j))
 
 returns : tie.Need-returns Inv-loop μ-loop
 returns c =
     let turn = c .before .loop in
-    let all : turn .j ≡ 16 = omega arith in
+    let all : turn .j ≡ maxLayers = omega arith in
     turn .inv .1 ∙ ap unusedUpTo all ∙ unused-all
 
 pub unused-places-spec : {M : Type 1} → statement M

@@ -3,12 +3,12 @@
 use mathlib.Core.Path.{_≡_, sym, ap, _∙_}
 use mathlib.Core.Bool.{Bool}
 use borrow.Author.Needs.{needs}
-use lib.IntN.{ℤ, pos}
+use lib.IntN.{ℤ}
 use lib.Signed.{ltZ}
 use mir.Syntax.{w32}
 use mir.Val.{SFits, toZ, ofZ}
 use mir.Facts.{toZ-ofZ}
-use Rattle.record_numbers.specs.RecordNumbers.{alignmentOf}
+use Rattle.record_numbers.specs.RecordNumbers.{centerAlignment, outsideAlignment, alignmentOf}
 use Rattle.record_numbers.proofs.alignment_of.Statement.{statement}
 use Rattle.record_numbers.proofs.alignment_of.Tie as tie
 
@@ -20,15 +20,15 @@ held c b test =
 
 returns : tie.Need-returns
 unfolding alignmentOf
-returns c = rw (held (c .before) (pos 1) (c .if1 .taken))
+returns c = rw (held (c .before) centerAlignment (c .if1 .taken))
 
 returns-2 : tie.Need-returns-2
 unfolding alignmentOf
-returns-2 c = rw (held (c .before .before) (pos 1) (c .before .if1 .left), held (c .before .before) (pos 2) (c .if2 .taken))
+returns-2 c = rw (held (c .before .before) centerAlignment (c .before .if1 .left), held (c .before .before) outsideAlignment (c .if2 .taken))
 
 returns-3 : tie.Need-returns-3
 unfolding alignmentOf
-returns-3 c = rw (held (c .before .before) (pos 1) (c .before .if1 .left), held (c .before .before) (pos 2) (c .if2 .left))
+returns-3 c = rw (held (c .before .before) centerAlignment (c .before .if1 .left), held (c .before .before) outsideAlignment (c .if2 .left))
 
 pub alignment-of-spec : {M : Type 1} → statement M
 alignment-of-spec = tie.close (tie.spec returns returns-2 returns-3)

@@ -2,6 +2,8 @@
 -- Assumes nothing.
 use borrow.Author.Needs.{needs}
 use mathlib.Core.Path.{_∙_}
+use Prim.Native.Nat.{_+_}
+use Rattle.record_numbers.specs.RecordNumbers.{radiiAt}
 use Rattle.record_numbers.proofs.Walks.{size-read}
 use Rattle.record_numbers.proofs.corners_of.Statement.{statement}
 use Rattle.record_numbers.proofs.corners_of.Tie as tie
@@ -49,10 +51,10 @@ returns c i =
     let second = c .before .before .before .before .before .before in
     let third = c .before .before .before in
     record {
-      «top_left» = (first .size-of .ensures ∙ size-read numbers 5 6 (first .before .before .size-of-arg .given) (first .before .size-of-arg2 .given)) i;
-      «top_right» = (second .size-of2 .ensures ∙ size-read numbers 7 8 (second .before .before .size-of-arg3 .given) (second .before .size-of-arg4 .given)) i;
-      «bottom_right» = (third .size-of3 .ensures ∙ size-read numbers 9 10 (third .before .before .size-of-arg5 .given) (third .before .size-of-arg6 .given)) i;
-      «bottom_left» = (c .size-of4 .ensures ∙ size-read numbers 11 12 (c .before .before .size-of-arg7 .given) (c .before .size-of-arg8 .given)) i;
+      «top_left» = (first .size-of .ensures ∙ size-read numbers radiiAt (radiiAt + 1) (first .before .before .size-of-arg .given) (first .before .size-of-arg2 .given)) i;
+      «top_right» = (second .size-of2 .ensures ∙ size-read numbers (radiiAt + 2) (radiiAt + 3) (second .before .before .size-of-arg3 .given) (second .before .size-of-arg4 .given)) i;
+      «bottom_right» = (third .size-of3 .ensures ∙ size-read numbers (radiiAt + 4) (radiiAt + 5) (third .before .before .size-of-arg5 .given) (third .before .size-of-arg6 .given)) i;
+      «bottom_left» = (c .size-of4 .ensures ∙ size-read numbers (radiiAt + 6) (radiiAt + 7) (c .before .before .size-of-arg7 .given) (c .before .size-of-arg8 .given)) i;
     }
 
 pub corners-of-spec : {M : Type 1} → statement M

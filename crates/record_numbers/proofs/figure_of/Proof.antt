@@ -3,30 +3,30 @@
 use borrow.Author.Needs.{needs}
 use mathlib.Core.Path.{_≡_, sym, ap, _∙_}
 use mathlib.Core.Bool.{Bool}
-use lib.IntN.{ℤ, pos}
+use lib.IntN.{ℤ}
 use lib.Signed.{ltZ}
 use mir.Syntax.{w32}
 use mir.Val.{toZ, ofZ}
 use Rattle.rounded_rectangle.specs.declared.RoundedRectangle.{RoundedRectangle}
 use Rattle.figure.specs.declared.Figure.the-variants.{Ellipse, CrateBox, W3cBox}
-use Rattle.record_numbers.specs.RecordNumbers.{numberAt, boxOf, figureOf}
+use Rattle.record_numbers.specs.RecordNumbers.{kindAt, crateBoxKind, w3cBoxKind, numberAt, boxOf, figureOf}
 use Rattle.record_numbers.proofs.Walks.{read-back}
 use Rattle.record_numbers.proofs.figure_of.Statement.{statement}
 use Rattle.record_numbers.proofs.figure_of.Tie as tie
 
 -- the tests of the kind are the definition's
 abbrev kind : tie.Start → ℤ
-kind c = numberAt (c .args .numbers .now) 0
+kind c = numberAt (c .args .numbers .now) kindAt
 
-by-ellipse : (c : tie.After-if12) {t : Bool} → ltZ (toZ w32 (ofZ w32 (kind (c .before .before)))) (pos 1) ≡ t
-    → ltZ (kind (c .before .before)) (pos 1) ≡ t
-by-ellipse c test = sym (ap (λ (z : ℤ). ltZ z (pos 1)) (read-back (c .before .before .args .numbers .now) 0 (c .if12 .given))) ∙ test
+by-ellipse : (c : tie.After-if12) {t : Bool} → ltZ (toZ w32 (ofZ w32 (kind (c .before .before)))) crateBoxKind ≡ t
+    → ltZ (kind (c .before .before)) crateBoxKind ≡ t
+by-ellipse c test = sym (ap (λ (z : ℤ). ltZ z crateBoxKind) (read-back (c .before .before .args .numbers .now) kindAt (c .if12 .given))) ∙ test
 
 abbrev start : tie.After-if22 → tie.Start
 start c = c .before .before .before .before .before
 
-by-box : (c : tie.After-if22) {t : Bool} → ltZ (toZ w32 (ofZ w32 (kind (start c)))) (pos 2) ≡ t → ltZ (kind (start c)) (pos 2) ≡ t
-by-box c test = sym (ap (λ (z : ℤ). ltZ z (pos 2)) (read-back (start c .args .numbers .now) 0 (c .if22 .given))) ∙ test
+by-box : (c : tie.After-if22) {t : Bool} → ltZ (toZ w32 (ofZ w32 (kind (start c)))) w3cBoxKind ≡ t → ltZ (kind (start c)) w3cBoxKind ≡ t
+by-box c test = sym (ap (λ (z : ℤ). ltZ z w3cBoxKind) (read-back (start c .args .numbers .now) kindAt (c .if22 .given))) ∙ test
 
 -- the box as it was read
 box-is : (c : tie.After-if22)

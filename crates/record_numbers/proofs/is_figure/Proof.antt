@@ -4,24 +4,23 @@ use mathlib.Core.Path.{_≡_, sym, ap, _∙_}
 use mathlib.Core.Bool.{true}
 use borrow.Author.Tests.{not-true, not-false, eq-eqb, ne-eqb}
 use lib.Dec.{eqb}
-use lib.IntN.{pos}
 use lib.ListN.{length}
 use Rattle.record_numbers.proofs.Walks.{read-back}
-use Rattle.record_numbers.specs.RecordNumbers.{numberAt, within, isFigure}
+use Rattle.record_numbers.specs.RecordNumbers.{figureLength, kindAt, ellipseKind, w3cBoxKind, numberAt, within, isFigure}
 use borrow.Author.Needs.{needs}
 use Rattle.record_numbers.proofs.is_figure.Statement.{statement}
 use Rattle.record_numbers.proofs.is_figure.Tie as tie
 
 -- the tests made are the definition's
-long : (c : tie.Else1) → eqb (length (c .before .args .numbers .now)) 13 ≡ true
-long c = eq-eqb (length (c .before .args .numbers .now)) 13 (c .if1 .left)
+long : (c : tie.Else1) → eqb (length (c .before .args .numbers .now)) figureLength ≡ true
+long c = eq-eqb (length (c .before .args .numbers .now)) figureLength (c .if1 .left)
 
-kind : (c : tie.After-is-within) → within (pos 0) (pos 2) (numberAt (c .before .before .before .args .numbers .now) 0) ≡ c .is-within .result
-kind c = sym (c .is-within .ensures ∙ ap (within (pos 0) (pos 2)) (read-back (c .before .before .before .args .numbers .now) 0 (c .before .is-within-arg .given)))
+kind : (c : tie.After-is-within) → within ellipseKind w3cBoxKind (numberAt (c .before .before .before .args .numbers .now) kindAt) ≡ c .is-within .result
+kind c = sym (c .is-within .ensures ∙ ap (within ellipseKind w3cBoxKind) (read-back (c .before .before .before .args .numbers .now) kindAt (c .before .is-within-arg .given)))
 
 returns : tie.Need-returns
 unfolding isFigure
-returns c = rw (ne-eqb (length (c .before .args .numbers .now)) 13 (c .if1 .taken))
+returns c = rw (ne-eqb (length (c .before .args .numbers .now)) figureLength (c .if1 .taken))
 
 shared-slice-copy-out-is-within : tie.Need-shared-slice-copy-out-is-within
 shared-slice-copy-out-is-within c = search needs

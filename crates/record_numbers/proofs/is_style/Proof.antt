@@ -4,13 +4,13 @@ use mathlib.Core.Path.{_≡_, sym, ap, _∙_}
 use mathlib.Core.Bool.{true, false}
 use borrow.Author.Tests.{not-true, not-false, eq-eqb, ne-eqb}
 use lib.Dec.{eqb}
-use lib.IntN.{ℤ, pos, negsuc}
+use lib.IntN.{ℤ, pos}
 use lib.ListN.{length}
 use lib.Signed.{leZ, ltZ}
 use mir.Syntax.{w32}
 use mir.Val.{toZ, ofZ}
 use Rattle.record_numbers.proofs.Walks.{read-back}
-use Rattle.record_numbers.specs.RecordNumbers.{numberAt, within, isStyle}
+use Rattle.record_numbers.specs.RecordNumbers.{styleLength, strokeAt, fillAt, strokeWidthAt, alignmentAt, insideAlignment, outsideAlignment, absentPaint, maxColour, numberAt, within, isStyle}
 use native.Mathlib.Omega.{arith}
 use Rattle.signed.proofs.Laws.{int}
 use borrow.Author.Needs.{needs}
@@ -18,37 +18,37 @@ use Rattle.record_numbers.proofs.is_style.Statement.{statement}
 use Rattle.record_numbers.proofs.is_style.Tie as tie
 
 -- the tests made are the definition's
-long : (c : tie.Else1) → eqb (length (c .before .args .numbers .now)) 4 ≡ true
-long c = eq-eqb (length (c .before .args .numbers .now)) 4 (c .if1 .left)
+long : (c : tie.Else1) → eqb (length (c .before .args .numbers .now)) styleLength ≡ true
+long c = eq-eqb (length (c .before .args .numbers .now)) styleLength (c .if1 .left)
 
-stroke : (c : tie.After-is-within) → within (negsuc 0) (pos 255) (numberAt (c .before .before .before .args .numbers .now) 0) ≡ c .is-within .result
-stroke c = sym (c .is-within .ensures ∙ ap (within (negsuc 0) (pos 255)) (read-back (c .before .before .before .args .numbers .now) 0 (c .before .is-within-arg .given)))
+stroke : (c : tie.After-is-within) → within absentPaint maxColour (numberAt (c .before .before .before .args .numbers .now) strokeAt) ≡ c .is-within .result
+stroke c = sym (c .is-within .ensures ∙ ap (within absentPaint maxColour) (read-back (c .before .before .before .args .numbers .now) strokeAt (c .before .is-within-arg .given)))
 
-fill : (c : tie.After-is-within2) → within (negsuc 0) (pos 255) (numberAt (c .before .before .before .before .before .before .args .numbers .now) 1) ≡ c .is-within2 .result
-fill c = sym (c .is-within2 .ensures ∙ ap (within (negsuc 0) (pos 255)) (read-back (c .before .before .before .before .before .before .args .numbers .now) 1 (c .before .is-within-arg2 .given)))
+fill : (c : tie.After-is-within2) → within absentPaint maxColour (numberAt (c .before .before .before .before .before .before .args .numbers .now) fillAt) ≡ c .is-within2 .result
+fill c = sym (c .is-within2 .ensures ∙ ap (within absentPaint maxColour) (read-back (c .before .before .before .before .before .before .args .numbers .now) fillAt (c .before .is-within-arg2 .given)))
 
 -- the stroke width
 abbrev width : tie.After-if42 → ℤ
-width c = numberAt (c .before .before .before .before .before .before .before .before .args .numbers .now) 2
+width c = numberAt (c .before .before .before .before .before .before .before .before .args .numbers .now) strokeWidthAt
 
 by-sign : (c : tie.After-if42)
     → (ltZ (toZ w32 (ofZ w32 (width c))) (pos 0) ≡ true → leZ (pos 0) (width c) ≡ false)
     × (ltZ (toZ w32 (ofZ w32 (width c))) (pos 0) ≡ false → leZ (pos 0) (width c) ≡ true)
-by-sign c = rw (read-back (c .before .before .before .before .before .before .before .before .args .numbers .now) 2 (c .if42 .given)) (λ e. omega (arith, int), λ e. omega (arith, int))
+by-sign c = rw (read-back (c .before .before .before .before .before .before .before .before .args .numbers .now) strokeWidthAt (c .if42 .given)) (λ e. omega (arith, int), λ e. omega (arith, int))
 
-alignment : (c : tie.After-is-within3) → within (pos 0) (pos 2) (numberAt (c .before .before .before .before .before .before .before .before .before .before .before .args .numbers .now) 3) ≡ c .is-within3 .result
-alignment c = sym (c .is-within3 .ensures ∙ ap (within (pos 0) (pos 2)) (read-back (c .before .before .before .before .before .before .before .before .before .before .before .args .numbers .now) 3 (c .before .is-within-arg3 .given)))
+alignment : (c : tie.After-is-within3) → within insideAlignment outsideAlignment (numberAt (c .before .before .before .before .before .before .before .before .before .before .before .args .numbers .now) alignmentAt) ≡ c .is-within3 .result
+alignment c = sym (c .is-within3 .ensures ∙ ap (within insideAlignment outsideAlignment) (read-back (c .before .before .before .before .before .before .before .before .before .before .before .args .numbers .now) alignmentAt (c .before .is-within-arg3 .given)))
 
 -- what holds after the first tests
-after-stroke : (c : tie.Else2) → within (negsuc 0) (pos 255) (numberAt (c .before .before .before .before .args .numbers .now) 0) ≡ true
+after-stroke : (c : tie.Else2) → within absentPaint maxColour (numberAt (c .before .before .before .before .args .numbers .now) strokeAt) ≡ true
 after-stroke c = stroke (c .before) ∙ not-false _ (c .if2 .left)
 
-after-fill : (c : tie.Else3) → within (negsuc 0) (pos 255) (numberAt (c .before .before .before .before .before .before .before .args .numbers .now) 1) ≡ true
+after-fill : (c : tie.Else3) → within absentPaint maxColour (numberAt (c .before .before .before .before .before .before .before .args .numbers .now) fillAt) ≡ true
 after-fill c = fill (c .before) ∙ not-false _ (c .if3 .left)
 
 returns : tie.Need-returns
 unfolding isStyle
-returns c = rw (ne-eqb (length (c .before .args .numbers .now)) 4 (c .if1 .taken))
+returns c = rw (ne-eqb (length (c .before .args .numbers .now)) styleLength (c .if1 .taken))
 
 shared-slice-copy-out-is-within : tie.Need-shared-slice-copy-out-is-within
 shared-slice-copy-out-is-within c = search needs

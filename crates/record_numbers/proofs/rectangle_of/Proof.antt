@@ -2,6 +2,7 @@
 -- Assumes nothing.
 use borrow.Author.Needs.{needs}
 use mathlib.Core.Path.{_∙_}
+use Rattle.record_numbers.specs.RecordNumbers.{xAt, yAt, widthAt, heightAt}
 use Rattle.record_numbers.proofs.Walks.{read-back, size-read}
 use Rattle.record_numbers.proofs.rectangle_of.Statement.{statement}
 use Rattle.record_numbers.proofs.rectangle_of.Tie as tie
@@ -26,10 +27,10 @@ returns c i =
     let numbers = c .before .before .before .before .before .args .numbers .now in
     record {
       «top_left» = record {
-        x = read-back numbers 1 (c .before .before .before .before .t3 .given) i;
-        y = read-back numbers 2 (c .before .before .before .t5 .given) i;
+        x = read-back numbers xAt (c .before .before .before .before .t3 .given) i;
+        y = read-back numbers yAt (c .before .before .before .t5 .given) i;
       };
-      size = (c .size-of .ensures ∙ size-read numbers 3 4 (c .before .before .size-of-arg .given) (c .before .size-of-arg2 .given)) i;
+      size = (c .size-of .ensures ∙ size-read numbers widthAt heightAt (c .before .before .size-of-arg .given) (c .before .size-of-arg2 .given)) i;
     }
 
 pub rectangle-of-spec : {M : Type 1} → statement M

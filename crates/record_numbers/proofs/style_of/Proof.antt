@@ -6,7 +6,7 @@ use Rattle.record_numbers.proofs.Walks.{read-back}
 use lib.IntN.{ℤ}
 use Rattle.signed.specs.Signed.{floor0}
 use Rattle.style.specs.declared.Style.{Style}
-use Rattle.record_numbers.specs.RecordNumbers.{paintOf, alignmentOf, styleOf}
+use Rattle.record_numbers.specs.RecordNumbers.{strokeAt, fillAt, strokeWidthAt, alignmentAt, paintOf, alignmentOf, styleOf}
 use Rattle.record_numbers.proofs.style_of.Statement.{statement}
 use Rattle.record_numbers.proofs.style_of.Tie as tie
 
@@ -41,10 +41,10 @@ returns : tie.Need-returns
 unfolding styleOf
 returns c =
     let numbers = c .before .before .before .before .before .before .before .before .args .numbers .now in
-    let alignment = c .alignment-of .ensures ∙ ap alignmentOf (read-back numbers 3 (c .before .alignment-of-arg .given)) in
-    let width = c .before .before .floor0 .ensures ∙ ap (λ (z : ℤ). floor0 z) (read-back numbers 2 (c .before .before .before .floor0-arg .given)) in
-    let fill = c .before .before .before .before .paint-of2 .ensures ∙ ap paintOf (read-back numbers 1 (c .before .before .before .before .before .paint-of-arg2 .given)) in
-    let stroke = c .before .before .before .before .before .before .paint-of .ensures ∙ ap paintOf (read-back numbers 0 (c .before .before .before .before .before .before .before .paint-of-arg .given)) in
+    let alignment = c .alignment-of .ensures ∙ ap alignmentOf (read-back numbers alignmentAt (c .before .alignment-of-arg .given)) in
+    let width = c .before .before .floor0 .ensures ∙ ap (λ (z : ℤ). floor0 z) (read-back numbers strokeWidthAt (c .before .before .before .floor0-arg .given)) in
+    let fill = c .before .before .before .before .paint-of2 .ensures ∙ ap paintOf (read-back numbers fillAt (c .before .before .before .before .before .paint-of-arg2 .given)) in
+    let stroke = c .before .before .before .before .before .before .paint-of .ensures ∙ ap paintOf (read-back numbers strokeAt (c .before .before .before .before .before .before .before .paint-of-arg .given)) in
     style-by-fields stroke fill width alignment
 
 pub style-of-spec : {M : Type 1} → statement M

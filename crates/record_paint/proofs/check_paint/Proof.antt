@@ -9,6 +9,7 @@ use native.Mathlib.Omega.{arith}
 use borrow.Author.Tests.{not-true, not-false}
 use lib.IntN.{ℤ, pos}
 use mir.Facts.{toZ-ofZ}
+use Rattle.geometry.specs.Limits.{maxLayers}
 use Rattle.signed.specs.Signed.{floor0}
 use Rattle.refusal.specs.declared.Refusal.the-variants.{SheetRule}
 use Rattle.refusal.specs.declared.Checked.{Checked}
@@ -21,7 +22,7 @@ use Rattle.sheet.specs.declared.Sheet.{Sheet}
 use Rattle.sheet.specs.Sheet.{sheetAnswer}
 use Rattle.record_numbers.specs.RecordNumbers.{numberAt, within}
 use Rattle.record_numbers.proofs.Walks.{read-back}
-use Rattle.sheet_record.specs.SheetRecord.{sheetOf}
+use Rattle.sheet_record.specs.SheetRecord.{countAt, sheetOf}
 use Rattle.sheet_record.proofs.Parts.{sixteen}
 use Rattle.record_rules.specs.RecordRules.{placesTested}
 use Rattle.record_paint.specs.RecordPaint.{nextOf, askedCheck}
@@ -55,30 +56,30 @@ size c = size-is (c .before .before) Passed (c .enum-told .given .1)
 
 -- the count is tested as it is read
 few-is : (c : tie.After-is-within)
-    → within (pos 0) (pos 16) (numberAt (c .before .before .before .before .before .before .args .numbers .now) 2)
+    → within (pos 0) (pos maxLayers) (numberAt (c .before .before .before .before .before .before .args .numbers .now) countAt)
     ≡ c .is-within .result
 few-is c =
     sym (c .is-within .ensures
-    ∙ ap (within (pos 0) (pos 16))
-    (read-back (c .before .before .before .before .before .before .args .numbers .now) 2 (c .before .is-within-arg .given)))
+    ∙ ap (within (pos 0) (pos maxLayers))
+    (read-back (c .before .before .before .before .before .before .args .numbers .now) countAt (c .before .is-within-arg .given)))
 
 abbrev start : tie.After-next-of → tie.Start
 start c = c .before .before .before .before .before .before .before .before .before .before
 
-few : (c : tie.After-next-of) → within (pos 0) (pos 16) (numberAt (start c .args .numbers .now) 2) ≡ true
+few : (c : tie.After-next-of) → within (pos 0) (pos maxLayers) (numberAt (start c .args .numbers .now) countAt) ≡ true
 few c = few-is (c .before .before .before .before) ∙ not-false _ (c .before .before .before .if1 .left)
 
 passed : (c : tie.After-next-of) → canvasSizeCheck (sheet (start c) .width) (sheet (start c) .height) ≡ Passed
 passed c = size (c .before .before .before .before .before .before)
 
-count-is : (c : tie.After-next-of) → c .before .floor0 .result ≡ floor0 (numberAt (start c .args .numbers .now) 2)
+count-is : (c : tie.After-next-of) → c .before .floor0 .result ≡ floor0 (numberAt (start c .args .numbers .now) countAt)
 count-is c =
     c .before .floor0 .ensures
-    ∙ ap (λ (z : ℤ). floor0 z) (read-back (start c .args .numbers .now) 2 (c .before .before .floor0-arg .given))
+    ∙ ap (λ (z : ℤ). floor0 z) (read-back (start c .args .numbers .now) countAt (c .before .before .floor0-arg .given))
 
 -- what is known of the places is that of the first of them and of the next row
 tested : (c : tie.After-test-places) → c .test-places .result
-    ≡ placesTested (start (c .before) .args .numbers .now) (floor0 (numberAt (start (c .before) .args .numbers .now) 2)) (start (c .before) .args .layer)
+    ≡ placesTested (start (c .before) .args .numbers .now) (floor0 (numberAt (start (c .before) .args .numbers .now) countAt)) (start (c .before) .args .layer)
     (nextOf (start (c .before) .args .numbers .now) (start (c .before) .args .layer))
 tested c =
     let n = start (c .before) .args .numbers .now in
@@ -148,7 +149,7 @@ returns-3 c =
     let read = places .before in
     let entry = start read in
     let n = entry .args .numbers .now in
-    let broken = tested-broken n (floor0 (numberAt n 2)) (entry .args .layer) (nextOf n (entry .args .layer))
+    let broken = tested-broken n (floor0 (numberAt n countAt)) (entry .args .layer) (nextOf n (entry .args .layer))
     (sym (c .enum-told3 .given .1) ∙ tested places) in
     λ canvas long. sym (refused entry canvas (rules-by-places n (entry .pre) (passed read) (few read) ∙ broken))
 
@@ -162,14 +163,14 @@ returns-4 c =
     let entry = start read in
     let a = entry .args in
     let n = a .numbers .now in
-    let found = tested-kept n (floor0 (numberAt n 2)) (a .layer) (nextOf n (a .layer)) (c .before .before .asked .given .0 .0)
+    let found = tested-kept n (floor0 (numberAt n countAt)) (a .layer) (nextOf n (a .layer)) (c .before .before .asked .given .0 .0)
     (sym (c .before .before .asked .given .1) ∙ tested places) in
     let rules = rules-by-places n (entry .pre) (passed read) (few read) ∙ found .0 in
     let size = read .before .before .before .before .before .before .before .before .before .size-of .ensures in
     λ canvas long.
     c .check-asked .ensures
     ∙ (λ i. askedCheck (size .0 i) (size .1 i) (sym long i) (count-is read i) (a .layer) (found .1 i))
-    ∙ answer-by-asked n (entry .pre) (floor0 (numberAt n 2)) (a .layer) canvas rules
+    ∙ answer-by-asked n (entry .pre) (floor0 (numberAt n countAt)) (a .layer) canvas rules
     (count-kept n (entry .pre) (passed read) (few read) rules) (count-few n (entry .pre) (passed read) (few read))
 
 pub check-paint-spec : {M : Type 1} → statement M

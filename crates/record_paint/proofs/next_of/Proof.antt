@@ -1,8 +1,10 @@
 -- `record_paint::next_of` meets its contract: the last number of a place is its next row.
 -- Assumes nothing.
 use mathlib.Core.Path.{refl, sym}
-use Prim.Native.Nat.{_+_, _*_}
+use Prim.Native.Nat.{_+_}
 use borrow.Author.Tests.{lt-ltb, le-ltb}
+use Rattle.geometry.specs.Limits.{maxLayers}
+use Rattle.sheet_record.specs.SheetRecord.{nextRowAt, placeAt}
 use Rattle.layers.specs.Layers.{layerRows}
 use Rattle.record_numbers.proofs.Walks.{read-back}
 use Rattle.record_rules.proofs.Painted.{next-in-place}
@@ -11,7 +13,7 @@ use Rattle.record_paint.proofs.next_of.Statement.{statement}
 use Rattle.record_paint.proofs.next_of.Tie as tie
 
 returns : tie.Need-returns
-returns c = rw (le-ltb _ 16 (c .if1 .taken)) (record { is = refl; fits = search needs })
+returns c = rw (le-ltb _ maxLayers (c .if1 .taken)) (record { is = refl; fits = search needs })
 
 mul-result : tie.Need-mul-result
 mul-result c = search needs
@@ -32,8 +34,8 @@ returns-2 : tie.Need-returns-2
 unfolding layerRows
 returns-2 c =
     let a = c .before .before .args in
-    let held = read-back (a .numbers .now) (3 + 18 * a .layer + 17) (c .result .given) in
-    rw (lt-ltb (a .layer) 16 (c .before .if1 .left), held)
+    let held = read-back (a .numbers .now) (placeAt (a .layer) + nextRowAt) (c .result .given) in
+    rw (lt-ltb (a .layer) maxLayers (c .before .if1 .left), held)
     (record { is = sym (next-in-place (a .numbers .now) (a .layer)); fits = sfits-of (c .result .given) })
 
 pub next-of-spec : {M : Type 1} → statement M

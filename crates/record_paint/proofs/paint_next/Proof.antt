@@ -8,6 +8,7 @@ use borrow.Author.Needs.{needs}
 use lib.IntN.{ℤ, pos, _+ℤ_}
 use lib.ListN.{set, getD, length-set}
 use mir.Facts.{toZ-ofZ}
+use Rattle.geometry.specs.Limits.{maxLayers}
 use Rattle.signed.proofs.Laws.{int}
 use Rattle.geometry.specs.Bounds.{wideSide}
 use Rattle.book.specs.Sheet.{paintRow}
@@ -19,7 +20,7 @@ use Rattle.sheet.proofs.Places.{kept-few, kept-layer, kept-width}
 use Rattle.sheet.proofs.Answers.{PaintAccepted, painted-accepted}
 use Rattle.sheet.specs.declared.Sheet.{Sheet}
 use Rattle.sheet.proofs.Records.{painted-canvas}
-use Rattle.sheet_record.specs.SheetRecord.{placeAt, sheetOf}
+use Rattle.sheet_record.specs.SheetRecord.{nextRowAt, placeAt, sheetOf}
 use Rattle.sheet_record.proofs.Parts.{sixteen}
 use Rattle.sheet_record.proofs.ReadBack.{layer-in-place}
 use Rattle.record_paint.proofs.paint_next.Statement.{statement}
@@ -31,7 +32,7 @@ sheet c = sheetOf (c .args .numbers .now)
 told : (c : tie.Start) → PaintAccepted (sheet c .width) (sheet c .height) (sheet c .count) (sheet c .layers) (sixteen (c .args .numbers .now)) (c .args .layer) (c .args .canvas .now)
 told c = painted-accepted (sheet c .width) (sheet c .height) (sheet c .count) (sheet c .layers) (sixteen (c .args .numbers .now)) (c .args .layer) (c .args .canvas .now) (c .pre .1)
 
-place : (c : tie.Start) → c .args .layer < 16
+place : (c : tie.Start) → c .args .layer < maxLayers
 place c =
     let few = kept-few (sheet c .width) (sheet c .height) (sheet c .count) (sheet c .layers) (sixteen (c .args .numbers .now)) (told c .rules) in
     let within = told c .within in
@@ -109,7 +110,7 @@ returns c =
     let a = e .args in
     let size = c .before .before .before .before .size-of .ensures in
     let held = toZ-ofZ (within read .next .fits) in (
-      ap (λ (z : ℤ). set (a .numbers .now) (placeAt (a .layer) + 17) z)
+      ap (λ (z : ℤ). set (a .numbers .now) (placeAt (a .layer) + nextRowAt) z)
           (toZ-ofZ (c .add .ensures .fits) ∙ c .add .ensures .is ∙ ap (λ (z : ℤ). z +ℤ pos 1) (held ∙ ap (λ (l : Layer). l .«next_row») (read .layer-at .ensures))),
       c .before .before .before .paint-row-alone .ensures
           ∙ ap (λ (y : ℤ). paintRow drawing (c .before .before .before .before .size-of .result .width) (c .before .before .before .before .size-of .result .height) (styledFigure (read .layer-at .result .figure) (read .layer-at .result .style)) y (a .canvas .now)) held

@@ -3,14 +3,14 @@
 use mathlib.Core.Path.{_≡_, sym, ap, subst, _∙_}
 use mathlib.Core.Bool.{true, _&&_}
 use mathlib.Core.List.{List}
-use Prim.Native.Nat.{_+_, _*_}
+use Prim.Native.Nat.{_+_}
 use lib.IntN.{ℤ}
 use lib.ListN.{length}
 use mir.Facts.{toZ-ofZ}
 use Rattle.drawing.specs.declared.StrokeRows.{StrokeRows}
 use Rattle.layers.specs.Layers.{layerRows}
 use Rattle.record_numbers.proofs.Walks.{read-back}
-use Rattle.sheet_record.specs.SheetRecord.{placeNumbers}
+use Rattle.sheet_record.specs.SheetRecord.{nextRowAt, layerLength, placeAt, placeNumbers}
 use Rattle.sheet_record.proofs.Parts.{place-part, place-part-length}
 use Rattle.place_rules.specs.PlaceRules.{figureKept, styleKept, firstRowOf}
 use Rattle.place_rules.proofs.Rules.{place-within}
@@ -20,8 +20,8 @@ use borrow.Author.Needs.{needs}
 use Rattle.record_rules.proofs.painted_at.Statement.{statement}
 use Rattle.record_rules.proofs.painted_at.Tie as tie
 
--- a place has 18 numbers
-long-place : (c : tie.Start) → length (placeNumbers (c .args .numbers .now) (c .args .j)) ≡ 18
+-- a place has a layer's numbers
+long-place : (c : tie.Start) → length (placeNumbers (c .args .numbers .now) (c .args .j)) ≡ layerLength
 long-place c =
     sym (ap length (place-part (c .args .numbers .now) (c .args .j)))
     ∙ place-part-length (c .args .numbers .now) (c .args .j) (c .pre .0 .0) (c .pre .0 .1)
@@ -75,7 +75,7 @@ returns c =
     let place = rows-of-place (placeNumbers n j) (long-place entry) in (
       toZ-ofZ (made .fits) ∙ made .is ∙ ap (λ (p : List ℤ). firstRowOf p) (place-part n j)
           ∙ sym (ap (λ (r : StrokeRows). r .first) place),
-      read-back n (3 + 18 * j + 17) (c .t14 .given) ∙ sym (next-in-place n j),
+      read-back n (placeAt j + nextRowAt) (c .t14 .given) ∙ sym (next-in-place n j),
     )
 
 pub painted-at-spec : {M : Type 1} → statement M

@@ -2,7 +2,7 @@
 -- Assumes nothing.
 use mathlib.Core.Path.{_≡_, sym, ap, ap₂, _∙_}
 use mathlib.Core.Bool.{Bool}
-use lib.IntN.{ℤ, pos}
+use lib.IntN.{ℤ}
 use lib.Signed.{leZ}
 use mir.Syntax.{w32}
 use mir.Val.{toZ, ofZ}
@@ -12,22 +12,22 @@ use Rattle.drawing.specs.Drawing.{styledFigure}
 use Rattle.sheet.proofs.Records.{add-takes-no-canvas}
 use Rattle.record_numbers.specs.RecordNumbers.{numberAt}
 use Rattle.record_numbers.proofs.Walks.{read-back}
-use Rattle.call_numbers.specs.CallNumbers.{callOf}
+use Rattle.call_numbers.specs.CallNumbers.{callKindAt, callLayerAt, paintKind, callOf}
 use borrow.Author.Needs.{needs}
 use Rattle.sheet_calls.proofs.make_call.Statement.{statement}
 use Rattle.sheet_calls.proofs.make_call.Tie as tie
 
 -- whether a row is painted
-by-kind : (c : tie.After-if12) {t : Bool} → leZ (pos 1) (toZ w32 (ofZ w32 (numberAt (c .before .before .args .numbers .now) 0))) ≡ t
-    → leZ (pos 1) (numberAt (c .before .before .args .numbers .now) 0) ≡ t
-by-kind c test = sym (ap (leZ (pos 1)) (read-back (c .before .before .args .numbers .now) 0 (c .if12 .given))) ∙ test
+by-kind : (c : tie.After-if12) {t : Bool} → leZ paintKind (toZ w32 (ofZ w32 (numberAt (c .before .before .args .numbers .now) callKindAt))) ≡ t
+    → leZ paintKind (numberAt (c .before .before .args .numbers .now) callKindAt) ≡ t
+by-kind c test = sym (ap (leZ paintKind) (read-back (c .before .before .args .numbers .now) callKindAt (c .if12 .given))) ∙ test
 
 paints : (c : tie.After-floor0) → callOf (c .before .before .before .before .before .args .numbers .now) ≡ Call·paint (c .floor0 .result)
 unfolding callOf
 paints c =
     let numbers = c .before .before .before .before .before .args .numbers .now in
     rw (by-kind (c .before .before .before) (c .before .before .if1 .taken))
-    (ap Call·paint (sym (c .floor0 .ensures ∙ ap (λ (z : ℤ). floor0 z) (read-back numbers 1 (c .before .floor0-arg .given)))))
+    (ap Call·paint (sym (c .floor0 .ensures ∙ ap (λ (z : ℤ). floor0 z) (read-back numbers callLayerAt (c .before .floor0-arg .given)))))
 
 adds : (c : tie.After-style-of) → callOf (c .before .before .before .before .before .before .before .args .numbers .now) ≡ Call·add (styledFigure (c .before .before .figure-of .result) (c .style-of .result))
 unfolding callOf

@@ -5,6 +5,7 @@ use Prim.Native.Nat.{_-_, _≤_}
 use native.Mathlib.Omega.{arith}
 use borrow.Author.Needs.{needs}
 use lib.ListN.{length, length-set}
+use Rattle.geometry.specs.Limits.{maxLayers}
 use Rattle.sheet.proofs.Places.{sixteen-places}
 use Rattle.call_numbers.proofs.Walks.{call-part-length}
 use Rattle.sheet_calls.proofs.Runs.{CallsLeft, all-left, one-less-left, called-part, none-left}
@@ -19,7 +20,7 @@ Inv-loop count numbers canvas₀ answers₀ current₀ j₀ canvas answers curre
 abbrev μ-loop : tie.MeasureT-loop
 μ-loop count numbers canvas₀ answers₀ current₀ j₀ canvas answers current j = count - j
 
-sixteen : (c : tie.Start Inv-loop μ-loop) → length (c .args .sheet .layers) ≡ 16
+sixteen : (c : tie.Start Inv-loop μ-loop) → length (c .args .sheet .layers) ≡ maxLayers
 sixteen c = sixteen-places (c .args .sheet .layers) (c .good .0 .1 .1 .1 .1 .1 .0 .1 .0 .1)
 
 loop-holds : tie.Need-loop-holds Inv-loop μ-loop

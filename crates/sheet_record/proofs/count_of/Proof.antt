@@ -4,6 +4,7 @@ use mathlib.Core.Path.{sym, ap, _∙_}
 use lib.IntN.{ℤ}
 use Rattle.signed.specs.Signed.{floor0}
 use Rattle.record_numbers.proofs.Walks.{read-back}
+use Rattle.sheet_record.specs.SheetRecord.{countAt}
 use borrow.Author.Needs.{needs}
 use Rattle.sheet_record.proofs.count_of.Statement.{statement}
 use Rattle.sheet_record.proofs.count_of.Tie as tie
@@ -20,7 +21,7 @@ floor0-requires c κs = search needs
 returns : tie.Need-returns
 returns c =
     rw (sym (c .before .before .before .holds-records .ensures) ∙ c .before .before .if1 .taken)
-    (c .floor0 .ensures ∙ ap (λ (z : ℤ). floor0 z) (read-back (c .before .before .before .before .args .numbers .now) 2 (c .before .floor0-arg .given)))
+    (c .floor0 .ensures ∙ ap (λ (z : ℤ). floor0 z) (read-back (c .before .before .before .before .args .numbers .now) countAt (c .before .floor0-arg .given)))
 
 returns-2 : tie.Need-returns-2
 returns-2 c = rw (sym (c .before .holds-records .ensures) ∙ c .if1 .left)

@@ -10,16 +10,17 @@ use borrow.Author.Tests.{not-true, not-false}
 use lib.IntN.{ℤ}
 use lib.ListN.{take}
 use Rattle.signed.specs.Signed.{floor0}
+use Rattle.geometry.specs.Limits.{maxLayers}
 use Rattle.record_numbers.specs.RecordNumbers.{numberAt, allFrom, noneNegative}
 use Rattle.record_numbers.proofs.Walks.{read-back, all-from-here, all-from-past}
-use Rattle.sheet_record.specs.SheetRecord.{placeNumbers, isLayer, holdsRecords}
+use Rattle.sheet_record.specs.SheetRecord.{countAt, firstPlaceAt, placeNumbers, isLayer, holdsRecords}
 use Rattle.sheet_record.proofs.Parts.{place-part, place-part-length}
 use native.Mathlib.Omega.{arith}
 use Rattle.sheet_record.proofs.holds_records.Statement.{statement}
 use Rattle.sheet_record.proofs.holds_records.Tie as tie
 
 abbrev Inv-loop : tie.InvT-loop
-Inv-loop numbers used j₀ j = (j ≤ used) × (used ≤ 16) × (allFrom (λ k. isLayer (placeNumbers numbers k)) j (used - j) ≡ allFrom (λ k. isLayer (placeNumbers numbers k)) 0 used)
+Inv-loop numbers used j₀ j = (j ≤ used) × (used ≤ maxLayers) × (allFrom (λ k. isLayer (placeNumbers numbers k)) j (used - j) ≡ allFrom (λ k. isLayer (placeNumbers numbers k)) 0 used)
 
 abbrev μ-loop : tie.MeasureT-loop
 μ-loop numbers used j₀ j = used - j
@@ -29,14 +30,14 @@ abbrev test : List ℤ → ℕ → Bool
 test numbers j = isLayer (placeNumbers numbers j)
 
 -- the first three numbers
-sides : (c : tie.After-none-negative Inv-loop μ-loop) → noneNegative (take 3 (c .before .before .args .numbers .now)) ≡ c .none-negative .result
+sides : (c : tie.After-none-negative Inv-loop μ-loop) → noneNegative (take firstPlaceAt (c .before .before .args .numbers .now)) ≡ c .none-negative .result
 sides c = sym (c .none-negative .ensures)
 
 -- how many places are used
-used-is : (c : tie.After-least Inv-loop μ-loop) → c .least .result ≡ min (floor0 (numberAt (c .before .before .before .before .before .before .args .numbers .now) 2)) 16
+used-is : (c : tie.After-least Inv-loop μ-loop) → c .least .result ≡ min (floor0 (numberAt (c .before .before .before .before .before .before .args .numbers .now) countAt)) maxLayers
 used-is c =
     c .least .ensures
-    ∙ ap (λ (n : ℕ). min n 16) (c .before .floor0 .ensures ∙ ap (λ (z : ℤ). floor0 z) (read-back (c .before .before .before .before .before .before .args .numbers .now) 2 (c .before .before .floor0-arg .given)))
+    ∙ ap (λ (n : ℕ). min n maxLayers) (c .before .floor0 .ensures ∙ ap (λ (z : ℤ). floor0 z) (read-back (c .before .before .before .before .before .before .args .numbers .now) countAt (c .before .before .floor0-arg .given)))
 
 -- then it goes by the places
 by-places : (c : tie.After-least Inv-loop μ-loop)

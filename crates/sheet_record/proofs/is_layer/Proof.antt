@@ -3,12 +3,12 @@
 use mathlib.Core.Path.{_≡_, sym, _∙_}
 use borrow.Author.Tests.{not-true, not-false}
 use lib.ListN.{take}
-use Rattle.record_numbers.specs.RecordNumbers.{isFigure}
+use Rattle.record_numbers.specs.RecordNumbers.{figureLength, isFigure}
 use borrow.Author.Needs.{needs}
 use Rattle.sheet_record.proofs.is_layer.Statement.{statement}
 use Rattle.sheet_record.proofs.is_layer.Tie as tie
 
-figure : (c : tie.After-is-figure) → isFigure (take 13 (c .before .before .args .numbers .now)) ≡ c .is-figure .result
+figure : (c : tie.After-is-figure) → isFigure (take figureLength (c .before .before .args .numbers .now)) ≡ c .is-figure .result
 figure c = sym (c .is-figure .ensures)
 
 sub-is-figure : tie.Need-sub-is-figure

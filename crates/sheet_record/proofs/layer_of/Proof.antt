@@ -1,6 +1,7 @@
 -- `sheet_record::layer_of` meets its contract: each part is read from its own numbers.
 -- Assumes nothing.
 use Rattle.record_numbers.proofs.Walks.{read-back}
+use Rattle.sheet_record.specs.SheetRecord.{nextRowAt}
 use borrow.Author.Needs.{needs}
 use Rattle.sheet_record.proofs.layer_of.Statement.{statement}
 use Rattle.sheet_record.proofs.layer_of.Tie as tie
@@ -37,7 +38,7 @@ returns c i =
     record {
       figure = c .before .before .before .figure-of .ensures i;
       style = c .before .style-of .ensures i;
-      «next_row» = read-back (c .before .before .before .before .before .args .numbers .now) 17 (c .t13 .given) i;
+      «next_row» = read-back (c .before .before .before .before .before .args .numbers .now) nextRowAt (c .t13 .given) i;
     }
 
 pub layer-of-spec : {M : Type 1} → statement M

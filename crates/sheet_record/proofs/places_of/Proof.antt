@@ -5,6 +5,7 @@ use Prim.Native.Nat.{_+_, _-_, _≤_}
 use borrow.Author.Needs.{needs}
 use lib.ListN.{length, set, length-set}
 use lib.Seq.{sets}
+use Rattle.geometry.specs.Limits.{maxLayers}
 use Rattle.record_numbers.specs.RecordNumbers.{listFrom}
 use Rattle.layers.specs.declared.Layer.{Layer}
 use Rattle.sheet_record.specs.SheetRecord.{placeNumbers, layerOf, sheetOf}
@@ -15,10 +16,10 @@ use Rattle.sheet_record.proofs.places_of.Statement.{statement}
 use Rattle.sheet_record.proofs.places_of.Tie as tie
 
 abbrev Inv-loop : tie.InvT-loop
-Inv-loop numbers places₀ j₀ places j = (j ≤ 16) × (length places ≡ 16) × (sets places j (listFrom (λ k. layerOf (placeNumbers numbers k)) j (16 - j)) ≡ listFrom (λ k. layerOf (placeNumbers numbers k)) 0 16)
+Inv-loop numbers places₀ j₀ places j = (j ≤ maxLayers) × (length places ≡ maxLayers) × (sets places j (listFrom (λ k. layerOf (placeNumbers numbers k)) j (maxLayers - j)) ≡ listFrom (λ k. layerOf (placeNumbers numbers k)) 0 maxLayers)
 
 abbrev μ-loop : tie.MeasureT-loop
-μ-loop numbers places₀ j₀ places j = 16 - j
+μ-loop numbers places₀ j₀ places j = maxLayers - j
 
 blank-requires : tie.Need-blank-requires Inv-loop μ-loop
 blank-requires c κs = omega (arith, int)
@@ -47,7 +48,7 @@ loop-again c =
     let walk = c .before .before .loop in (
       omega arith,
       simp length-set (walk .inv .1),
-      ap (λ (l : Layer). sets (set (walk .places) (walk .j) l) (walk .j + 1) (listFrom (λ k. layerOf (placeNumbers numbers k)) (walk .j + 1) (16 - (walk .j + 1)))) (c .layer-at .ensures)
+      ap (λ (l : Layer). sets (set (walk .places) (walk .j) l) (walk .j + 1) (listFrom (λ k. layerOf (placeNumbers numbers k)) (walk .j + 1) (maxLayers - (walk .j + 1)))) (c .layer-at .ensures)
           ∙ sym (put-place (λ k. layerOf (placeNumbers numbers k)) (walk .places) (walk .j) (c .before .loop-test .taken)) ∙ walk .inv .2,
     )
 

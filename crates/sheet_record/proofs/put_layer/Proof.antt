@@ -9,7 +9,7 @@ use lib.Seq.{sets}
 use mir.Syntax.{w32}
 use mir.Val.{SFits}
 use mir.Facts.{toZ-ofZ}
-use Rattle.sheet_record.specs.SheetRecord.{placeAt}
+use Rattle.sheet_record.specs.SheetRecord.{styleAt, nextRowAt, placeAt}
 use borrow.Author.Needs.{needs}
 use Rattle.sheet_record.proofs.put_layer.Statement.{statement}
 use Rattle.sheet_record.proofs.put_layer.Tie as tie
@@ -45,8 +45,8 @@ returns : tie.Need-returns
 returns c =
     let a = c .before .before .before .before .before .before .args in
     let fits : SFits w32 (a .row) = search needs in
-    let written = c .before .put-from2 .ensures ∙ ap (λ (l : List ℤ). sets l (placeAt (a .place) + 13) (a .style .now)) (c .before .before .before .before .put-from .ensures) in
-    ap₂ (λ (l : List ℤ) (z : ℤ). set l (placeAt (a .place) + 17) z) written (toZ-ofZ fits)
+    let written = c .before .put-from2 .ensures ∙ ap (λ (l : List ℤ). sets l (placeAt (a .place) + styleAt) (a .style .now)) (c .before .before .before .before .put-from .ensures) in
+    ap₂ (λ (l : List ℤ) (z : ℤ). set l (placeAt (a .place) + nextRowAt) z) written (toZ-ofZ fits)
 
 pub put-layer-spec : {M : Type 1} → statement M
 put-layer-spec =

@@ -4,7 +4,7 @@ use mathlib.Core.Path.{ap, _∙_}
 use lib.IntN.{ℤ}
 use Rattle.signed.specs.Signed.{floor0}
 use Rattle.record_numbers.proofs.Walks.{read-back}
-use Rattle.sheet_record.specs.SheetRecord.{sheetOf}
+use Rattle.sheet_record.specs.SheetRecord.{canvasWidthAt, canvasHeightAt, sheetOf}
 use borrow.Author.Needs.{needs}
 use Rattle.sheet_record.proofs.size_of.Statement.{statement}
 use Rattle.sheet_record.proofs.size_of.Tie as tie
@@ -25,8 +25,8 @@ returns : tie.Need-returns
 unfolding sheetOf
 returns c =
     let numbers = c .before .before .before .before .args .numbers .now in (
-      c .before .before .floor0 .ensures ∙ ap (λ (z : ℤ). floor0 z) (read-back numbers 0 (c .before .before .before .floor0-arg .given)),
-      c .floor02 .ensures ∙ ap (λ (z : ℤ). floor0 z) (read-back numbers 1 (c .before .floor0-arg2 .given)),
+      c .before .before .floor0 .ensures ∙ ap (λ (z : ℤ). floor0 z) (read-back numbers canvasWidthAt (c .before .before .before .floor0-arg .given)),
+      c .floor02 .ensures ∙ ap (λ (z : ℤ). floor0 z) (read-back numbers canvasHeightAt (c .before .floor0-arg2 .given)),
     )
 
 pub size-of-spec : {M : Type 1} → statement M
