@@ -3,7 +3,7 @@
 use mathlib.Core.Path.{_≡_, refl, sym, ap, ap₂, subst, _∙_}
 use mathlib.Core.Bool.{true}
 use mathlib.Core.List.{List, [], _∷_, map}
-use Prim.Native.Nat.{ℕ}
+use Prim.Native.Nat.{ℕ, suc}
 use native.Mathlib.Omega.{arith}
 use lib.IntN.{ℤ, pos}
 use lib.ListN.{length, length-map}
@@ -13,7 +13,7 @@ use mir.Syntax.{w32}
 use mir.Val.{SFits, toZ, ofZ}
 use mir.Facts.{toZ-ofZ}
 use Rattle.signed.proofs.Laws.{int, range}
-use Rattle.signed.specs.Signed.{Is}
+use Rattle.signed.specs.Signed.{maxI32, Is}
 use Rattle.refusal.specs.declared.Checked.{Checked}
 use Rattle.refusal.specs.Refusal.{answerNumber, Outcome, refused, answered, keeping, roomCheck}
 use Rattle.host_answers.specs.HostAnswers.{nothingThere, told, heldBy32, outAfter, Tells}
@@ -22,7 +22,7 @@ use Rattle.host_answers.specs.HostAnswers.{nothingThere, told, heldBy32,
 pub held-signed : (z : ℤ) → SFits w32 z → heldBy32 z ≡ z
 unfolding heldBy32
 held-signed z fits =
-    let test : ltZ z (pos 2147483648) ≡ true = omega (arith, int, range {w = w32} {z = z} fits) in
+    let test : ltZ z (pos (suc maxI32)) ≡ true = omega (arith, int, range {w = w32} {z = z} fits) in
     rw test
 
 -- the same of one that was read from its 32 bits

@@ -4,11 +4,12 @@
 use mathlib.Core.Path.{_≡_}
 use mathlib.Core.Bool.{Bool, true, false, cond}
 use mathlib.Core.List.{List, [], _∷_, map}
-use Prim.Native.Nat.{ℕ}
+use Prim.Native.Nat.{ℕ, suc}
 use lib.IntN.{ℤ, pos, _-ℤ_}
 use lib.ListN.{length}
 use lib.Seq.{sets}
 use lib.Signed.{ltZ}
+use Rattle.signed.specs.Signed.{maxI32}
 use Rattle.refusal.specs.declared.Checked.{Checked}
 use Rattle.refusal.specs.declared.Checked.the-variants.{Passed, Refused}
 use Rattle.refusal.specs.Refusal.{number, answerNumber, Outcome, refused, answered, keeping, roomCheck}
@@ -49,7 +50,7 @@ told (answered (v ∷ rest)) room = answerNumber (roomCheck (length (v ∷ rest)
 
 -- a number as 32 bits with a sign hold it: an unsigned one from 2^31 on comes out less 2^32. No call answers one
 unfoldable pub heldBy32 : ℤ → ℤ
-heldBy32 z = cond (ltZ z (pos 2147483648)) z (z -ℤ pos 4294967296)
+heldBy32 z = cond (ltZ z (pos (suc maxI32))) z (z -ℤ pos 4294967296)
 
 -- the list afterwards: the values from its start on, if it has room for them
 unfoldable pub outAfter : Outcome → List ℤ → List ℤ

@@ -19,15 +19,18 @@ pub const NO_RECORD: u32 = 100;
 
 pub const NOTHING: u32 = 101;
 
+// The first number that 32 bits with a sign do not hold.
+const PAST_MAX: u32 = i32::MAX as u32 + 1;
+
 // The number as 32 bits with a sign hold it.
 pub fn held(n: u32) -> i32
     ensures { λ r. ⌜ Is (heldBy32 (pos n)) r ⌝ }
 {
-    if n < 2147483648 {
+    if n < PAST_MAX {
         return signed::from_u32(n);
     }
-    let above = signed::from_u32(n - 2147483648);
-    signed::sub(signed::sub(above, 2147483647), 1)
+    let above = signed::from_u32(n - PAST_MAX);
+    signed::sub(signed::sub(above, i32::MAX), 1)
 }
 
 // Writes the values from a place of the list on.

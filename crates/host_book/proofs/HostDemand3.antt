@@ -4,12 +4,13 @@
 use mathlib.Core.Path.{_≡_, refl, sym, ap, ap₂, subst, subst₂, _∙_}
 use mathlib.Core.Bool.{Bool, true, false, false≢true}
 use mathlib.Core.List.{List, [], _∷_, _++_, map, append-nil}
-use Prim.Native.Nat.{ℕ, _+_}
+use Prim.Native.Nat.{ℕ, suc, _+_}
 use native.Mathlib.Omega.{arith}
 use lib.IntN.{ℤ, pos}
 use lib.ListN.{length, drop-of-length-le}
 use lib.Seq.{sets, sets-eq}
 use lib.Signed.{ltZ}
+use Rattle.signed.specs.Signed.{maxI32}
 use Rattle.signed.proofs.Laws.{int}
 use Rattle.refusal.specs.declared.Checked.{Checked}
 use Rattle.refusal.specs.declared.Checked.the-variants.{Passed}
@@ -128,8 +129,8 @@ module _ (W H : ℕ) (width : WithinSide drawing W) (height : WithinSide drawing
   held : map heldBy32 (openedNumbers W H) ≡ openedNumbers W H
   unfolding heldBy32 unusedPlaces
   held =
-      let w : ltZ (pos W) (pos 2147483648) ≡ true = let most = width .1 in omega (arith, int) in
-      let h : ltZ (pos H) (pos 2147483648) ≡ true = let most = height .1 in omega (arith, int) in
+      let w : ltZ (pos W) (pos (suc maxI32)) ≡ true = let most = width .1 in omega (arith, int) in
+      let h : ltZ (pos H) (pos (suc maxI32)) ≡ true = let most = height .1 in omega (arith, int) in
       rw (w, h)
 
   many : length (openedNumbers W H) ≡ sheetLength

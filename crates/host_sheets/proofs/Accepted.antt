@@ -9,6 +9,7 @@ use lib.IntN.{ℤ}
 use lib.ListN.{set, getD}
 use lib.Seq.{getD-set-same}
 use Rattle.refusal.specs.declared.Checked.the-variants.{Passed}
+use Rattle.signed.specs.Signed.{maxI32}
 use Rattle.geometry.specs.Limits.{maxLayers}
 use Rattle.book.specs.Book.{paint}
 use Rattle.sheet.proofs.Places.{kept-few}
@@ -61,7 +62,7 @@ painted-numbers numbers i canvas e =
 
 -- and the new count is small
 pub added-count : (numbers figure style : List ℤ) → sheetAnswer (sheetOf numbers) [] (addOf figure style) ≡ Passed
-    → sheetAfter (sheetOf numbers) [] (addOf figure style) .count < 2147483648
+    → sheetAfter (sheetOf numbers) [] (addOf figure style) .count ≤ maxI32
 unfolding carriedOutSheet
 added-count numbers figure style e =
     let place = added-place numbers figure style e in

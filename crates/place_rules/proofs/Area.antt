@@ -31,10 +31,10 @@ use Rattle.style.proofs.StrokeWidths.{widths-make-stroke}
 use Rattle.drawing.specs.declared.StrokeRows.{StrokeRows}
 use Rattle.drawing.specs.Rows.{boxRows, ellipseRows, strokeRows}
 use Rattle.drawing.proofs.Rows.{rows-of-ellipse, rows-of-crate-box, rows-of-w3c-box}
-use Rattle.record_numbers.specs.RecordNumbers.{numberAt, listFrom, alignmentOf, rectangleOf, boxOf, figureOf, styleOf}
-use Rattle.sheet_record.specs.SheetRecord.{layerOf}
+use Rattle.record_numbers.specs.RecordNumbers.{figureLength, kindAt, yAt, widthAt, heightAt, strokeWidthAt, alignmentAt, crateBoxKind, w3cBoxKind, numberAt, listFrom, alignmentOf, rectangleOf, boxOf, figureOf, styleOf}
+use Rattle.sheet_record.specs.SheetRecord.{styleAt, layerLength, layerOf}
 use Rattle.place_rules.specs.PlaceRules.{rowsAbove, strokeCount, outsideOf, firstRowOf, countOf}
-use Rattle.place_rules.proofs.Limits.{eighteen-numbers, PlaceLimits}
+use Rattle.place_rules.proofs.Limits.{layer-numbers, PlaceLimits}
 
 -- ---- sums
 pub stroke-count-le : (ellipse : Bool) (w h : ℕ) → strokeCount ellipse w h ≤ h
@@ -57,12 +57,12 @@ outside-le alignment s = omega (arith, widths-make-stroke alignment s)
 
 -- ---- what the limits bound
 module _ (n : List ℤ) (limits : PlaceLimits (numberAt n)) where
-  pub top-near : mag (numberAt n 2) < 2 ^ hbits w32 → Near widePosition (numberAt n 2)
+  pub top-near : mag (numberAt n yAt) < 2 ^ hbits w32 → Near widePosition (numberAt n yAt)
   top-near small =
       let y = limits .y in
       record { above = omega (arith, int); below = omega (arith, int); fits = sfits-of small }
 
-  pub sides-small : (floor0 (numberAt n 3) ≤ wideOwnSide) × (floor0 (numberAt n 4) ≤ wideOwnSide)
+  pub sides-small : (floor0 (numberAt n widthAt) ≤ wideOwnSide) × (floor0 (numberAt n heightAt) ≤ wideOwnSide)
   sides-small =
       let width = limits .width in
       let height = limits .height in
@@ -71,7 +71,7 @@ module _ (n : List ℤ) (limits : PlaceLimits (numberAt n)) where
   pub outside-small : outsideOf n ≤ wideOffset
   outside-small =
       let width = limits .stroke-width in
-      omega (arith, int, outside-le (alignmentOf (numberAt n 16)) (floor0 (numberAt n 15)))
+      omega (arith, int, outside-le (alignmentOf (numberAt n (styleAt + alignmentAt))) (floor0 (numberAt n (styleAt + strokeWidthAt))))
 
 pub less-near : (z : ℤ) (n : ℕ) {r : ℤ} → Near widePosition z → n ≤ wideOffset → r ≡ z -ℤ pos n → SFits w32 r
     → Near wideAreaPosition r
@@ -145,7 +145,7 @@ module _ (r : Rectangle) (k : ℕ) where
 -- ---- the rows of a place's layer
 module _ (f : ℕ → ℤ) where
   abbrev numbers : List ℤ
-  numbers = listFrom f 0 18
+  numbers = listFrom f 0 layerLength
 
   abbrev style : Style
   style = layerOf numbers .style
@@ -156,39 +156,39 @@ module _ (f : ℕ → ℤ) where
 
   rows-by-numbers : strokeRows (layerOf numbers .figure) style ≡ record { first = firstRowOf numbers; count = countOf numbers }
   unfolding figureOf listFrom
-  rows-by-numbers = by-kind (ltZ (f 0) (pos 1)) refl (ltZ (f 0) (pos 2)) refl
+  rows-by-numbers = by-kind (ltZ (f kindAt) crateBoxKind) refl (ltZ (f kindAt) w3cBoxKind) refl
     where
       own : Rectangle
-      own = rectangleOf (take 13 numbers)
+      own = rectangleOf (take figureLength numbers)
 
       by : Bool → ℕ → StrokeRows
       by ellipse k =
           record {
-            first = f 2 -ℤ pos (rowsAbove (floor0 (f 4)) k);
-            count = strokeCount ellipse (floor0 (f 3) + 2 * k) (floor0 (f 4) + 2 * k);
+            first = f yAt -ℤ pos (rowsAbove (floor0 (f heightAt)) k);
+            count = strokeCount ellipse (floor0 (f widthAt) + 2 * k) (floor0 (f heightAt) + 2 * k);
           }
 
-      by-kind : (t : Bool) → ltZ (f 0) (pos 1) ≡ t → (s : Bool) → ltZ (f 0) (pos 2) ≡ s
+      by-kind : (t : Bool) → ltZ (f kindAt) crateBoxKind ≡ t → (s : Bool) → ltZ (f kindAt) w3cBoxKind ≡ s
           → strokeRows (layerOf numbers .figure) style ≡ record { first = firstRowOf numbers; count = countOf numbers }
       by-kind true e s d =
           let figure : layerOf numbers .figure ≡ Ellipse own = rw e in
           ap (λ (g : Figure). strokeRows g style) figure
           ∙ rows-of-ellipse style own ∙ ellipse-rows-are own (outsideStrokeWidth style) ∙ ap₂ by (sym e) outside-is
       by-kind false e true d =
-          let figure : layerOf numbers .figure ≡ CrateBox (boxOf (take 13 numbers)) = rw (e, d) in
+          let figure : layerOf numbers .figure ≡ CrateBox (boxOf (take figureLength numbers)) = rw (e, d) in
           ap (λ (g : Figure). strokeRows g style) figure
-          ∙ rows-of-crate-box style (boxOf (take 13 numbers)) ∙ box-rows-are own (outsideStrokeWidth style)
+          ∙ rows-of-crate-box style (boxOf (take figureLength numbers)) ∙ box-rows-are own (outsideStrokeWidth style)
           ∙ ap₂ by (sym e) outside-is
       by-kind false e false d =
-          let figure : layerOf numbers .figure ≡ W3cBox (boxOf (take 13 numbers)) = rw (e, d) in
+          let figure : layerOf numbers .figure ≡ W3cBox (boxOf (take figureLength numbers)) = rw (e, d) in
           ap (λ (g : Figure). strokeRows g style) figure
-          ∙ rows-of-w3c-box style (boxOf (take 13 numbers)) ∙ box-rows-are own (outsideStrokeWidth style)
+          ∙ rows-of-w3c-box style (boxOf (take figureLength numbers)) ∙ box-rows-are own (outsideStrokeWidth style)
           ∙ ap₂ by (sym e) outside-is
 
--- the same of any 18 numbers
-pub rows-of-place : (l : List ℤ) → length l ≡ 18
+-- the same of any numbers that are as many as a layer's
+pub rows-of-place : (l : List ℤ) → length l ≡ layerLength
     → strokeRows (layerOf l .figure) (layerOf l .style) ≡ record { first = firstRowOf l; count = countOf l }
 rows-of-place l long =
     subst (λ (n : List ℤ). strokeRows (layerOf n .figure)
     (layerOf n .style) ≡ record { first = firstRowOf n; count = countOf n })
-    (sym (eighteen-numbers l long)) (rows-by-numbers (numberAt l))
+    (sym (layer-numbers l long)) (rows-by-numbers (numberAt l))

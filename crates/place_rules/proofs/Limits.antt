@@ -7,15 +7,16 @@ use mathlib.Core.List.{List, [], _∷_}
 use Prim.Native.Nat.{ℕ, zero, suc, _+_, _-_, _≤_, _<_, _^_}
 use native.Mathlib.Omega.{arith}
 use borrow.Author.Tests.{le-ltb}
-use lib.IntN.{ℤ, pos, negsuc, natAbs}
+use lib.IntN.{ℤ, pos, negsuc, negℤ, natAbs}
 use lib.ListN.{length, take}
 use lib.Signed.{leZ, ltZ, mag}
 use mir.Syntax.{w32}
 use mir.Val.{hbits}
-use Rattle.signed.specs.Signed.{floor0, Near}
+use Rattle.signed.specs.Signed.{floor0, maxI32, Near}
 use Rattle.signed.proofs.Laws.{int, magnitude-law}
 use Rattle.refusal.specs.declared.Checked.the-variants.{Passed}
 use Rattle.refusal.proofs.Checks.{passed-first, passed-next}
+use Rattle.geometry.specs.Limits.{maxSide, maxRadius, maxPosition, maxStrokeWidth}
 use Rattle.geometry.specs.Checks.{sizeCheck, positionCheck}
 use Rattle.geometry.proofs.Checks.{size-passed, position-passed}
 use Rattle.corner_radii.specs.Bounds.{RadiiUpTo}
@@ -30,8 +31,8 @@ use Rattle.style.proofs.StrokeWidths.{style-passed}
 use Rattle.book.specs.Sheet.{isAccepted}
 use Rattle.book.proofs.Tests.{and-true-parts, and-true-of, is-accepted-true, tests-equal}
 use Rattle.drawing.specs.Drawing.{styledCheck}
-use Rattle.record_numbers.specs.RecordNumbers.{numberAt, listFrom, allFrom, within, noneNegative, isFigure, isStyle, sizeOf, cornersOf, figureOf, styleOf}
-use Rattle.sheet_record.specs.SheetRecord.{isLayer, layerOf}
+use Rattle.record_numbers.specs.RecordNumbers.{figureLength, kindAt, xAt, yAt, widthAt, heightAt, radiiAt, strokeAt, fillAt, strokeWidthAt, alignmentAt, ellipseKind, crateBoxKind, w3cBoxKind, insideAlignment, outsideAlignment, absentPaint, maxColour, numberAt, listFrom, allFrom, within, noneNegative, isFigure, isStyle, sizeOf, cornersOf, figureOf, styleOf}
+use Rattle.sheet_record.specs.SheetRecord.{styleAt, layerLength, isLayer, layerOf}
 use Rattle.sheet_record.proofs.ReadBack.{each-of-all, all-of-each}
 use Rattle.place_rules.specs.PlaceRules.{radiusKept, highestRadius, radiiKept, rectangleKept, figureKept, styleKept}
 
@@ -54,8 +55,8 @@ from-numbers (v ∷ l) f j (suc n) long at =
     let first : 0 + j ≡ j = omega arith in
     λ i. (at 0 ∙ ap f first) i ∷ from-numbers l f (suc j) n (omega arith) (λ k. at (suc k) ∙ ap f (omega arith)) i
 
-pub eighteen-numbers : (l : List ℤ) → length l ≡ 18 → l ≡ listFrom (numberAt l) 0 18
-eighteen-numbers l long = from-numbers l (numberAt l) 0 18 long (λ k. ap (numberAt l) (omega arith))
+pub layer-numbers : (l : List ℤ) → length l ≡ layerLength → l ≡ listFrom (numberAt l) 0 layerLength
+layer-numbers l long = from-numbers l (numberAt l) 0 layerLength long (λ k. ap (numberAt l) (omega arith))
 
 -- ---- a number in its range
 abbrev pub Between : ℤ → ℤ → ℤ → Type 0
@@ -65,7 +66,7 @@ between : (low high v : ℤ) → within low high v ≡ true → Between low high
 between low high v e = and-true-parts (leZ low v) (leZ v high) e
 
 -- a radius by its highest number: an i32 is never above the largest
-held-below : (v : ℤ) → mag v < 2 ^ hbits w32 → leZ v (pos 2147483647) ≡ true
+held-below : (v : ℤ) → mag v < 2 ^ hbits w32 → leZ v (pos maxI32) ≡ true
 held-below (pos n) small = omega (arith, int)
 held-below (negsuc n) small = omega (arith, int)
 
@@ -73,62 +74,66 @@ pub radius-by-highest : (any : Bool) (v : ℤ) → mag v < 2 ^ hbits w32 → wit
 radius-by-highest true v small = rw (held-below v small)
 radius-by-highest false v small = refl
 
+-- how many numbers the radii are
+abbrev radii-count : ℕ
+radii-count = figureLength - radiiAt
+
 -- ---- all numbers of a place in their ranges
 pub record PlaceLimits (f : ℕ → ℤ) : Type 0 where
-  pub kind : Between (pos 0) (pos 2) (f 0)
-  pub x : Between (negsuc 4095) (pos 4096) (f 1)
-  pub y : Between (negsuc 4095) (pos 4096) (f 2)
-  pub width : Between (pos 0) (pos 1024) (f 3)
-  pub height : Between (pos 0) (pos 1024) (f 4)
-  pub radii : (k : ℕ) → 5 ≤ k → k ≤ 12 → radiusKept (ltZ (f 0) (pos 1)) (f k) ≡ true
-  pub stroke : Between (negsuc 0) (pos 255) (f 13)
-  pub fill : Between (negsuc 0) (pos 255) (f 14)
-  pub stroke-width : Between (pos 0) (pos 256) (f 15)
-  pub alignment : Between (pos 0) (pos 2) (f 16)
+  pub kind : Between ellipseKind w3cBoxKind (f kindAt)
+  pub x : Between (negℤ (pos maxPosition)) (pos maxPosition) (f xAt)
+  pub y : Between (negℤ (pos maxPosition)) (pos maxPosition) (f yAt)
+  pub width : Between (pos 0) (pos maxSide) (f widthAt)
+  pub height : Between (pos 0) (pos maxSide) (f heightAt)
+  pub radii : (k : ℕ) → radiiAt ≤ k → k < figureLength → radiusKept (ltZ (f kindAt) crateBoxKind) (f k) ≡ true
+  pub stroke : Between absentPaint maxColour (f (styleAt + strokeAt))
+  pub fill : Between absentPaint maxColour (f (styleAt + fillAt))
+  pub stroke-width : Between (pos 0) (pos maxStrokeWidth) (f (styleAt + strokeWidthAt))
+  pub alignment : Between insideAlignment outsideAlignment (f (styleAt + alignmentAt))
 
 module _ (f : ℕ → ℤ) where
   abbrev numbers : List ℤ
-  numbers = listFrom f 0 18
+  numbers = listFrom f 0 layerLength
 
   abbrev any : Bool
-  any = ltZ (f 0) (pos 1)
+  any = ltZ (f kindAt) crateBoxKind
 
   abbrev radius : ℕ → Bool
   radius k = radiusKept any (f k)
 
   -- ---- the tests of the numbers say that they are in their ranges, and back
   abbrev kindWithin : Bool
-  kindWithin = within (pos 0) (pos 2) (f 0)
+  kindWithin = within ellipseKind w3cBoxKind (f kindAt)
 
   abbrev xWithin : Bool
-  xWithin = within (negsuc 4095) (pos 4096) (f 1)
+  xWithin = within (negℤ (pos maxPosition)) (pos maxPosition) (f xAt)
 
   abbrev yWithin : Bool
-  yWithin = within (negsuc 4095) (pos 4096) (f 2)
+  yWithin = within (negℤ (pos maxPosition)) (pos maxPosition) (f yAt)
 
   abbrev widthWithin : Bool
-  widthWithin = within (pos 0) (pos 1024) (f 3)
+  widthWithin = within (pos 0) (pos maxSide) (f widthAt)
 
   abbrev heightWithin : Bool
-  heightWithin = within (pos 0) (pos 1024) (f 4)
+  heightWithin = within (pos 0) (pos maxSide) (f heightAt)
 
   abbrev strokeWithin : Bool
-  strokeWithin = within (negsuc 0) (pos 255) (f 13)
+  strokeWithin = within absentPaint maxColour (f (styleAt + strokeAt))
 
   abbrev fillWithin : Bool
-  fillWithin = within (negsuc 0) (pos 255) (f 14)
+  fillWithin = within absentPaint maxColour (f (styleAt + fillAt))
 
   abbrev strokeWidthWithin : Bool
-  strokeWidthWithin = within (pos 0) (pos 256) (f 15)
+  strokeWidthWithin = within (pos 0) (pos maxStrokeWidth) (f (styleAt + strokeWidthAt))
 
   abbrev alignmentWithin : Bool
-  alignmentWithin = within (pos 0) (pos 2) (f 16)
+  alignmentWithin = within insideAlignment outsideAlignment (f (styleAt + alignmentAt))
 
-  radii-are : radiiKept any numbers ≡ allFrom radius 5 8
+  radii-are : radiiKept any numbers ≡ allFrom radius radiiAt radii-count
   unfolding radiiKept listFrom allFrom
   radii-are = refl
 
-  figure-is : figureKept numbers ≡ (((((kindWithin && xWithin) && yWithin) && widthWithin) && heightWithin) && allFrom radius 5 8)
+  figure-is : figureKept numbers ≡ (((((kindWithin && xWithin) && yWithin) && widthWithin) && heightWithin) && allFrom radius radiiAt radii-count)
   unfolding figureKept rectangleKept listFrom
   figure-is = ap (λ (t : Bool). ((((kindWithin && xWithin) && yWithin) && widthWithin) && heightWithin) && t) radii-are
 
@@ -139,7 +144,7 @@ module _ (f : ℕ → ℤ) where
   pub limits-of-kept : (figureKept numbers && styleKept numbers) ≡ true → PlaceLimits f
   limits-of-kept e =
       let both = and-true-parts (figureKept numbers) (styleKept numbers) e in
-      let a5 = and-true-parts ((((kindWithin && xWithin) && yWithin) && widthWithin) && heightWithin) (allFrom radius 5 8) (sym figure-is ∙ both .0) in
+      let a5 = and-true-parts ((((kindWithin && xWithin) && yWithin) && widthWithin) && heightWithin) (allFrom radius radiiAt radii-count) (sym figure-is ∙ both .0) in
       let a4 = and-true-parts (((kindWithin && xWithin) && yWithin) && widthWithin) heightWithin (a5 .0) in
       let a3 = and-true-parts ((kindWithin && xWithin) && yWithin) widthWithin (a4 .0) in
       let a2 = and-true-parts (kindWithin && xWithin) yWithin (a3 .0) in
@@ -148,16 +153,16 @@ module _ (f : ℕ → ℤ) where
       let b2 = and-true-parts (strokeWithin && fillWithin) strokeWidthWithin (b3 .0) in
       let b1 = and-true-parts strokeWithin fillWithin (b2 .0) in
       record {
-        kind = between (pos 0) (pos 2) (f 0) (a1 .0);
-        x = between (negsuc 4095) (pos 4096) (f 1) (a1 .1);
-        y = between (negsuc 4095) (pos 4096) (f 2) (a2 .1);
-        width = between (pos 0) (pos 1024) (f 3) (a3 .1);
-        height = between (pos 0) (pos 1024) (f 4) (a4 .1);
-        radii = λ k from to. each-of-all radius 8 5 k from (omega arith) (a5 .1);
-        stroke = between (negsuc 0) (pos 255) (f 13) (b1 .0);
-        fill = between (negsuc 0) (pos 255) (f 14) (b1 .1);
-        stroke-width = between (pos 0) (pos 256) (f 15) (b2 .1);
-        alignment = between (pos 0) (pos 2) (f 16) (b3 .1);
+        kind = between ellipseKind w3cBoxKind (f kindAt) (a1 .0);
+        x = between (negℤ (pos maxPosition)) (pos maxPosition) (f xAt) (a1 .1);
+        y = between (negℤ (pos maxPosition)) (pos maxPosition) (f yAt) (a2 .1);
+        width = between (pos 0) (pos maxSide) (f widthAt) (a3 .1);
+        height = between (pos 0) (pos maxSide) (f heightAt) (a4 .1);
+        radii = λ k from to. each-of-all radius radii-count radiiAt k from (omega arith) (a5 .1);
+        stroke = between absentPaint maxColour (f (styleAt + strokeAt)) (b1 .0);
+        fill = between absentPaint maxColour (f (styleAt + fillAt)) (b1 .1);
+        stroke-width = between (pos 0) (pos maxStrokeWidth) (f (styleAt + strokeWidthAt)) (b2 .1);
+        alignment = between insideAlignment outsideAlignment (f (styleAt + alignmentAt)) (b3 .1);
       }
 
   kept-of-limits : PlaceLimits f → (figureKept numbers && styleKept numbers) ≡ true
@@ -167,7 +172,7 @@ module _ (f : ℕ → ℤ) where
       let a2 : yWithin ≡ true = and-true-of (l .y .0) (l .y .1) in
       let a3 : widthWithin ≡ true = and-true-of (l .width .0) (l .width .1) in
       let a4 : heightWithin ≡ true = and-true-of (l .height .0) (l .height .1) in
-      let a5 : allFrom radius 5 8 ≡ true = all-of-each radius 8 5 (λ k from to. l .radii k from (omega arith)) in
+      let a5 : allFrom radius radiiAt radii-count ≡ true = all-of-each radius radii-count radiiAt (λ k from to. l .radii k from (omega arith)) in
       let b13 : strokeWithin ≡ true = and-true-of (l .stroke .0) (l .stroke .1) in
       let b14 : fillWithin ≡ true = and-true-of (l .fill .0) (l .fill .1) in
       let b15 : strokeWidthWithin ≡ true = and-true-of (l .stroke-width .0) (l .stroke-width .1) in
@@ -177,8 +182,8 @@ module _ (f : ℕ → ℤ) where
       (style-is ∙ and-true-of (and-true-of (and-true-of b13 b14) b15) b16)
 
   -- ---- they are a layer's
-  radius-sign : PlaceLimits f → (k : ℕ) → 5 ≤ k → k ≤ 12 → leZ (pos 0) (f k) ≡ true
-  radius-sign l k from to = and-true-parts (leZ (pos 0) (f k)) (any || leZ (f k) (pos 1024)) (l .radii k from to) .0
+  radius-sign : PlaceLimits f → (k : ℕ) → radiiAt ≤ k → k < figureLength → leZ (pos 0) (f k) ≡ true
+  radius-sign l k from to = and-true-parts (leZ (pos 0) (f k)) (any || leZ (f k) (pos maxRadius)) (l .radii k from to) .0
 
   layer-of-limits : PlaceLimits f → isLayer numbers ≡ true
   unfolding isFigure isStyle noneNegative listFrom
@@ -188,14 +193,14 @@ module _ (f : ℕ → ℤ) where
         l .kind .1,
         l .width .0,
         l .height .0,
-        radius-sign l 5 (omega arith) (omega arith),
-        radius-sign l 6 (omega arith) (omega arith),
-        radius-sign l 7 (omega arith) (omega arith),
-        radius-sign l 8 (omega arith) (omega arith),
-        radius-sign l 9 (omega arith) (omega arith),
-        radius-sign l 10 (omega arith) (omega arith),
-        radius-sign l 11 (omega arith) (omega arith),
-        radius-sign l 12 (omega arith) (omega arith),
+        radius-sign l radiiAt (omega arith) (omega arith),
+        radius-sign l (radiiAt + 1) (omega arith) (omega arith),
+        radius-sign l (radiiAt + 2) (omega arith) (omega arith),
+        radius-sign l (radiiAt + 3) (omega arith) (omega arith),
+        radius-sign l (radiiAt + 4) (omega arith) (omega arith),
+        radius-sign l (radiiAt + 5) (omega arith) (omega arith),
+        radius-sign l (radiiAt + 6) (omega arith) (omega arith),
+        radius-sign l (radiiAt + 7) (omega arith) (omega arith),
         l .stroke .0,
         l .stroke .1,
         l .fill .0,
@@ -206,56 +211,56 @@ module _ (f : ℕ → ℤ) where
       )
 
   -- ---- and their figure and style pass their checks
-  size-passes : PlaceLimits f → sizeCheck (sizeOf (f 3) (f 4)) ≡ Passed
+  size-passes : PlaceLimits f → sizeCheck (sizeOf (f widthAt) (f heightAt)) ≡ Passed
   unfolding sizeCheck
   size-passes l =
       let width = l .width in
       let height = l .height in
-      let wide : floor0 (f 3) ≤ 1024 = omega (arith, int) in
-      let high : floor0 (f 4) ≤ 1024 = omega (arith, int) in
-      rw (le-ltb 1024 (floor0 (f 3)) wide, le-ltb 1024 (floor0 (f 4)) high)
+      let wide : floor0 (f widthAt) ≤ maxSide = omega (arith, int) in
+      let high : floor0 (f heightAt) ≤ maxSide = omega (arith, int) in
+      rw (le-ltb maxSide (floor0 (f widthAt)) wide, le-ltb maxSide (floor0 (f heightAt)) high)
 
-  position-passes : PlaceLimits f → positionCheck (record { x = f 1; y = f 2 }) ≡ Passed
+  position-passes : PlaceLimits f → positionCheck (record { x = f xAt; y = f yAt }) ≡ Passed
   unfolding positionCheck
   position-passes l =
       let at-x = l .x in
       let at-y = l .y in
-      let x : natAbs (f 1) ≤ 4096 = omega (arith, int, magnitude-law (f 1)) in
-      let y : natAbs (f 2) ≤ 4096 = omega (arith, int, magnitude-law (f 2)) in
-      rw (le-ltb 4096 (natAbs (f 1)) x, le-ltb 4096 (natAbs (f 2)) y)
+      let x : natAbs (f xAt) ≤ maxPosition = omega (arith, int, magnitude-law (f xAt)) in
+      let y : natAbs (f yAt) ≤ maxPosition = omega (arith, int, magnitude-law (f yAt)) in
+      rw (le-ltb maxPosition (natAbs (f xAt)) x, le-ltb maxPosition (natAbs (f yAt)) y)
 
-  radius-small : PlaceLimits f → any ≡ false → (k : ℕ) → 5 ≤ k → k ≤ 12 → floor0 (f k) ≤ 1024
+  radius-small : PlaceLimits f → any ≡ false → (k : ℕ) → radiiAt ≤ k → k < figureLength → floor0 (f k) ≤ maxRadius
   radius-small l box k from to =
-      let parts = and-true-parts (leZ (pos 0) (f k)) (any || leZ (f k) (pos 1024)) (l .radii k from to) in
-      let small : leZ (f k) (pos 1024) ≡ true = sym (ap (λ (t : Bool). t || leZ (f k) (pos 1024)) box) ∙ parts .1 in
+      let parts = and-true-parts (leZ (pos 0) (f k)) (any || leZ (f k) (pos maxRadius)) (l .radii k from to) in
+      let small : leZ (f k) (pos maxRadius) ≡ true = sym (ap (λ (t : Bool). t || leZ (f k) (pos maxRadius)) box) ∙ parts .1 in
       omega (arith, int)
 
-  radii-pass : PlaceLimits f → any ≡ false → radiiCheck (cornersOf (take 13 numbers)) ≡ Passed
+  radii-pass : PlaceLimits f → any ≡ false → radiiCheck (cornersOf (take figureLength numbers)) ≡ Passed
   unfolding radiiCheck radiusCheck listFrom
   radii-pass l box =
       rw (
-        le-ltb 1024 (floor0 (f 5)) (radius-small l box 5 (omega arith) (omega arith)),
-        le-ltb 1024 (floor0 (f 6)) (radius-small l box 6 (omega arith) (omega arith)),
-        le-ltb 1024 (floor0 (f 7)) (radius-small l box 7 (omega arith) (omega arith)),
-        le-ltb 1024 (floor0 (f 8)) (radius-small l box 8 (omega arith) (omega arith)),
-        le-ltb 1024 (floor0 (f 9)) (radius-small l box 9 (omega arith) (omega arith)),
-        le-ltb 1024 (floor0 (f 10)) (radius-small l box 10 (omega arith) (omega arith)),
-        le-ltb 1024 (floor0 (f 11)) (radius-small l box 11 (omega arith) (omega arith)),
-        le-ltb 1024 (floor0 (f 12)) (radius-small l box 12 (omega arith) (omega arith)),
+        le-ltb maxRadius (floor0 (f radiiAt)) (radius-small l box radiiAt (omega arith) (omega arith)),
+        le-ltb maxRadius (floor0 (f (radiiAt + 1))) (radius-small l box (radiiAt + 1) (omega arith) (omega arith)),
+        le-ltb maxRadius (floor0 (f (radiiAt + 2))) (radius-small l box (radiiAt + 2) (omega arith) (omega arith)),
+        le-ltb maxRadius (floor0 (f (radiiAt + 3))) (radius-small l box (radiiAt + 3) (omega arith) (omega arith)),
+        le-ltb maxRadius (floor0 (f (radiiAt + 4))) (radius-small l box (radiiAt + 4) (omega arith) (omega arith)),
+        le-ltb maxRadius (floor0 (f (radiiAt + 5))) (radius-small l box (radiiAt + 5) (omega arith) (omega arith)),
+        le-ltb maxRadius (floor0 (f (radiiAt + 6))) (radius-small l box (radiiAt + 6) (omega arith) (omega arith)),
+        le-ltb maxRadius (floor0 (f (radiiAt + 7))) (radius-small l box (radiiAt + 7) (omega arith) (omega arith)),
       )
 
   style-passes : PlaceLimits f → styleCheck (layerOf numbers .style) ≡ Passed
   unfolding styleCheck styleOf listFrom
   style-passes l =
       let width = l .stroke-width in
-      let thin : floor0 (f 15) ≤ 256 = omega (arith, int) in
-      rw (le-ltb 256 (floor0 (f 15)) thin)
+      let thin : floor0 (f (styleAt + strokeWidthAt)) ≤ maxStrokeWidth = omega (arith, int) in
+      rw (le-ltb maxStrokeWidth (floor0 (f (styleAt + strokeWidthAt))) thin)
 
   checks-of-limits : PlaceLimits f → styledCheck (layerOf numbers .figure) (layerOf numbers .style) ≡ Passed
   unfolding styledCheck figureOf listFrom
-  checks-of-limits l = by-kind any refl (ltZ (f 0) (pos 2)) refl
+  checks-of-limits l = by-kind any refl (ltZ (f kindAt) w3cBoxKind) refl
     where
-      by-kind : (t : Bool) → any ≡ t → (s : Bool) → ltZ (f 0) (pos 2) ≡ s
+      by-kind : (t : Bool) → any ≡ t → (s : Bool) → ltZ (f kindAt) w3cBoxKind ≡ s
           → styledCheck (layerOf numbers .figure) (layerOf numbers .style) ≡ Passed
       by-kind true e s d = rw (e, size-passes l, position-passes l) (style-passes l)
       by-kind false e true d = rw (e, d, size-passes l, radii-pass l e, position-passes l) (style-passes l)
@@ -266,7 +271,7 @@ module _ (f : ℕ → ℤ) where
   signs j n = noneNegative (listFrom f j n)
 
   is-layer-by : isLayer numbers
-      ≡ ((within (pos 0) (pos 2) (f 0) && signs 3 10) && (strokeWithin && (fillWithin && (leZ (pos 0) (f 15) && alignmentWithin))))
+      ≡ ((within ellipseKind w3cBoxKind (f kindAt) && signs widthAt (figureLength - widthAt)) && (strokeWithin && (fillWithin && (leZ (pos 0) (f (styleAt + strokeWidthAt)) && alignmentWithin))))
   unfolding isFigure isStyle listFrom
   is-layer-by = refl
 
@@ -284,32 +289,32 @@ module _ (f : ℕ → ℤ) where
 
   -- the rectangle of the figure, whatever its kind
   abbrev rectangle : Rectangle
-  rectangle = record { «top_left» = record { x = f 1; y = f 2 }; size = sizeOf (f 3) (f 4) }
+  rectangle = record { «top_left» = record { x = f xAt; y = f yAt }; size = sizeOf (f widthAt) (f heightAt) }
 
   figure-rectangle : ownRectangle (layerOf numbers .figure) ≡ rectangle
   unfolding figureOf listFrom
-  figure-rectangle = by-kind any refl (ltZ (f 0) (pos 2)) refl
+  figure-rectangle = by-kind any refl (ltZ (f kindAt) w3cBoxKind) refl
     where
-      by-kind : (t : Bool) → any ≡ t → (s : Bool) → ltZ (f 0) (pos 2) ≡ s → ownRectangle (layerOf numbers .figure) ≡ rectangle
+      by-kind : (t : Bool) → any ≡ t → (s : Bool) → ltZ (f kindAt) w3cBoxKind ≡ s → ownRectangle (layerOf numbers .figure) ≡ rectangle
       by-kind true e s d = rw e
       by-kind false e true d = rw (e, d)
       by-kind false e false d = rw (e, d)
 
   -- its radii, where it is a box
-  figure-corners : any ≡ false → cornersCheck (layerOf numbers .figure) ≡ radiiCheck (cornersOf (take 13 numbers))
+  figure-corners : any ≡ false → cornersCheck (layerOf numbers .figure) ≡ radiiCheck (cornersOf (take figureLength numbers))
   unfolding figureOf listFrom
-  figure-corners box = by-kind (ltZ (f 0) (pos 2)) refl
+  figure-corners box = by-kind (ltZ (f kindAt) w3cBoxKind) refl
     where
-      by-kind : (s : Bool) → ltZ (f 0) (pos 2) ≡ s → cornersCheck (layerOf numbers .figure) ≡ radiiCheck (cornersOf (take 13 numbers))
+      by-kind : (s : Bool) → ltZ (f kindAt) w3cBoxKind ≡ s → cornersCheck (layerOf numbers .figure) ≡ radiiCheck (cornersOf (take figureLength numbers))
       by-kind true d = rw (box, d)
       by-kind false d = rw (box, d)
 
-  thin-stroke : layerOf numbers .style .«stroke_width» ≤ 256 → leZ (f 15) (pos 256) ≡ true
+  thin-stroke : layerOf numbers .style .«stroke_width» ≤ maxStrokeWidth → leZ (f (styleAt + strokeWidthAt)) (pos maxStrokeWidth) ≡ true
   unfolding styleOf listFrom
   thin-stroke thin = omega (arith, int)
 
   -- each radius is one of the four corners'
-  corner-radius : (d : ℕ) → d ≤ 7 → RadiiUpTo 1024 (cornersOf (take 13 numbers)) → floor0 (f (5 + d)) ≤ 1024
+  corner-radius : (d : ℕ) → d < radii-count → RadiiUpTo maxRadius (cornersOf (take figureLength numbers)) → floor0 (f (radiiAt + d)) ≤ maxRadius
   unfolding listFrom
   corner-radius zero few r = r .«top_left» .width
   corner-radius (suc zero) few r = r .«top_left» .height
@@ -321,54 +326,54 @@ module _ (f : ℕ → ℤ) where
   corner-radius (suc (suc (suc (suc (suc (suc (suc zero))))))) few r = r .«bottom_left» .height
   corner-radius (suc (suc (suc (suc (suc (suc (suc (suc d)))))))) few r = absurd (omega arith)
 
-  small-radius : (k : ℕ) → 5 ≤ k → k ≤ 12 → RadiiUpTo 1024 (cornersOf (take 13 numbers)) → floor0 (f k) ≤ 1024
+  small-radius : (k : ℕ) → radiiAt ≤ k → k < figureLength → RadiiUpTo maxRadius (cornersOf (take figureLength numbers)) → floor0 (f k) ≤ maxRadius
   small-radius k from to r =
-      let same : 5 + (k - 5) ≡ k = omega arith in
-      subst (λ (j : ℕ). floor0 (f j) ≤ 1024) same (corner-radius (k - 5) (omega arith) r)
+      let same : radiiAt + (k - radiiAt) ≡ k = omega arith in
+      subst (λ (j : ℕ). floor0 (f j) ≤ maxRadius) same (corner-radius (k - radiiAt) (omega arith) r)
 
   limits-of-layer : isLayer numbers ≡ true → styledCheck (layerOf numbers .figure) (layerOf numbers .style) ≡ Passed
       → PlaceLimits f
   unfolding styledCheck
   limits-of-layer layer passed =
-      let both = and-true-parts (within (pos 0) (pos 2) (f 0) && signs 3 10) (strokeWithin && (fillWithin && (leZ (pos 0) (f 15) && alignmentWithin)))
+      let both = and-true-parts (within ellipseKind w3cBoxKind (f kindAt) && signs widthAt (figureLength - widthAt)) (strokeWithin && (fillWithin && (leZ (pos 0) (f (styleAt + strokeWidthAt)) && alignmentWithin)))
       (sym is-layer-by ∙ layer) in
-      let figure = and-true-parts (within (pos 0) (pos 2) (f 0)) (signs 3 10) (both .0) in
-      let a = and-true-parts strokeWithin (fillWithin && (leZ (pos 0) (f 15) && alignmentWithin)) (both .1) in
-      let b = and-true-parts fillWithin (leZ (pos 0) (f 15) && alignmentWithin) (a .1) in
-      let c = and-true-parts (leZ (pos 0) (f 15)) alignmentWithin (b .1) in
+      let figure = and-true-parts (within ellipseKind w3cBoxKind (f kindAt)) (signs widthAt (figureLength - widthAt)) (both .0) in
+      let a = and-true-parts strokeWithin (fillWithin && (leZ (pos 0) (f (styleAt + strokeWidthAt)) && alignmentWithin)) (both .1) in
+      let b = and-true-parts fillWithin (leZ (pos 0) (f (styleAt + strokeWidthAt)) && alignmentWithin) (a .1) in
+      let c = and-true-parts (leZ (pos 0) (f (styleAt + strokeWidthAt))) alignmentWithin (b .1) in
       let fig = figureCheck (layerOf numbers .figure) in
       let sty = styleCheck (layerOf numbers .style) in
       let checked = figure-checked (layerOf numbers .figure) (passed-first fig sty passed) in
       let place = sym (ap (λ (r : Rectangle). positionCheck (r .«top_left»)) figure-rectangle) ∙ checked .place in
       let size = sym (ap (λ (r : Rectangle). sizeCheck (r .size)) figure-rectangle) ∙ checked .sides in
-      let sign : (k : ℕ) → 3 ≤ k → k ≤ 12 → leZ (pos 0) (f k) ≡ true = λ k from to. sign-of 10 3 k from (omega arith)
+      let sign : (k : ℕ) → widthAt ≤ k → k < figureLength → leZ (pos 0) (f k) ≡ true = λ k from to. sign-of (figureLength - widthAt) widthAt k from (omega arith)
       (figure .1) in
       record {
-        kind = between (pos 0) (pos 2) (f 0) (figure .0);
-        x = near-between (f 1) (position-passed _ place .x);
-        y = near-between (f 2) (position-passed _ place .y);
-        width = (sign 3 (omega arith) (omega arith), small-side (f 3) (size-passed _ size .width));
-        height = (sign 4 (omega arith) (omega arith), small-side (f 4) (size-passed _ size .height));
+        kind = between ellipseKind w3cBoxKind (f kindAt) (figure .0);
+        x = near-between (f xAt) (position-passed _ place .x);
+        y = near-between (f yAt) (position-passed _ place .y);
+        width = (sign widthAt (omega arith) (omega arith), below-limit maxSide (f widthAt) (size-passed _ size .width));
+        height = (sign heightAt (omega arith) (omega arith), below-limit maxSide (f heightAt) (size-passed _ size .height));
         radii = λ k from to. radius-kept k from to (sign k (omega arith) to) (λ box. sym (figure-corners box) ∙ checked .corners);
-        stroke = between (negsuc 0) (pos 255) (f 13) (a .0);
-        fill = between (negsuc 0) (pos 255) (f 14) (b .0);
+        stroke = between absentPaint maxColour (f (styleAt + strokeAt)) (a .0);
+        fill = between absentPaint maxColour (f (styleAt + fillAt)) (b .0);
         stroke-width = (c .0, thin-stroke (style-passed (layerOf numbers .style) (passed-next fig sty passed)));
-        alignment = between (pos 0) (pos 2) (f 16) (c .1);
+        alignment = between insideAlignment outsideAlignment (f (styleAt + alignmentAt)) (c .1);
       }
     where
-      near-between : (v : ℤ) → Near 4096 v → Between (negsuc 4095) (pos 4096) v
+      near-between : (v : ℤ) → Near maxPosition v → Between (negℤ (pos maxPosition)) (pos maxPosition) v
       near-between v near = (omega (arith, int), omega (arith, int))
 
-      small-side : (v : ℤ) → floor0 v ≤ 1024 → leZ v (pos 1024) ≡ true
-      small-side v small = omega (arith, int)
+      below-limit : (n : ℕ) (v : ℤ) → floor0 v ≤ n → leZ v (pos n) ≡ true
+      below-limit n v small = omega (arith, int)
 
-      radius-kept : (k : ℕ) → 5 ≤ k → k ≤ 12 → leZ (pos 0) (f k) ≡ true
-          → (any ≡ false → radiiCheck (cornersOf (take 13 numbers)) ≡ Passed) → radiusKept any (f k) ≡ true
+      radius-kept : (k : ℕ) → radiiAt ≤ k → k < figureLength → leZ (pos 0) (f k) ≡ true
+          → (any ≡ false → radiiCheck (cornersOf (take figureLength numbers)) ≡ Passed) → radiusKept any (f k) ≡ true
       radius-kept k from to sign checked = by-kind any refl
         where
           by-kind : (t : Bool) → any ≡ t → radiusKept any (f k) ≡ true
           by-kind true e = rw (sign, e)
-          by-kind false e = rw (sign, e) (small-side (f k) (small-radius k from to (radii-passed _ (checked e))))
+          by-kind false e = rw (sign, e) (below-limit maxRadius (f k) (small-radius k from to (radii-passed _ (checked e))))
 
   kept-by-limits : (figureKept numbers && styleKept numbers)
       ≡ (isLayer numbers && isAccepted (styledCheck (layerOf numbers .figure) (layerOf numbers .style)))
@@ -379,15 +384,15 @@ module _ (f : ℕ → ℤ) where
       (λ e. let p = and-true-parts (isLayer numbers) (isAccepted check) e in
       kept-of-limits (limits-of-layer (p .0) (is-accepted-true check (p .1))))
 
--- ---- the same of any 18 numbers
-module _ (l : List ℤ) (long : length l ≡ 18) where
+-- ---- the same of any numbers that are as many as a layer's
+module _ (l : List ℤ) (long : length l ≡ layerLength) where
   pub kept-is-layer : (figureKept l && styleKept l)
       ≡ (isLayer l && isAccepted (styledCheck (layerOf l .figure) (layerOf l .style)))
   kept-is-layer =
       subst (λ (n : List ℤ). (figureKept n && styleKept n) ≡
       (isLayer n && isAccepted (styledCheck (layerOf n .figure) (layerOf n .style))))
-      (sym (eighteen-numbers l long)) (kept-by-limits (numberAt l))
+      (sym (layer-numbers l long)) (kept-by-limits (numberAt l))
 
   pub kept-limits : (figureKept l && styleKept l) ≡ true → PlaceLimits (numberAt l)
   kept-limits e =
-      limits-of-kept (numberAt l) (sym (ap (λ (n : List ℤ). figureKept n && styleKept n) (eighteen-numbers l long)) ∙ e)
+      limits-of-kept (numberAt l) (sym (ap (λ (n : List ℤ). figureKept n && styleKept n) (layer-numbers l long)) ∙ e)

@@ -14,11 +14,11 @@ use Rattle.book.specs.Sheet.{isAccepted, layerKeepsRules}
 use Rattle.book.proofs.Tests.{and-true-parts}
 use Rattle.drawing.specs.Drawing.{styledCheck}
 use Rattle.layers.specs.Layers.{layerRows}
-use Rattle.sheet_record.specs.SheetRecord.{isLayer, layerOf}
+use Rattle.sheet_record.specs.SheetRecord.{layerLength, isLayer, layerOf}
 use Rattle.place_rules.specs.PlaceRules.{placeKept, figureKept, styleKept}
 use Rattle.place_rules.proofs.Limits.{and-assoc, kept-is-layer}
 
-module _ (n : List ℤ) (long : length n ≡ 18) where
+module _ (n : List ℤ) (long : length n ≡ layerLength) where
   abbrev limits : Bool
   limits = figureKept n && styleKept n
 

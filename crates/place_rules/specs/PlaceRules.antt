@@ -7,7 +7,7 @@ use Prim.Native.Nat.{ℕ, _+_, _-_, _*_}
 use lib.Dec.{eqb}
 use lib.IntN.{ℤ, pos, negℤ, _-ℤ_}
 use lib.Signed.{leZ, ltZ}
-use Rattle.signed.specs.Signed.{floor0}
+use Rattle.signed.specs.Signed.{floor0, maxI32}
 use Rattle.geometry.specs.Limits.{maxSide, maxRadius, maxPosition, maxStrokeWidth}
 use Rattle.ellipse_points.specs.Relative.{firstRowInside}
 use Rattle.style.specs.Style.{outsideWidth}
@@ -29,7 +29,7 @@ radiusKept any v = leZ (pos 0) v && (any || leZ v (pos maxRadius))
 
 -- the highest number that such a radius can be
 abbrev pub highestRadius : Bool → ℤ
-highestRadius any = cond any (pos 2147483647) (pos maxRadius)
+highestRadius any = cond any (pos maxI32) (pos maxRadius)
 
 -- the eight numbers of a figure's radii
 unfoldable pub radiiKept : Bool → List ℤ → Bool

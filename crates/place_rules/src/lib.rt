@@ -68,7 +68,7 @@ const ALIGNMENT: usize = STYLE + record_numbers::ALIGNMENT;
 fn highest_radius(any: bool) -> i32
     ensures { λ r. ⌜ Is (highestRadius any) r ⌝ }
 {
-    if any { 2147483647 } else { MAX_RADIUS }
+    if any { i32::MAX } else { MAX_RADIUS }
 }
 
 // Whether a figure's radii are within limits, whatever they are where any will do. No test ends the

@@ -8,7 +8,7 @@ use Prim.Native.Nat.{ℕ, zero, suc}
 use lib.Dec.{eqb, ltb}
 use lib.IntN.{ℤ, pos, negsuc}
 use lib.Signed.{leZ, ltZ}
-use Rattle.signed.specs.Signed.{larger, smaller}
+use Rattle.signed.specs.Signed.{larger, smaller, maxI32}
 use Rattle.layer_rows.specs.declared.LayerRows.{LayerRows}
 use Rattle.layer_rows.specs.LayerRows.{rowsOwe, rowsInOrder}
 use Rattle.layers.specs.Layers.{layerRows}
@@ -36,7 +36,7 @@ placesKept numbers j n = allFrom (λ k. placeKept (placeNumbers numbers k)) j n
 
 -- none: the last number of 32 bits for a first row and the first one for an end, so that those of any layer take their place
 abbrev pub nonePainted : PaintedRows
-nonePainted = record { first = pos 2147483647; end = negsuc 2147483647 }
+nonePainted = record { first = pos maxI32; end = negsuc maxI32 }
 
 -- with those of one layer more, if it has painted any
 unfoldable pub alsoPainted : PaintedRows → LayerRows → PaintedRows

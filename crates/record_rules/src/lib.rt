@@ -29,8 +29,8 @@ impl PaintedRows {
         ensures { λ r. ⌜ r ≡ nonePainted ⌝ }
     {
         PaintedRows {
-            first: 2147483647,
-            end: -2147483648,
+            first: i32::MAX,
+            end: i32::MIN,
         }
     }
 

@@ -3,7 +3,7 @@
 use Prim.Native.Nat.{ℕ, _+_, _*_, _≤_}
 use native.Mathlib.Omega.{arith}
 use lib.IntN.{ℤ, pos, _+ℤ_, _-ℤ_}
-use Rattle.signed.specs.Signed.{Near}
+use Rattle.signed.specs.Signed.{maxI32, Near}
 use Rattle.signed.proofs.Laws.{add-law, near-add, near-sub, one-part-zero}
 pub use Rattle.side.proofs.Parts.{offset-side-by-parts}
 use Rattle.geometry.specs.declared.Size.{Size}
@@ -29,7 +29,7 @@ offset-size-up-to m n s k u near =
     by-side side h = let a = near .above in omega (arith, offset-side-by-parts side k)
 
 -- the corner moves by at most the offset
-pub offset-position-near : (p n : ℕ) (r : Rectangle) (k : ℤ) → PointNear p (r .«top_left») → Near n k → p + n ≤ 2147483647
+pub offset-position-near : (p n : ℕ) (r : Rectangle) (k : ℤ) → PointNear p (r .«top_left») → Near n k → p + n ≤ maxI32
     → PointNear (p + n) (offset r k .«top_left»)
 unfolding offset withCenter center
 offset-position-near p n r k at near small =

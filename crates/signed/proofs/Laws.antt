@@ -22,7 +22,7 @@ use mir.Syntax.{Width, w32, w64}
 use mir.Val.{SFits, Fits, toZ, ofZ, hbits, bits, sel}
 use mir.ValLaws.{pow-bits}
 use mir.Facts.{toZ-ofZ}
-use Rattle.signed.specs.Signed.{positivePart as P, negativePart as N, larger, smaller, Near}
+use Rattle.signed.specs.Signed.{positivePart as P, negativePart as N, larger, smaller, maxI32, Near}
 
 -- one of the two parts is 0: the one law that the ruleset does not have, for a claim of a part by itself
 pub one-part-zero : (z : ℤ) → min (P z) (N z) ≡ 0
@@ -290,17 +290,17 @@ cast-read (negsuc n) t = absurd t
 
 -- ---- a coordinate's bounds, at a sum and a difference
 pub near-add : (n : ℕ) (a b : ℤ)
-    → max (2 * (P a + P b)) (2 * (N a + N b)) ≤ P a + P b + (N a + N b) + min n 2147483647 → Near n (a +ℤ b)
+    → max (2 * (P a + P b)) (2 * (N a + N b)) ≤ P a + P b + (N a + N b) + min n maxI32 → Near n (a +ℤ b)
 near-add n a b h =
     record { above = omega (arith, add-law a b); below = omega (arith, add-law a b); fits = fits-add w32 a b (omega arith) }
 
 pub near-sub : (n : ℕ) (a b : ℤ)
-    → max (2 * (P a + N b)) (2 * (N a + P b)) ≤ P a + N b + (N a + P b) + min n 2147483647 → Near n (a -ℤ b)
+    → max (2 * (P a + N b)) (2 * (N a + P b)) ≤ P a + N b + (N a + P b) + min n maxI32 → Near n (a -ℤ b)
 near-sub n a b h =
     record { above = omega (arith, sub-law a b); below = omega (arith, sub-law a b); fits = fits-sub w32 a b (omega arith) }
 
 -- by the magnitude
-pub near-within : (n : ℕ) (z : ℤ) → natAbs z ≤ n → n ≤ 2147483647 → Near n z
+pub near-within : (n : ℕ) (z : ℤ) → natAbs z ≤ n → n ≤ maxI32 → Near n z
 near-within n z h k =
     record {
       above = omega (arith, magnitude-law z);

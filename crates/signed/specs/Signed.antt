@@ -29,6 +29,10 @@ larger a b = cond (ltZ a b) b a
 unfoldable pub smaller : ℤ → ℤ → ℤ
 smaller a b = cond (ltZ a b) a b
 
+-- the largest number that an i32 holds; the smallest is one farther from 0
+abbrev pub maxI32 : ℕ
+maxI32 = 2147483647
+
 -- z is at most n away from 0, and an i32 holds it: what an inner function asks of a coordinate
 pub record Near (n : ℕ) (z : ℤ) : Type 0 where
   pub above : positivePart z ≤ negativePart z + n

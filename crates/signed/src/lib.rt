@@ -2,11 +2,11 @@
 // is a function whose contract carries the whole equation, and whatever bound its callers need.
 // The laws by which `omega` reads signed numbers are in proofs/Laws.antt, with examples beside it.
 ghost use mathlib.Core.Path.{_≡_};
-ghost use Prim.Native.Nat.{_<_, min, max};
+ghost use Prim.Native.Nat.{_≤_, min, max};
 ghost use lib.IntN.{pos, natAbs, _+ℤ_, _-ℤ_};
 ghost use mir.Syntax.{w32};
 ghost use mir.Val.{SFits};
-ghost use Rattle.signed.specs.Signed.{Is, floor0 as Signed·floor0, larger as Signed·larger, smaller as Signed·smaller};
+ghost use Rattle.signed.specs.Signed.{maxI32, Is, floor0 as Signed·floor0, larger as Signed·larger, smaller as Signed·smaller};
 
 pub fn add(a: i32, b: i32) -> i32
     requires { ⌜ SFits w32 (a +ℤ b) ⌝ }
@@ -23,7 +23,7 @@ pub fn sub(a: i32, b: i32) -> i32
 }
 
 pub fn from_u32(n: u32) -> i32
-    requires { ⌜ n < 2147483648 ⌝ }
+    requires { ⌜ n ≤ maxI32 ⌝ }
     ensures { λ r. ⌜ Is (pos n) r ⌝ }
 {
     n as i32

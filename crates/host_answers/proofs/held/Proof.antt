@@ -2,9 +2,10 @@
 -- Assumes nothing.
 use mathlib.Core.Path.{_≡_}
 use mathlib.Core.Bool.{true, false}
-use Prim.Native.Nat.{ℕ, _<_, _≤_}
+use Prim.Native.Nat.{ℕ, suc, _<_, _≤_}
 use lib.IntN.{pos, _-ℤ_}
 use lib.Signed.{ltZ}
+use Rattle.signed.specs.Signed.{maxI32}
 use Rattle.signed.proofs.Laws.{sub-law}
 use Rattle.host_answers.specs.HostAnswers.{heldBy32}
 use native.Mathlib.Omega.{arith}
@@ -14,16 +15,16 @@ use Rattle.host_answers.proofs.held.Statement.{statement}
 use Rattle.host_answers.proofs.held.Tie as tie
 
 -- the two cases of the definition
-below : (n : ℕ) → n < 2147483648 → heldBy32 (pos n) ≡ pos n
+below : (n : ℕ) → n < suc maxI32 → heldBy32 (pos n) ≡ pos n
 unfolding heldBy32
 below n small =
-    let test : ltZ (pos n) (pos 2147483648) ≡ true = omega (arith, int) in
+    let test : ltZ (pos n) (pos (suc maxI32)) ≡ true = omega (arith, int) in
     rw test
 
-from : (n : ℕ) → 2147483648 ≤ n → heldBy32 (pos n) ≡ pos n -ℤ pos 4294967296
+from : (n : ℕ) → suc maxI32 ≤ n → heldBy32 (pos n) ≡ pos n -ℤ pos 4294967296
 unfolding heldBy32
 from n large =
-    let test : ltZ (pos n) (pos 2147483648) ≡ false = omega (arith, int) in
+    let test : ltZ (pos n) (pos (suc maxI32)) ≡ false = omega (arith, int) in
     rw test
 
 from-u32-requires : tie.Need-from-u32-requires

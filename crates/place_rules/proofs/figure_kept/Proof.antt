@@ -3,11 +3,11 @@
 use mathlib.Core.Path.{_≡_, sym, ap, _∙_}
 use mathlib.Core.Bool.{Bool, true}
 use borrow.Author.Tests.{not-true, not-false}
-use lib.IntN.{ℤ, pos}
+use lib.IntN.{ℤ}
 use lib.Signed.{ltZ}
 use mir.Syntax.{w32}
 use mir.Val.{toZ, ofZ}
-use Rattle.record_numbers.specs.RecordNumbers.{numberAt}
+use Rattle.record_numbers.specs.RecordNumbers.{kindAt, crateBoxKind, numberAt}
 use Rattle.record_numbers.proofs.Walks.{read-back}
 use Rattle.place_rules.specs.PlaceRules.{rectangleKept, figureKept}
 use borrow.Author.Needs.{needs}
@@ -21,9 +21,9 @@ start c = c .before .before .before
 rectangle : (c : tie.After-if22) → rectangleKept (start c .args .numbers .now) ≡ true
 rectangle c = sym (c .before .before .rectangle-kept .ensures) ∙ not-false _ (c .before .if1 .left)
 
-kind : (c : tie.After-if22) {t : Bool} → ltZ (toZ w32 (ofZ w32 (numberAt (start c .args .numbers .now) 0))) (pos 1) ≡ t
-    → ltZ (numberAt (start c .args .numbers .now) 0) (pos 1) ≡ t
-kind c test = sym (ap (λ (z : ℤ). ltZ z (pos 1)) (read-back (start c .args .numbers .now) 0 (c .if22 .given))) ∙ test
+kind : (c : tie.After-if22) {t : Bool} → ltZ (toZ w32 (ofZ w32 (numberAt (start c .args .numbers .now) kindAt))) crateBoxKind ≡ t
+    → ltZ (numberAt (start c .args .numbers .now) kindAt) crateBoxKind ≡ t
+kind c test = sym (ap (λ (z : ℤ). ltZ z crateBoxKind) (read-back (start c .args .numbers .now) kindAt (c .if22 .given))) ∙ test
 
 rectangle-kept-requires : tie.Need-rectangle-kept-requires
 rectangle-kept-requires c κs = search needs

@@ -1,12 +1,14 @@
 -- `place_rules::first_row` meets its contract: the numbers read are the place's, and within limits.
 -- Assumes nothing.
 use mathlib.Core.Path.{_≡_, ap, _∙_}
+use Prim.Native.Nat.{_+_}
 use native.Mathlib.Omega.{arith}
 use lib.IntN.{ℤ, pos, _-ℤ_}
 use mir.Facts.{toZ-ofZ}
 use Rattle.signed.specs.Signed.{floor0}
 use Rattle.style.specs.Style.{outsideWidth}
-use Rattle.record_numbers.specs.RecordNumbers.{alignmentOf}
+use Rattle.record_numbers.specs.RecordNumbers.{yAt, heightAt, strokeWidthAt, alignmentAt, alignmentOf}
+use Rattle.sheet_record.specs.SheetRecord.{styleAt}
 use Rattle.record_numbers.proofs.Walks.{read-back}
 use Rattle.place_rules.specs.PlaceRules.{rowsAbove, outsideOf}
 use Rattle.place_rules.proofs.Limits.{kept-limits}
@@ -20,8 +22,8 @@ outside-is : (c : tie.After-outside-width)
     → c .outside-width .result ≡ outsideOf (c .before .before .before .before .before .before .args .numbers .now)
 outside-is c =
     let n = c .before .before .before .before .before .before .args .numbers .now in
-    let width = read-back n 15 (c .before .before .outside-width-arg .given) in
-    let alignment = read-back n 16 (c .before .outside-width-arg2 .given) in
+    let width = read-back n (styleAt + strokeWidthAt) (c .before .before .outside-width-arg .given) in
+    let alignment = read-back n (styleAt + alignmentAt) (c .before .outside-width-arg2 .given) in
     c .outside-width .ensures ∙ (λ i. outsideWidth (alignmentOf (alignment i)) (floor0 (width i)))
 
 shared-slice-copy-out-area-top : tie.Need-shared-slice-copy-out-area-top
@@ -48,16 +50,16 @@ area-top-requires c κs =
     let n = entry .args .numbers .now in
     let read = c .before .before .before .before .before .area-top-arg .given in
     let limits = kept-limits n (entry .pre .0) (entry .pre .1) in
-    (rw (read-back n 2 read) (top-near n limits read), omega (arith, outside-small n limits, outside-is c))
+    (rw (read-back n yAt read) (top-near n limits read), omega (arith, outside-small n limits, outside-is c))
 
 returns : tie.Need-returns
 returns c =
     let entry = c .before .before .before .before .before .before .before in
     let n = entry .args .numbers .now in
     let made = c .area-top .ensures .0 in
-    let y = read-back n 2 (c .before .before .before .before .before .before .area-top-arg .given) in
+    let y = read-back n yAt (c .before .before .before .before .before .before .area-top-arg .given) in
     let height = c .before .before .before .before .floor0 .ensures
-    ∙ ap (λ (z : ℤ). floor0 z) (read-back n 4 (c .before .before .before .before .before .floor0-arg .given)) in
+    ∙ ap (λ (z : ℤ). floor0 z) (read-back n heightAt (c .before .before .before .before .before .floor0-arg .given)) in
     rw (toZ-ofZ (made .fits))
     (record { is = made .is ∙ (λ i. y i -ℤ pos (rowsAbove (height i) (outside-is (c .before) i))); fits = made .fits })
 

@@ -4,22 +4,22 @@ use mathlib.Core.Path.{_≡_, sym, ap, _∙_}
 use mathlib.Core.Bool.{Bool}
 use Prim.Native.Nat.{ℕ, _/_}
 use borrow.Author.Needs.{needs}
-use lib.IntN.{ℤ, pos}
+use lib.IntN.{ℤ}
 use lib.Signed.{ltZ}
 use mir.Syntax.{w32}
 use mir.Val.{SFits, toZ, ofZ}
 use mir.Facts.{toZ-ofZ}
 use Rattle.signed.specs.Signed.{floor0}
-use Rattle.record_numbers.specs.RecordNumbers.{alignmentOf}
+use Rattle.record_numbers.specs.RecordNumbers.{centerAlignment, outsideAlignment, alignmentOf}
 use Rattle.place_rules.proofs.outside_width.Statement.{statement}
 use Rattle.place_rules.proofs.outside_width.Tie as tie
 
 -- the tests of the number as it is held
-held : (c : tie.Start) (n : ℕ) {t : Bool} → ltZ (toZ w32 (ofZ w32 (c .args .alignment))) (pos n) ≡ t
-    → ltZ (c .args .alignment) (pos n) ≡ t
-held c n test =
+held : (c : tie.Start) (b : ℤ) {t : Bool} → ltZ (toZ w32 (ofZ w32 (c .args .alignment))) b ≡ t
+    → ltZ (c .args .alignment) b ≡ t
+held c b test =
     let fits : SFits w32 (c .args .alignment) = search needs in
-    sym (ap (λ (z : ℤ). ltZ z (pos n)) (toZ-ofZ fits)) ∙ test
+    sym (ap (λ (z : ℤ). ltZ z b) (toZ-ofZ fits)) ∙ test
 
 width-is : (c : tie.Start) → floor0 (toZ w32 (ofZ w32 (c .args .width))) ≡ floor0 (c .args .width)
 width-is c =
@@ -28,7 +28,7 @@ width-is c =
 
 returns : tie.Need-returns
 unfolding alignmentOf
-returns c = rw (held (c .before) 1 (c .if1 .taken))
+returns c = rw (held (c .before) centerAlignment (c .if1 .taken))
 
 floor0-requires : tie.Need-floor0-requires
 floor0-requires c κs = search needs
@@ -37,7 +37,7 @@ returns-2 : tie.Need-returns-2
 unfolding alignmentOf
 returns-2 c =
     let entry = c .before .before .before in
-    rw (held entry 1 (c .before .before .if1 .left), held entry 2 (c .before .if2 .taken))
+    rw (held entry centerAlignment (c .before .before .if1 .left), held entry outsideAlignment (c .before .if2 .taken))
     (ap (λ (n : ℕ). n / 2) (c .floor0 .ensures ∙ width-is entry))
 
 floor0-requires-2 : tie.Need-floor0-requires-2
@@ -47,7 +47,7 @@ returns-3 : tie.Need-returns-3
 unfolding alignmentOf
 returns-3 c =
     let entry = c .before .before .before in
-    rw (held entry 1 (c .before .before .if1 .left), held entry 2 (c .before .if2 .left)) (c .floor02 .ensures ∙ width-is entry)
+    rw (held entry centerAlignment (c .before .before .if1 .left), held entry outsideAlignment (c .before .if2 .left)) (c .floor02 .ensures ∙ width-is entry)
 
 pub outside-width-spec : {M : Type 1} → statement M
 outside-width-spec =

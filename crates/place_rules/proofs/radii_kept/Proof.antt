@@ -9,7 +9,7 @@ use native.Mathlib.Omega.{arith}
 use borrow.Author.Needs.{needs}
 use lib.IntN.{ℤ, pos}
 use mir.Facts.{toZ-ofZ}
-use Rattle.record_numbers.specs.RecordNumbers.{numberAt, allFrom, within}
+use Rattle.record_numbers.specs.RecordNumbers.{figureLength, radiiAt, numberAt, allFrom, within}
 use Rattle.record_numbers.proofs.Walks.{read-back, all-from-here, all-from-past}
 use Rattle.place_rules.specs.PlaceRules.{radiusKept, radiiKept}
 use Rattle.place_rules.proofs.Limits.{and-assoc, and-true, radius-by-highest}
@@ -22,12 +22,12 @@ test numbers any k = radiusKept any (numberAt numbers k)
 
 abbrev Inv-loop : tie.InvT-loop
 Inv-loop numbers any limit kept₀ k₀ kept k =
-    (k ≤ 13) ×
-    ((kept && allFrom (λ j. radiusKept any (numberAt numbers j)) k (13 - k)) ≡ allFrom
-    (λ j. radiusKept any (numberAt numbers j)) 5 8)
+    (k ≤ figureLength) ×
+    ((kept && allFrom (λ j. radiusKept any (numberAt numbers j)) k (figureLength - k)) ≡ allFrom
+    (λ j. radiusKept any (numberAt numbers j)) radiiAt (figureLength - radiiAt))
 
 abbrev μ-loop : tie.MeasureT-loop
-μ-loop numbers any limit kept₀ k₀ kept k = 13 - k
+μ-loop numbers any limit kept₀ k₀ kept k = figureLength - k
 
 -- what is left, by the radius that stands there
 abbrev start : tie.After-is-within Inv-loop μ-loop → tie.Start Inv-loop μ-loop
@@ -37,7 +37,7 @@ abbrev place : tie.After-is-within Inv-loop μ-loop → ℕ
 place c = c .before .before .before .loop .k
 
 abbrev left : tie.After-is-within Inv-loop μ-loop → ℕ → Bool
-left c k = allFrom (test (start c .args .numbers .now) (start c .args .any)) k (13 - k)
+left c k = allFrom (test (start c .args .numbers .now) (start c .args .any)) k (figureLength - k)
 
 step : (c : tie.After-is-within Inv-loop μ-loop) → left c (place c) ≡ (c .is-within .result && left c (place c + 1))
 step c =
@@ -48,7 +48,7 @@ step c =
     let here = c .is-within .ensures
     ∙ ap₂ (within (pos 0)) (toZ-ofZ (limit .fits) ∙ limit .is) (read-back (a .numbers .now) k read)
     ∙ radius-by-highest (a .any) (numberAt (a .numbers .now) k) read in
-    all-from-here (test (a .numbers .now) (a .any)) 13 k (c .before .before .loop-test .taken)
+    all-from-here (test (a .numbers .now) (a .any)) figureLength k (c .before .before .loop-test .taken)
     ∙ ap (λ (t : Bool). t && left c (k + 1)) (sym here)
 
 highest-radius-requires : tie.Need-highest-radius-requires Inv-loop μ-loop
@@ -85,7 +85,7 @@ unfolding radiiKept
 returns c =
     let walk = c .before .loop in
     let a = c .before .before .before .args in
-    let done = all-from-past (test (a .numbers .now) (a .any)) 13 (walk .k) (c .loop-test .left) in
+    let done = all-from-past (test (a .numbers .now) (a .any)) figureLength (walk .k) (c .loop-test .left) in
     sym (ap (λ (t : Bool). walk .kept && t) done ∙ and-true (walk .kept)) ∙ walk .inv .1
 
 pub radii-kept-spec : {M : Type 1} → statement M

@@ -2,8 +2,9 @@
 -- Assumes nothing.
 use mathlib.Core.Path.{ap, _∙_}
 use mathlib.Core.Bool.{_&&_}
-use lib.IntN.{pos, negsuc}
-use Rattle.record_numbers.specs.RecordNumbers.{within}
+use lib.IntN.{pos, negℤ}
+use Rattle.geometry.specs.Limits.{maxSide, maxPosition}
+use Rattle.record_numbers.specs.RecordNumbers.{kindAt, xAt, yAt, widthAt, heightAt, ellipseKind, w3cBoxKind, within}
 use Rattle.record_numbers.proofs.Walks.{read-back}
 use Rattle.place_rules.specs.PlaceRules.{rectangleKept}
 use borrow.Author.Needs.{needs}
@@ -49,14 +50,14 @@ returns c =
     let x = y .before .before in
     let kind = x .before .before in
     let n = kind .before .args .numbers .now in
-    let at0 = x .before .is-within .ensures ∙ ap (within (pos 0) (pos 2)) (read-back n 0 (kind .is-within-arg .given)) in
+    let at0 = x .before .is-within .ensures ∙ ap (within ellipseKind w3cBoxKind) (read-back n kindAt (kind .is-within-arg .given)) in
     let at1 = y .before .is-within2 .ensures
-    ∙ ap (within (negsuc 4095) (pos 4096)) (read-back n 1 (x .is-within-arg2 .given)) in
+    ∙ ap (within (negℤ (pos maxPosition)) (pos maxPosition)) (read-back n xAt (x .is-within-arg2 .given)) in
     let at2 = width .before .is-within3 .ensures
-    ∙ ap (within (negsuc 4095) (pos 4096)) (read-back n 2 (y .is-within-arg3 .given)) in
+    ∙ ap (within (negℤ (pos maxPosition)) (pos maxPosition)) (read-back n yAt (y .is-within-arg3 .given)) in
     let at3 = height .before .is-within4 .ensures
-    ∙ ap (within (pos 0) (pos 1024)) (read-back n 3 (width .is-within-arg4 .given)) in
-    let at4 = c .is-within5 .ensures ∙ ap (within (pos 0) (pos 1024)) (read-back n 4 (height .is-within-arg5 .given)) in
+    ∙ ap (within (pos 0) (pos maxSide)) (read-back n widthAt (width .is-within-arg4 .given)) in
+    let at4 = c .is-within5 .ensures ∙ ap (within (pos 0) (pos maxSide)) (read-back n heightAt (height .is-within-arg5 .given)) in
     λ i. (((at0 i && at1 i) && at2 i) && at3 i) && at4 i
 
 pub rectangle-kept-spec : {M : Type 1} → statement M

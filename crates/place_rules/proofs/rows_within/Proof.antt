@@ -14,7 +14,8 @@ use Rattle.style.specs.Style.{outsideWidth}
 use Rattle.drawing.specs.declared.StrokeRows.{StrokeRows}
 use Rattle.layer_rows.proofs.RowTests.{rows-by-fields}
 use Rattle.layers.specs.Layers.{layerRows}
-use Rattle.record_numbers.specs.RecordNumbers.{numberAt, alignmentOf}
+use Rattle.record_numbers.specs.RecordNumbers.{kindAt, yAt, widthAt, heightAt, strokeWidthAt, alignmentAt, crateBoxKind, numberAt, alignmentOf}
+use Rattle.sheet_record.specs.SheetRecord.{styleAt, nextRowAt}
 use Rattle.record_numbers.proofs.Walks.{read-back}
 use Rattle.place_rules.specs.PlaceRules.{rowsAbove, strokeCount, outsideOf, firstRowOf, countOf}
 use Rattle.place_rules.proofs.Limits.{PlaceLimits, kept-limits}
@@ -31,39 +32,39 @@ limits : (c : tie.Start) → PlaceLimits (numberAt (c .args .numbers .now))
 limits c = kept-limits (c .args .numbers .now) (c .pre .0) (c .pre .1)
 
 height-is : (c : tie.After-outside-width)
-    → c .before .before .before .floor0 .result ≡ floor0 (numberAt (start c .args .numbers .now) 4)
+    → c .before .before .before .floor0 .result ≡ floor0 (numberAt (start c .args .numbers .now) heightAt)
 height-is c =
     c .before .before .before .floor0 .ensures
     ∙ ap (λ (z : ℤ). floor0 z)
-    (read-back (start c .args .numbers .now) 4 (c .before .before .before .before .floor0-arg .given))
+    (read-back (start c .args .numbers .now) heightAt (c .before .before .before .before .floor0-arg .given))
 
 outside-is : (c : tie.After-outside-width) → c .outside-width .result ≡ outsideOf (start c .args .numbers .now)
 outside-is c =
     let n = start c .args .numbers .now in
-    let width = read-back n 15 (c .before .before .outside-width-arg .given) in
-    let alignment = read-back n 16 (c .before .outside-width-arg2 .given) in
+    let width = read-back n (styleAt + strokeWidthAt) (c .before .before .outside-width-arg .given) in
+    let alignment = read-back n (styleAt + alignmentAt) (c .before .outside-width-arg2 .given) in
     c .outside-width .ensures ∙ (λ i. outsideWidth (alignmentOf (alignment i)) (floor0 (width i)))
 
 first-is : (c : tie.After-area-top) → c .area-top .result ≡ firstRowOf (start (c .before .before) .args .numbers .now)
 first-is c =
     let read = c .before .before in
-    let y = read-back (start read .args .numbers .now) 2 (c .before .area-top-arg .given) in
+    let y = read-back (start read .args .numbers .now) yAt (c .before .area-top-arg .given) in
     c .area-top .ensures .0 .is ∙ (λ i. y i -ℤ pos (rowsAbove (height-is read i) (outside-is read i)))
 
 width-is : (c : tie.After-floor02)
-    → c .floor02 .result ≡ floor0 (numberAt (start (c .before .before .before .before .before) .args .numbers .now) 3)
+    → c .floor02 .result ≡ floor0 (numberAt (start (c .before .before .before .before .before) .args .numbers .now) widthAt)
 width-is c =
     c .floor02 .ensures
     ∙ ap (λ (z : ℤ). floor0 z)
-    (read-back (start (c .before .before .before .before .before) .args .numbers .now) 3 (c .before .floor0-arg2 .given))
+    (read-back (start (c .before .before .before .before .before) .args .numbers .now) widthAt (c .before .floor0-arg2 .given))
 
 count-is : (c : tie.After-area-rows)
     → c .area-rows .result ≡ countOf (start (c .before .before .before .before .before .before) .args .numbers .now)
 count-is c =
     let read = c .before .before .before .before .before .before in
-    let kind = read-back (start read .args .numbers .now) 0 (c .before .before .before .area-rows-arg .given) in
+    let kind = read-back (start read .args .numbers .now) kindAt (c .before .before .before .area-rows-arg .given) in
     c .area-rows .ensures .0
-    ∙ (λ i. strokeCount (ltZ (kind i) (pos 1)) (width-is (c .before) i + 2 * outside-is read i)
+    ∙ (λ i. strokeCount (ltZ (kind i) crateBoxKind) (width-is (c .before) i + 2 * outside-is read i)
     (height-is read i + 2 * outside-is read i))
 
 shared-slice-copy-out-floor0 : tie.Need-shared-slice-copy-out-floor0
@@ -90,7 +91,7 @@ area-top-requires c κs =
     let entry = start read in
     let n = entry .args .numbers .now in
     let given = c .area-top-arg .given in
-    (rw (read-back n 2 given) (top-near n (limits entry) given), omega (arith, outside-small n (limits entry), outside-is read))
+    (rw (read-back n yAt given) (top-near n (limits entry) given), omega (arith, outside-small n (limits entry), outside-is read))
 
 shared-slice-copy-out-area-rows : tie.Need-shared-slice-copy-out-area-rows
 shared-slice-copy-out-area-rows c = search needs
@@ -138,11 +139,11 @@ returns c =
     let place = rows-of-place n (start (top .before .before) .pre .0) in
     let end = toZ-ofZ (made .fits) ∙ made .is
     ∙ ap₂ _+ℤ_ first (toZ-ofZ (wide .fits) ∙ wide .is ∙ ap (λ (k : ℕ). pos k) (count-is rows)) in (
-      rows-by-fields (first ∙ sym (ap (λ (r : StrokeRows). r .first) place)) (read-back n 17 next)
+      rows-by-fields (first ∙ sym (ap (λ (r : StrokeRows). r .first) place)) (read-back n nextRowAt next)
           (end ∙ sym (ap (λ (r : StrokeRows). r .first +ℤ pos (r .count)) place)),
       record {
         first = rw (toZ-ofZ (top .area-top .ensures .0 .fits)) (top .area-top .ensures .0 .fits);
-        next = rw (read-back n 17 next) (sfits-of next);
+        next = rw (read-back n nextRowAt next) (sfits-of next);
         end = rw (toZ-ofZ (made .fits)) (made .fits);
       },
     )

@@ -3,8 +3,11 @@
 use mathlib.Core.Path.{ap, _∙_}
 use mathlib.Core.Bool.{_&&_}
 use borrow.Author.Needs.{needs}
-use lib.IntN.{pos, negsuc}
-use Rattle.record_numbers.specs.RecordNumbers.{within}
+use lib.IntN.{pos}
+use Prim.Native.Nat.{_+_}
+use Rattle.geometry.specs.Limits.{maxStrokeWidth}
+use Rattle.record_numbers.specs.RecordNumbers.{strokeAt, fillAt, strokeWidthAt, alignmentAt, insideAlignment, outsideAlignment, absentPaint, maxColour, within}
+use Rattle.sheet_record.specs.SheetRecord.{styleAt}
 use Rattle.record_numbers.proofs.Walks.{read-back}
 use Rattle.place_rules.specs.PlaceRules.{styleKept}
 use Rattle.place_rules.proofs.style_kept.Statement.{statement}
@@ -43,12 +46,12 @@ returns c =
     let stroke = fill .before .before in
     let n = stroke .before .args .numbers .now in
     let at13 = fill .before .is-within .ensures
-    ∙ ap (within (negsuc 0) (pos 255)) (read-back n 13 (stroke .is-within-arg .given)) in
+    ∙ ap (within absentPaint maxColour) (read-back n (styleAt + strokeAt) (stroke .is-within-arg .given)) in
     let at14 = width .before .is-within2 .ensures
-    ∙ ap (within (negsuc 0) (pos 255)) (read-back n 14 (fill .is-within-arg2 .given)) in
+    ∙ ap (within absentPaint maxColour) (read-back n (styleAt + fillAt) (fill .is-within-arg2 .given)) in
     let at15 = alignment .before .is-within3 .ensures
-    ∙ ap (within (pos 0) (pos 256)) (read-back n 15 (width .is-within-arg3 .given)) in
-    let at16 = c .is-within4 .ensures ∙ ap (within (pos 0) (pos 2)) (read-back n 16 (alignment .is-within-arg4 .given)) in
+    ∙ ap (within (pos 0) (pos maxStrokeWidth)) (read-back n (styleAt + strokeWidthAt) (width .is-within-arg3 .given)) in
+    let at16 = c .is-within4 .ensures ∙ ap (within insideAlignment outsideAlignment) (read-back n (styleAt + alignmentAt) (alignment .is-within-arg4 .given)) in
     λ i. ((at13 i && at14 i) && at15 i) && at16 i
 
 pub style-kept-spec : {M : Type 1} → statement M
