@@ -2,18 +2,25 @@
 use corner_radii::CornerRadii;
 use figure::Figure;
 use host_answers::held;
+use host_answers::put_from;
 use host_answers::put_numbers;
 use rectangle::Rectangle;
 use rounded_rectangle::RoundedRectangle;
 use scanline::Scanline;
 use scanline::StyledScanline;
-ghost use mathlib.Core.List.{[], _∷_, _++_};
+ghost use mathlib.Core.Path.{_≡_};
+ghost use mathlib.Core.List.{[], _∷_, _++_, map};
 ghost use lib.IntN.{pos};
 ghost use Rattle.refusal.specs.Refusal.{answered};
-ghost use Rattle.host_answers.specs.HostAnswers.{Tells};
+ghost use Rattle.host_answers.specs.HostAnswers.{heldBy32, Tells};
 ghost use Rattle.rectangle.specs.Calls.{rectangleValues};
 ghost use Rattle.figure.specs.Calls.{flag, scanlineValues, radiiValues, figureValues};
 ghost use Rattle.styled.specs.Calls.{styledScanlineValues};
+
+// How many numbers a box has before its radii, and its radii have.
+const PLAIN_LENGTH: usize = 5;
+
+const RADII_LENGTH: usize = 8;
 
 // A number.
 pub fn put_count(n: u32, out: &mut [i32]) -> u32
@@ -71,15 +78,15 @@ pub fn put_rectangle(rectangle: Rectangle, out: &mut [i32]) -> u32
     put_numbers(out, &values)
 }
 
-// The width and height of each corner, clockwise from the top-left.
-pub fn put_radii(corners: CornerRadii, out: &mut [i32]) -> u32
-    ensures { λ r. ⌜ Tells (answered (radiiValues corners)) (now (out .entry)) r (now (out .exit)) ⌝ }
+// The radii's numbers: width and height of each corner, clockwise from the top-left.
+fn radii_numbers(corners: CornerRadii) -> [i32; RADII_LENGTH]
+    ensures { λ r. ⌜ r ≡ map heldBy32 (radiiValues corners) ⌝ }
 {
     let top_left = corners.top_left;
     let top_right = corners.top_right;
     let bottom_right = corners.bottom_right;
     let bottom_left = corners.bottom_left;
-    let values = [
+    [
         held(top_left.width),
         held(top_left.height),
         held(top_right.width),
@@ -88,17 +95,31 @@ pub fn put_radii(corners: CornerRadii, out: &mut [i32]) -> u32
         held(bottom_right.height),
         held(bottom_left.width),
         held(bottom_left.height),
-    ];
+    ]
+}
+
+// The radii.
+pub fn put_radii(corners: CornerRadii, out: &mut [i32]) -> u32
+    ensures { λ r. ⌜ Tells (answered (radiiValues corners)) (now (out .entry)) r (now (out .exit)) ⌝ }
+{
+    let values = radii_numbers(corners);
     put_numbers(out, &values)
+}
+
+// The numbers before a box's radii: that of its kind, then x, y, width and height.
+fn plain_numbers(kind: u32, rectangle: Rectangle) -> [i32; PLAIN_LENGTH]
+    ensures { λ r. ⌜ r ≡ map heldBy32 (pos kind ∷ rectangleValues rectangle) ⌝ }
+{
+    let at = rectangle.top_left;
+    let size = rectangle.size;
+    [held(kind), at.x, at.y, held(size.width), held(size.height)]
 }
 
 // The number of a kind, then x, y, width and height.
 fn put_plain(kind: u32, rectangle: Rectangle, out: &mut [i32]) -> u32
     ensures { λ r. ⌜ Tells (answered (pos kind ∷ rectangleValues rectangle)) (now (out .entry)) r (now (out .exit)) ⌝ }
 {
-    let at = rectangle.top_left;
-    let size = rectangle.size;
-    let values = [held(kind), at.x, at.y, held(size.width), held(size.height)];
+    let values = plain_numbers(kind, rectangle);
     put_numbers(out, &values)
 }
 
@@ -106,29 +127,11 @@ fn put_plain(kind: u32, rectangle: Rectangle, out: &mut [i32]) -> u32
 fn put_box(kind: u32, b: RoundedRectangle, out: &mut [i32]) -> u32
     ensures { λ r. ⌜ Tells (answered (pos kind ∷ rectangleValues (b .rectangle) ++ radiiValues (b .corners))) (now (out .entry)) r (now (out .exit)) ⌝ }
 {
-    let rectangle = b.rectangle;
-    let at = rectangle.top_left;
-    let size = rectangle.size;
-    let corners = b.corners;
-    let top_left = corners.top_left;
-    let top_right = corners.top_right;
-    let bottom_right = corners.bottom_right;
-    let bottom_left = corners.bottom_left;
-    let values = [
-        held(kind),
-        at.x,
-        at.y,
-        held(size.width),
-        held(size.height),
-        held(top_left.width),
-        held(top_left.height),
-        held(top_right.width),
-        held(top_right.height),
-        held(bottom_right.width),
-        held(bottom_right.height),
-        held(bottom_left.width),
-        held(bottom_left.height),
-    ];
+    let plain = plain_numbers(kind, b.rectangle);
+    let radii = radii_numbers(b.corners);
+    let mut values = [0i32; PLAIN_LENGTH + RADII_LENGTH];
+    put_from(&mut values, 0, &plain);
+    put_from(&mut values, PLAIN_LENGTH, &radii);
     put_numbers(out, &values)
 }
 

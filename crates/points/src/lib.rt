@@ -1,6 +1,7 @@
 // The points of a figure as x, y pairs, after embedded-graphics 0.8.2 both `points.rs` (`Points`): a
 // pass that counts, so that a list too short is refused before anything is written, and one that
-// writes.
+// writes. Both walk the rows by the same tests: a walk for both would ask in each row which of the two
+// it is, and a function for the tests alone would leave both walks as they are.
 use figure::Figure;
 use figure::Shape;
 use range::Range;

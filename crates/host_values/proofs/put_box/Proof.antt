@@ -1,46 +1,38 @@
--- `host_values::put_box` meets its contract: each number is put in its place.
+-- `host_values::put_box` meets its contract: the numbers before the radii and then the radii, each put as they were made.
 -- Assumes nothing.
-use mathlib.Core.List.{[], _∷_}
-use lib.IntN.{pos}
-use mir.Syntax.{w32}
-use mir.Val.{toZ, ofZ}
-use Rattle.host_answers.proofs.Telling.{read-held, held-read, tells-put}
+use mathlib.Core.Path.{ap, _∙_}
+use mathlib.Core.List.{List, [], _∷_}
+use lib.IntN.{ℤ, pos}
+use lib.ListN.{replicate}
+use lib.Seq.{sets}
+use Rattle.host_answers.proofs.Telling.{tells-put}
 use borrow.Author.Needs.{needs}
 use Rattle.host_values.proofs.put_box.Statement.{statement}
 use Rattle.host_values.proofs.put_box.Tie as tie
 
-held-requires : tie.Need-held-requires
-held-requires c κs = search needs
+plain-numbers-requires : tie.Need-plain-numbers-requires
+plain-numbers-requires c κs = search needs
 
-held-requires-2 : tie.Need-held-requires-2
-held-requires-2 c κs = search needs
+radii-numbers-requires : tie.Need-radii-numbers-requires
+radii-numbers-requires c κs = search needs
 
-held-requires-3 : tie.Need-held-requires-3
-held-requires-3 c κs = search needs
+slice-aggregate-put-from : tie.Need-slice-aggregate-put-from
+slice-aggregate-put-from c = search needs
 
-held-requires-4 : tie.Need-held-requires-4
-held-requires-4 c κs = search needs
+slice-aggregate-put-from-2 : tie.Need-slice-aggregate-put-from-2
+slice-aggregate-put-from-2 c = search needs
 
-held-requires-5 : tie.Need-held-requires-5
-held-requires-5 c κs = search needs
+put-from-requires : tie.Need-put-from-requires
+put-from-requires c κs = search needs
 
-held-requires-6 : tie.Need-held-requires-6
-held-requires-6 c κs = search needs
+slice-aggregate-put-from-3 : tie.Need-slice-aggregate-put-from-3
+slice-aggregate-put-from-3 c = search needs
 
-held-requires-7 : tie.Need-held-requires-7
-held-requires-7 c κs = search needs
+slice-aggregate-put-from-4 : tie.Need-slice-aggregate-put-from-4
+slice-aggregate-put-from-4 c = search needs
 
-held-requires-8 : tie.Need-held-requires-8
-held-requires-8 c κs = search needs
-
-held-requires-9 : tie.Need-held-requires-9
-held-requires-9 c κs = search needs
-
-held-requires-10 : tie.Need-held-requires-10
-held-requires-10 c κs = search needs
-
-held-requires-11 : tie.Need-held-requires-11
-held-requires-11 c κs = search needs
+put-from-requires-2 : tie.Need-put-from-requires-2
+put-from-requires-2 c κs = search needs
 
 slice-aggregate-put-numbers : tie.Need-slice-aggregate-put-numbers
 slice-aggregate-put-numbers c = search needs
@@ -53,27 +45,31 @@ same-length c = search needs
 
 returns : tie.Need-returns
 returns c =
-    let a = c .before .before .before .before .before .before .before .before .before .before .before .before .before .before .before .before .before .before .before .before .before .before .before .before .args in
+    let first = c .before .before .before .before .before .before .before .before .before in
+    let a = first .before .before .before .before .before .args in
     let r = a .b .rectangle in
     let k = a .b .corners in
-    (tells-put (pos (a .kind)) (r .«top_left» .x ∷ r .«top_left» .y ∷ pos (r .size .width) ∷ pos (r .size .height) ∷ pos (k .«top_left» .width) ∷ pos (k .«top_left» .height) ∷ pos (k .«top_right» .width) ∷ pos (k .«top_right» .height) ∷ pos (k .«bottom_right» .width) ∷ pos (k .«bottom_right» .height) ∷ pos (k .«bottom_left» .width) ∷ pos (k .«bottom_left» .height) ∷ []) _ (toZ w32 (ofZ w32 (c .before .before .before .before .before .before .before .before .before .before .before .before .before .before .before .held .result)) ∷ toZ w32 (ofZ w32 (r .«top_left» .x)) ∷ toZ w32 (ofZ w32 (r .«top_left» .y)) ∷ toZ w32 (ofZ w32 (c .before .before .before .before .before .before .before .before .before .before .before .before .before .before .held2 .result)) ∷ toZ w32 (ofZ w32 (c .before .before .before .before .before .before .before .before .before .before .before .before .before .held3 .result)) ∷ toZ w32 (ofZ w32 (c .before .before .before .before .before .before .before .before .before .before .before .before .held4 .result)) ∷ toZ w32 (ofZ w32 (c .before .before .before .before .before .before .before .before .before .before .before .held5 .result)) ∷ toZ w32 (ofZ w32 (c .before .before .before .before .before .before .before .before .before .before .held6 .result)) ∷ toZ w32 (ofZ w32 (c .before .before .before .before .before .before .before .before .before .held7 .result)) ∷ toZ w32 (ofZ w32 (c .before .before .before .before .before .before .before .before .held8 .result)) ∷ toZ w32 (ofZ w32 (c .before .before .before .before .before .before .before .held9 .result)) ∷ toZ w32 (ofZ w32 (c .before .before .before .before .before .before .held10 .result)) ∷ toZ w32 (ofZ w32 (c .before .before .before .before .before .held11 .result)) ∷ [])
-    (λ i. held-read (a .kind) (c .before .before .before .before .before .before .before .before .before .before .before .before .before .before .before .held .ensures) i ∷ read-held (r .«top_left» .x) (search needs) i ∷ read-held (r .«top_left» .y) (search needs) i ∷ held-read (r .size .width) (c .before .before .before .before .before .before .before .before .before .before .before .before .before .before .held2 .ensures) i ∷ held-read (r .size .height) (c .before .before .before .before .before .before .before .before .before .before .before .before .before .held3 .ensures) i ∷ held-read (k .«top_left» .width) (c .before .before .before .before .before .before .before .before .before .before .before .before .held4 .ensures) i ∷ held-read (k .«top_left» .height) (c .before .before .before .before .before .before .before .before .before .before .before .held5 .ensures) i ∷ held-read (k .«top_right» .width) (c .before .before .before .before .before .before .before .before .before .before .held6 .ensures) i ∷ held-read (k .«top_right» .height) (c .before .before .before .before .before .before .before .before .before .held7 .ensures) i ∷ held-read (k .«bottom_right» .width) (c .before .before .before .before .before .before .before .before .held8 .ensures) i ∷ held-read (k .«bottom_right» .height) (c .before .before .before .before .before .before .before .held9 .ensures) i ∷ held-read (k .«bottom_left» .width) (c .before .before .before .before .before .before .held10 .ensures) i ∷ held-read (k .«bottom_left» .height) (c .before .before .before .before .before .held11 .ensures) i ∷ []) _ _ (c .before .put-numbers .ensures .0) (c .before .put-numbers .ensures .1))
+    let plain = first .put-from .ensures ∙ ap (sets (replicate 13 (pos 0)) 0) (first .before .before .before .before .plain-numbers .ensures) in
+    let radii = first .before .before .before .radii-numbers .ensures in
+    tells-put (pos (a .kind))
+    (r .«top_left» .x ∷ r .«top_left» .y ∷ pos (r .size .width) ∷ pos (r .size .height) ∷ pos (k .«top_left» .width)
+    ∷ pos (k .«top_left» .height) ∷ pos (k .«top_right» .width) ∷ pos (k .«top_right» .height) ∷ pos (k .«bottom_right» .width)
+    ∷ pos (k .«bottom_right» .height) ∷ pos (k .«bottom_left» .width) ∷ pos (k .«bottom_left» .height) ∷ [])
+    _ _ (c .before .before .before .before .before .put-from2 .ensures ∙ (λ i. sets (plain i) 5 (radii i)))
+    _ _ (c .before .put-numbers .ensures .0) (c .before .put-numbers .ensures .1)
 
 pub put-box-spec : {M : Type 1} → statement M
 put-box-spec =
     tie.close
     (tie.spec
-    held-requires
-    held-requires-2
-    held-requires-3
-    held-requires-4
-    held-requires-5
-    held-requires-6
-    held-requires-7
-    held-requires-8
-    held-requires-9
-    held-requires-10
-    held-requires-11
+    plain-numbers-requires
+    radii-numbers-requires
+    slice-aggregate-put-from
+    slice-aggregate-put-from-2
+    put-from-requires
+    slice-aggregate-put-from-3
+    slice-aggregate-put-from-4
+    put-from-requires-2
     slice-aggregate-put-numbers
     put-numbers-requires
     same-length

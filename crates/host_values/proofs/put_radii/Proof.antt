@@ -1,37 +1,14 @@
--- `host_values::put_radii` meets its contract: each number is put in its place.
+-- `host_values::put_radii` meets its contract: the numbers are put as they were made.
 -- Assumes nothing.
 use mathlib.Core.List.{[], _∷_}
 use lib.IntN.{pos}
-use mir.Syntax.{w32}
-use mir.Val.{toZ, ofZ}
-use Rattle.host_answers.proofs.Telling.{held-read, tells-put}
+use Rattle.host_answers.proofs.Telling.{tells-put}
 use borrow.Author.Needs.{needs}
 use Rattle.host_values.proofs.put_radii.Statement.{statement}
 use Rattle.host_values.proofs.put_radii.Tie as tie
 
-held-requires : tie.Need-held-requires
-held-requires c κs = search needs
-
-held-requires-2 : tie.Need-held-requires-2
-held-requires-2 c κs = search needs
-
-held-requires-3 : tie.Need-held-requires-3
-held-requires-3 c κs = search needs
-
-held-requires-4 : tie.Need-held-requires-4
-held-requires-4 c κs = search needs
-
-held-requires-5 : tie.Need-held-requires-5
-held-requires-5 c κs = search needs
-
-held-requires-6 : tie.Need-held-requires-6
-held-requires-6 c κs = search needs
-
-held-requires-7 : tie.Need-held-requires-7
-held-requires-7 c κs = search needs
-
-held-requires-8 : tie.Need-held-requires-8
-held-requires-8 c κs = search needs
+radii-numbers-requires : tie.Need-radii-numbers-requires
+radii-numbers-requires c κs = search needs
 
 slice-aggregate-put-numbers : tie.Need-slice-aggregate-put-numbers
 slice-aggregate-put-numbers c = search needs
@@ -44,23 +21,12 @@ same-length c = search needs
 
 returns : tie.Need-returns
 returns c =
-    let k = c .before .before .before .before .before .before .before .before .before .before .before .before .before .before .before .before .args .corners in
-    (tells-put (pos (k .«top_left» .width)) (pos (k .«top_left» .height) ∷ pos (k .«top_right» .width) ∷ pos (k .«top_right» .height) ∷ pos (k .«bottom_right» .width) ∷ pos (k .«bottom_right» .height) ∷ pos (k .«bottom_left» .width) ∷ pos (k .«bottom_left» .height) ∷ []) _ (toZ w32 (ofZ w32 (c .before .before .before .before .before .before .before .before .before .before .before .held .result)) ∷ toZ w32 (ofZ w32 (c .before .before .before .before .before .before .before .before .before .before .held2 .result)) ∷ toZ w32 (ofZ w32 (c .before .before .before .before .before .before .before .before .before .held3 .result)) ∷ toZ w32 (ofZ w32 (c .before .before .before .before .before .before .before .before .held4 .result)) ∷ toZ w32 (ofZ w32 (c .before .before .before .before .before .before .before .held5 .result)) ∷ toZ w32 (ofZ w32 (c .before .before .before .before .before .before .held6 .result)) ∷ toZ w32 (ofZ w32 (c .before .before .before .before .before .held7 .result)) ∷ toZ w32 (ofZ w32 (c .before .before .before .before .held8 .result)) ∷ [])
-    (λ i. held-read (k .«top_left» .width) (c .before .before .before .before .before .before .before .before .before .before .before .held .ensures) i ∷ held-read (k .«top_left» .height) (c .before .before .before .before .before .before .before .before .before .before .held2 .ensures) i ∷ held-read (k .«top_right» .width) (c .before .before .before .before .before .before .before .before .before .held3 .ensures) i ∷ held-read (k .«top_right» .height) (c .before .before .before .before .before .before .before .before .held4 .ensures) i ∷ held-read (k .«bottom_right» .width) (c .before .before .before .before .before .before .before .held5 .ensures) i ∷ held-read (k .«bottom_right» .height) (c .before .before .before .before .before .before .held6 .ensures) i ∷ held-read (k .«bottom_left» .width) (c .before .before .before .before .before .held7 .ensures) i ∷ held-read (k .«bottom_left» .height) (c .before .before .before .before .held8 .ensures) i ∷ []) _ _ (c .before .put-numbers .ensures .0) (c .before .put-numbers .ensures .1))
+    let k = c .before .before .before .before .before .args .corners in
+    tells-put (pos (k .«top_left» .width))
+    (pos (k .«top_left» .height) ∷ pos (k .«top_right» .width) ∷ pos (k .«top_right» .height) ∷ pos (k .«bottom_right» .width)
+    ∷ pos (k .«bottom_right» .height) ∷ pos (k .«bottom_left» .width) ∷ pos (k .«bottom_left» .height) ∷ [])
+    _ _ (c .before .before .before .before .radii-numbers .ensures) _ _ (c .before .put-numbers .ensures .0) (c .before .put-numbers .ensures .1)
 
 pub put-radii-spec : {M : Type 1} → statement M
 put-radii-spec =
-    tie.close
-    (tie.spec
-    held-requires
-    held-requires-2
-    held-requires-3
-    held-requires-4
-    held-requires-5
-    held-requires-6
-    held-requires-7
-    held-requires-8
-    slice-aggregate-put-numbers
-    put-numbers-requires
-    same-length
-    returns)
+    tie.close (tie.spec radii-numbers-requires slice-aggregate-put-numbers put-numbers-requires same-length returns)
