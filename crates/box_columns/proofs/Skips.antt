@@ -2,7 +2,7 @@
 -- Assumes nothing.
 use mathlib.Core.Path.{_≡_, refl, sym, ap, _∙_}
 use mathlib.Core.Bool.{Bool, true, false, cond, _&&_}
-use Prim.Native.Nat.{ℕ, _-_, _*_, _≤_, _<_, max}
+use Prim.Native.Nat.{ℕ, _-_, _≤_, _<_, max}
 use native.Mathlib.Omega.{arith}
 use borrow.Author.Tests.{lt-ltb, le-ltb, ltb-true}
 use lib.Dec.{ltb}
@@ -11,9 +11,6 @@ use Rattle.scanline.specs.declared.Place.{Place}
 use Rattle.scanline.specs.declared.Place.the-variants.{At, Nowhere}
 use Rattle.scanline.specs.Places.{findFrom}
 use Rattle.scanline.proofs.Find.{found-at, found-none}
-use Rattle.ellipse.specs.declared.EllipseContains.{EllipseContains}
-use Rattle.ellipse.specs.Relative.{gap, containsOf}
-use Rattle.ellipse_search.specs.Search.{columnInside}
 use Rattle.corner_radii.specs.declared.CornerRadii.{CornerRadii}
 use Rattle.rounded_rectangle.specs.Relative.{insideCorner, inQuadrant}
 use Rattle.rounded_rectangle.proofs.Contains.{decided-top-left, decided-top-right, decided-bottom-left, decided-bottom-right}
@@ -52,14 +49,6 @@ covered-le r e = by-row (ltb e (r .height))
 
 -- ---- the columns that a corner leaves out
 module _ (radius : Size) (e n : ℕ) where
-  -- by the code's own search
-  pub left-out-found : (y : ℕ) (test : EllipseContains) (p : Place)
-      → test ≡ containsOf (2 * radius .width) (2 * radius .height) → y ≡ gap (2 * radius .height) e
-      → p ≡ findFrom (columnInside test (2 * radius .width) y) n 0 → placeElse n p ≡ leftOut radius e n
-  unfolding leftOut insideCorner
-  left-out-found y test p test-is y-is p-is =
-      ap (placeElse n) (p-is ∙ (λ i. findFrom (columnInside (test-is i) (2 * radius .width) (y-is i)) n 0))
-
   pub left-out-none : n ≡ 0 → 0 ≡ leftOut radius e n
   unfolding leftOut findFrom
   left-out-none z = rw z

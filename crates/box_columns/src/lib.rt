@@ -39,10 +39,7 @@ pub fn left_out(corner: EllipseQuadrant, e: u32, n: u32, hint: u32) -> u32
     if n == 0 {
         return 0;
     }
-    let radius = corner.radius;
-    let test = corner.test;
-    let y = ellipse::gap(2 * radius.height, e);
-    let Place::At(k) = ellipse_search::find_inside(test, 2 * radius.width, y, 0, n, hint) else {
+    let Place::At(k) = corner.first_inside(e, n, hint) else {
         return n;
     };
     k

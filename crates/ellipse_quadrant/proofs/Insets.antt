@@ -1,4 +1,4 @@
--- The inset of a row by the code's own search, and that of a side by its two corners.
+-- The inset of a row, and that of a side by its two corners.
 -- Assumes nothing.
 use mathlib.Core.Path.{_≡_, refl, sym, ap, _∙_}
 use mathlib.Core.Bool.{Bool, true, false, cond}
@@ -11,13 +11,11 @@ use Rattle.scanline.specs.declared.Place.{Place}
 use Rattle.scanline.specs.declared.Place.the-variants.{At, Nowhere}
 use Rattle.scanline.specs.Places.{findFrom, placeElse0}
 use Rattle.scanline.proofs.Find.{find-none, found-at}
-use Rattle.ellipse.specs.declared.EllipseContains.{EllipseContains}
-use Rattle.ellipse.specs.Relative.{gap, containsOf}
 use Rattle.ellipse_search.specs.Search.{columnInside}
 use Rattle.ellipse.proofs.Distances.{no-width-outside}
 use Rattle.ellipse_quadrant.specs.Quadrant.{insideCorner, inset, sideInset}
 
--- ---- an inset by the code's own search
+-- ---- an inset
 -- the place found is below n
 found-below : (test : ℕ → Bool) (n : ℕ) (p : Place) → findFrom test n 0 ≡ p → placeElse0 p ≤ n
 found-below test n (At k) e = let b = found-at test n 0 k e .below in omega arith
@@ -32,12 +30,6 @@ module _ (radius : Size) (e n : ℕ) where
   pub inset-no-width : radius .width ≡ 0 → 0 ≡ inset radius e n
   unfolding inset insideCorner columnInside
   inset-no-width z = ap placeElse0 (sym (find-none _ n 0 (λ d _ _. rw z (no-width-outside (2 * radius .height) _ _))))
-
-  pub inset-found : (y : ℕ) (test : EllipseContains) (p : Place) → test ≡ containsOf (2 * radius .width) (2 * radius .height)
-      → y ≡ gap (2 * radius .height) e → p ≡ findFrom (columnInside test (2 * radius .width) y) n 0 → placeElse0 p ≡ inset radius e n
-  unfolding inset insideCorner
-  inset-found y test p test-is y-is p-is =
-      ap placeElse0 (p-is ∙ (λ i. findFrom (columnInside (test-is i) (2 * radius .width) (y-is i)) n 0))
 
 -- ---- a side as the code goes about it
 module _ (upper lower : Size) (h n dy : ℕ) where

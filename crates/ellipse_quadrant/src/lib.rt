@@ -8,6 +8,7 @@ ghost use mathlib.Core.Path.{_≡_};
 ghost use mathlib.Core.Bool.{true};
 ghost use Prim.Native.Nat.{_<_, _≤_};
 ghost use Rattle.geometry.specs.Bounds.{wideSide, SizeUpTo};
+ghost use Rattle.scanline.specs.Places.{findFrom};
 ghost use Rattle.corner.specs.Bounds.{wideRadius};
 ghost use Rattle.ellipse_quadrant.specs.Quadrant.{Ready, insideCorner, inQuadrant, inset as Quadrant·inset, sideInset};
 
@@ -52,8 +53,21 @@ impl EllipseQuadrant {
         )
     }
 
+    // The first of n columns from the corner on that is inside on its row e. The radius may be larger
+    // than n: the ellipse's middle then lies beyond them.
+    pub fn first_inside(self, e: u32, n: u32, hint: u32) -> Place
+        requires { ⌜ Ready self ⌝ }
+        requires { ⌜ (e < self .radius .height) × (0 < self .radius .width) × (n ≤ wideSide) ⌝ }
+        ensures { λ r. ⌜ r ≡ findFrom (λ d. insideCorner (self .radius) d e) n 0 ⌝ }
+    {
+        let radius = self.radius;
+        let test = self.test;
+        let y = ellipse::gap(2 * radius.height, e);
+        ellipse_search::find_inside(test, 2 * radius.width, y, 0, n, hint)
+    }
+
     // How many of n columns from the corner on come before the first inside one on its row e, 0 if
-    // none is inside. The radius may be larger than n: the ellipse's middle then lies beyond them.
+    // none is inside.
     fn inset(self, e: u32, n: u32, hint: u32) -> u32
         requires { ⌜ Ready self ⌝ }
         requires { ⌜ (e < self .radius .height) × (n ≤ wideSide) ⌝ }
@@ -63,9 +77,7 @@ impl EllipseQuadrant {
         if radius.width == 0 {
             return 0;
         }
-        let test = self.test;
-        let y = ellipse::gap(2 * radius.height, e);
-        let Place::At(k) = ellipse_search::find_inside(test, 2 * radius.width, y, 0, n, hint) else {
+        let Place::At(k) = self.first_inside(e, n, hint) else {
             return 0;
         };
         k

@@ -9,7 +9,7 @@ ghost use Prim.Native.Nat.{_+_, _-_, _/_, _<_, _≤_};
 ghost use Rattle.geometry.specs.Bounds.{wideSide};
 ghost use Rattle.scanline.specs.Places.{findFrom};
 ghost use Rattle.ellipse.specs.Relative.{wideDistance, SmallWeights};
-ghost use Rattle.ellipse_search.specs.Search.{columnInside};
+ghost use Rattle.ellipse_search.specs.Search.{columnInside, NearestOf};
 
 // The test at a column at or before the middle, where the distance is a plain difference.
 fn inside_left(test: EllipseContains, width: u32, y: u64, k: u32) -> bool
@@ -20,18 +20,30 @@ fn inside_left(test: EllipseContains, width: u32, y: u64, k: u32) -> bool
     test.contains(signed::wide(width - 1 - 2 * k), y)
 }
 
+// Of the `count` columns from `from` on, if there are any, the one nearest to the middle: the middle, or
+// the last of them. Up to it the test once true stays true.
+fn nearest_column(width: u32, from: u32, count: u32) -> Place
+    requires { ⌜ (0 < width) × (width ≤ wideSide) ⌝ }
+    requires { ⌜ (from ≤ (width - 1) / 2) × (count ≤ wideSide) ⌝ }
+    ensures { λ r. ⌜ NearestOf width from count r ⌝ }
+{
+    if count == 0 {
+        return Place::Nowhere;
+    }
+    Place::At(signed::least((width - 1) / 2, from + count - 1))
+}
+
 // The first inside column of the `count` from `from` on, by halving: for a row that is asked for
-// alone. Up to the middle, or the last of the columns, the test once true stays true.
+// alone.
 pub fn first_inside(test: EllipseContains, width: u32, y: u64, from: u32, count: u32) -> Place
     requires { ⌜ SmallWeights test ⌝ }
     requires { ⌜ (0 < width) × (width ≤ wideSide) × (y ≤ wideDistance) ⌝ }
     requires { ⌜ (from ≤ (width - 1) / 2) × (count ≤ wideSide) ⌝ }
     ensures { λ r. ⌜ r ≡ findFrom (columnInside test width y) count from ⌝ }
 {
-    if count == 0 {
+    let Place::At(nearest) = nearest_column(width, from, count) else {
         return Place::Nowhere;
-    }
-    let nearest = signed::least((width - 1) / 2, from + count - 1);
+    };
     if !inside_left(test, width, y, nearest) {
         return Place::Nowhere;
     }
@@ -98,10 +110,9 @@ pub fn next_inside(
     requires { ⌜ (from ≤ (width - 1) / 2) × (count ≤ wideSide) ⌝ }
     ensures { λ r. ⌜ r ≡ findFrom (columnInside test width y) count from ⌝ }
 {
-    if count == 0 {
+    let Place::At(nearest) = nearest_column(width, from, count) else {
         return Place::Nowhere;
-    }
-    let nearest = signed::least((width - 1) / 2, from + count - 1);
+    };
     let start = signed::least(signed::most(hint, from), nearest);
     if inside_left(test, width, y, start) {
         return walk_left(test, width, y, from, start);
