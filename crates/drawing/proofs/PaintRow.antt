@@ -1,6 +1,6 @@
 -- What a figure's row makes of a canvas is what its styled row does; the laws of `canvas_row` on that are passed on.
 -- Assumes nothing.
-use mathlib.Core.Path.{_≡_, refl, ap}
+use mathlib.Core.Path.{_≡_, refl, ap, _∙_}
 use mathlib.Core.Bool.{cond}
 use mathlib.Core.List.{List}
 use Prim.Native.Nat.{ℕ}
@@ -24,3 +24,10 @@ module _ (rowAt : ℤ → StyledRow) (style : Style) (W H : ℕ) (canvas : List 
   paint-by-figure f is (pos y) =
       ap (λ (row : StyledRow). cond (ltb y H) (putRow W y (overpaint style row (canvasRow W y canvas)) canvas) canvas) (is (pos y))
   paint-by-figure f is (negsuc y) = refl
+
+-- a figure's row that somebody has found
+pub paint-by-found : (f : Figure) (style : Style) (W H : ℕ) (canvas : List ℕ) (row : StyledRow) (y : ℤ) → row ≡ styledRow f style y
+    → paintBy (λ _. row) style W H y canvas ≡ paintRow drawing W H (styledFigure f style) y canvas
+paint-by-found f style W H canvas row y is =
+    paint-by-row (styledRow f style) style W H canvas row y is
+    ∙ paint-by-figure (styledRow f style) style W H canvas f (λ _. refl) y

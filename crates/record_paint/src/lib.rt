@@ -1,13 +1,13 @@
 // Painting on a sheet that a host keeps as numbers: what is tested and painted is read from them, and no
 // sheet is made and handed on.
 use canvas_size::CanvasSize;
+use drawing::paint_row_on;
 use record_numbers::is_within;
 use record_rules::Asked;
 use record_rules::PlacesTested;
 use record_rules::test_places;
 use refusal::Checked;
 use refusal::Refusal;
-use row_alone::paint_row_alone;
 use sheet::Sheet;
 use sheet_record::COUNT;
 use sheet_record::FIRST_PLACE;
@@ -80,7 +80,8 @@ pub fn check_paint(numbers: &[i32], layer: u32, bytes: usize) -> Checked
     check_asked(size, bytes, count, layer, asked)
 }
 
-// Paints the next row of a layer, where that was not refused, and moves its next row down by one.
+// Paints the next row of a layer, where that was not refused, and moves its next row down by one. It does
+// what `drawing::paint_row` does, and is quicker than a call of it, which hands the figure over once more.
 pub fn paint_next(numbers: &mut [i32], layer: u32, canvas: &mut [u8])
     requires { ⌜ length (now numbers) ≡ sheetLength ⌝ }
     requires { ⌜ sheetAnswer (sheetOf (now numbers)) (now canvas) (Call·paint layer) ≡ Checked·Passed ⌝ }
@@ -92,6 +93,7 @@ pub fn paint_next(numbers: &mut [i32], layer: u32, canvas: &mut [u8])
     let figure = chosen.figure;
     let style = chosen.style;
     let row = chosen.next_row;
-    paint_row_alone(canvas, size_of(numbers), figure, style, row);
+    let size = size_of(numbers);
+    paint_row_on(canvas, size, styled::row_at(figure, style, row), style, row);
     numbers[FIRST_PLACE + LAYER_LENGTH * place + NEXT_ROW] = signed::add(row, 1);
 }

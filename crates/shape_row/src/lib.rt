@@ -1,14 +1,18 @@
-// The styled row at y by the shapes of a figure's two areas, for a row that is asked for alone, after
+// The styled row at y by a figure's two areas, for a row that is asked for alone, after
 // embedded-graphics 0.8.2 `StyledScanlines` of both `styled.rs`. A scan of rows goes by `styled_shape`,
-// which makes both areas ready once and hands hints from row to row; nothing of it is called here.
+// which makes both areas ready once and hands hints from row to row; nothing of it is called here. The
+// areas are made by the kind of the figure, so that no figure or shape is handed over in memory.
 use box_fill::Hints;
 use box_fill::row_fill;
+use box_rules::confined;
+use box_rules::confined_w3c;
+use box_rules::offset_box;
+use box_rules::offset_w3c_box;
 use ellipse::EllipseContains;
 use ellipse_search::ANYWHERE;
 use ellipse_search::first_inside;
 use ellipse_styled::filled_runs;
 use ellipse_styled::hollow_runs;
-use figure::Shape;
 use geometry::Size;
 use range::Range;
 use rectangle::Rectangle;
@@ -20,9 +24,11 @@ use scanline::StyledRow;
 use scanline::StyledRuns;
 ghost use mathlib.Core.Path.{_≡_};
 ghost use Prim.Native.Nat.{_*_, _-_, _<_, _≤_};
+ghost use lib.IntN.{pos, negℤ};
 ghost use Rattle.signed.specs.Signed.{Near};
 ghost use Rattle.geometry.specs.Bounds.{widePoint, wideSide, SizeUpTo};
 ghost use Rattle.rectangle.specs.Bounds.{Bounded};
+ghost use Rattle.rectangle.specs.Rectangle.{offset as Rectangle·offset};
 ghost use Rattle.scanline.specs.Places.{findFrom};
 ghost use Rattle.ellipse.specs.Relative.{containsOf, wideDistance};
 ghost use Rattle.ellipse_search.specs.Search.{columnInside};
@@ -31,8 +37,9 @@ ghost use Rattle.box_fill.specs.BoxFill.{fillRun};
 ghost use Rattle.box_fill.specs.Relative.{NearRun};
 ghost use Rattle.ellipse_styled.specs.EllipseStyled.{aroundFill, ellipseStyledRow};
 ghost use Rattle.ellipse_styled.specs.Relative.{runsFrom};
-ghost use Rattle.figure.specs.Bounds.{AreaBox, BoundedShape};
-ghost use Rattle.shape_row.specs.StyledRow.{boxStyledRow, styledRowOfShapes};
+ghost use Rattle.box_rules.specs.BoxRules.{confined as BoxRules·confined, confinedW3c, offsetBox};
+ghost use Rattle.figure.specs.Bounds.{wideOffset, OwnRectangle, OwnBox, AreaBox};
+ghost use Rattle.shape_row.specs.StyledRow.{boxStyledRow};
 
 // The stroke area's run around a fill.
 pub fn around_fill(run: Range, fill: Range) -> StyledRuns
@@ -130,21 +137,38 @@ fn ellipse_row(area: Rectangle, sides: Size, y: i32) -> StyledRow
     StyledRow::Runs(ellipse_runs(top_left.x, size.width, distance, s, sides))
 }
 
-// The styled row at y, by the shapes of both areas. Areas of two kinds, which no figure has, have none.
-pub fn styled_row_of_shapes(stroke: Shape, fill: Shape, y: i32) -> StyledRow
-    requires { ⌜ BoundedShape stroke ⌝ }
-    requires { ⌜ BoundedShape fill ⌝ }
+// The styled row at y of an ellipse with strokes so wide outside and inside its outline.
+pub fn ellipse_row_at(rectangle: Rectangle, outside: u32, inside: u32, y: i32) -> StyledRow
+    requires { ⌜ OwnRectangle rectangle ⌝ }
+    requires { ⌜ (outside ≤ wideOffset) × (inside ≤ wideOffset) ⌝ }
     requires { ⌜ Near widePoint y ⌝ }
-    ensures { λ r. ⌜ r ≡ styledRowOfShapes stroke fill y ⌝ }
+    ensures { λ r. ⌜ r ≡ ellipseStyledRow (Rectangle·offset rectangle (pos outside)) (Rectangle·offset rectangle (negℤ (pos inside)) .size) y ⌝ }
 {
-    match stroke {
-        Shape::Ellipse(area) => match fill {
-            Shape::Ellipse(inner) => ellipse_row(area, inner.size, y),
-            Shape::RoundedBox(_) => StyledRow::NoRow,
-        },
-        Shape::RoundedBox(area) => match fill {
-            Shape::Ellipse(_) => StyledRow::NoRow,
-            Shape::RoundedBox(inner) => box_row(area, inner, y),
-        },
-    }
+    let area = rectangle::bounded::offset(rectangle, signed::from_u32(outside));
+    let inner = rectangle::bounded::offset(rectangle, signed::sub(0, signed::from_u32(inside)));
+    ellipse_row(area, inner.size, y)
+}
+
+// The styled row at y of a crate box whose areas are it offset by `outward` and by `inward`.
+pub fn crate_row_at(b: RoundedRectangle, outward: i32, inward: i32, y: i32) -> StyledRow
+    requires { ⌜ OwnBox b ⌝ }
+    requires { ⌜ Near wideOffset outward × Near wideOffset inward ⌝ }
+    requires { ⌜ Near widePoint y ⌝ }
+    ensures { λ r. ⌜ r ≡ boxStyledRow (BoxRules·confined (offsetBox b outward)) (BoxRules·confined (offsetBox b inward)) y ⌝ }
+{
+    let area = confined(offset_box(b, outward));
+    let inner = confined(offset_box(b, inward));
+    box_row(area, inner, y)
+}
+
+// The same of a W3C box.
+pub fn w3c_row_at(b: RoundedRectangle, outward: i32, inward: i32, y: i32) -> StyledRow
+    requires { ⌜ OwnBox b ⌝ }
+    requires { ⌜ Near wideOffset outward × Near wideOffset inward ⌝ }
+    requires { ⌜ Near widePoint y ⌝ }
+    ensures { λ r. ⌜ r ≡ boxStyledRow (confinedW3c (confinedW3c (offsetBox (confinedW3c b) outward))) (confinedW3c (confinedW3c (offsetBox (confinedW3c b) inward))) y ⌝ }
+{
+    let area = confined_w3c(offset_w3c_box(b, outward));
+    let inner = confined_w3c(offset_w3c_box(b, inward));
+    box_row(area, inner, y)
 }

@@ -1,7 +1,5 @@
 // Styled figures: their bounding box and rows, after embedded-graphics 0.8.2 both `styled.rs` and
 // `common/styled_scanline.rs`. A figure's stroke area and fill area are shapes of one kind.
-use areas::fill_shape;
-use areas::stroke_shape;
 use figure::Figure;
 use geometry::check_row;
 use rectangle::RectangleAnswer;
@@ -9,7 +7,11 @@ use refusal::Checked;
 use refusal::Refusal;
 use scanline::StyledRow;
 use scanline::StyledScanline;
-use shape_row::styled_row_of_shapes;
+use shape_row::crate_row_at;
+use shape_row::ellipse_row_at;
+use shape_row::w3c_row_at;
+use straight_row::StraightRow;
+use straight_row::straight_row;
 use style::Style;
 ghost use mathlib.Core.Path.{_≡_};
 ghost use Prim.Native.Nat.{_≤_};
@@ -17,6 +19,7 @@ ghost use Rattle.signed.specs.Signed.{Near};
 ghost use Rattle.geometry.specs.Bounds.{widePoint};
 ghost use Rattle.rectangle.specs.Calls.{rectangleOutcome};
 ghost use Rattle.figure.specs.Bounds.{wideOffset, OwnFigure};
+ghost use Rattle.straight_row.specs.StraightRow.{Told};
 ghost use Rattle.styled.specs.Styled.{styledRow};
 ghost use Rattle.styled.specs.Calls.{styledRowOutcome, styledRowCall, styledBoundingBoxCall};
 
@@ -26,14 +29,55 @@ pub enum StyledRowAnswer {
     Row(StyledScanline),
 }
 
-// The runs of the styled row at y, asked for alone.
+// The styled row at y of a box where no corner touches it; nothing is told of an ellipse.
+fn straight_row_of(figure: Figure, style: Style, y: i32) -> StraightRow
+    requires { ⌜ OwnFigure figure ⌝ }
+    requires { ⌜ style .«stroke_width» ≤ wideOffset ⌝ }
+    requires { ⌜ Near widePoint y ⌝ }
+    ensures { λ r. ⌜ Told r (styledRow figure style y) ⌝ }
+{
+    let outside = style.outside_stroke_width();
+    let inside = style.inside_stroke_width();
+    let b = match figure {
+        Figure::Ellipse(_) => {
+            return StraightRow::Unknown;
+        }
+        Figure::CrateBox(b) => b,
+        Figure::W3cBox(b) => b,
+    };
+    straight_row(b, outside, inside, y)
+}
+
+// The styled row at y by both areas.
+fn row_by_areas(figure: Figure, style: Style, y: i32) -> StyledRow
+    requires { ⌜ OwnFigure figure ⌝ }
+    requires { ⌜ style .«stroke_width» ≤ wideOffset ⌝ }
+    requires { ⌜ Near widePoint y ⌝ }
+    ensures { λ r. ⌜ r ≡ styledRow figure style y ⌝ }
+{
+    let outside = style.outside_stroke_width();
+    let outward = signed::from_u32(outside);
+    let inside = style.inside_stroke_width();
+    let inward = signed::sub(0, signed::from_u32(inside));
+    match figure {
+        Figure::Ellipse(rectangle) => ellipse_row_at(rectangle, outside, inside, y),
+        Figure::CrateBox(b) => crate_row_at(b, outward, inward, y),
+        Figure::W3cBox(b) => w3c_row_at(b, outward, inward, y),
+    }
+}
+
+// The runs of the styled row at y, asked for alone: a box's without its corners where none touches the
+// row. Every row that is asked for alone is found here.
 pub fn row_at(figure: Figure, style: Style, y: i32) -> StyledRow
     requires { ⌜ OwnFigure figure ⌝ }
     requires { ⌜ style .«stroke_width» ≤ wideOffset ⌝ }
     requires { ⌜ Near widePoint y ⌝ }
     ensures { λ r. ⌜ r ≡ styledRow figure style y ⌝ }
 {
-    styled_row_of_shapes(stroke_shape(figure, style), fill_shape(figure, style), y)
+    let StraightRow::Runs(runs) = straight_row_of(figure, style, y) else {
+        return row_by_areas(figure, style, y);
+    };
+    StyledRow::Runs(runs)
 }
 
 // The styled row at y. Refused by 1, 2, 3, 4 and 5.

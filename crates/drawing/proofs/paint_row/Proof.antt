@@ -1,12 +1,12 @@
 -- `drawing::paint_row` meets its contract: the row asked for is the definition's.
 -- Assumes nothing.
 use borrow.Author.Needs.{needs}
-use mathlib.Core.Path.{refl, ap, _∙_}
+use mathlib.Core.Path.{ap, _∙_}
 use lib.IntN.{ℤ}
 use mir.Facts.{toZ-ofZ}
 use Rattle.styled.specs.Styled.{styledRow}
 use Rattle.drawing.specs.Drawing.{paintBy}
-use Rattle.drawing.proofs.PaintRow.{paint-by-row, paint-by-figure}
+use Rattle.drawing.proofs.PaintRow.{paint-by-found}
 use Rattle.drawing.proofs.paint_row.Statement.{statement}
 use Rattle.drawing.proofs.paint_row.Tie as tie
 
@@ -33,8 +33,7 @@ returns c =
     let row = c .before .before .before .row-at .result in
     c .before .before .paint-row-on .ensures
     ∙ ap (λ (z : ℤ). paintBy (λ _. row) (a .style) (a .size .width) (a .size .height) z (a .canvas .now)) held
-    ∙ paint-by-row (styledRow (a .figure) (a .style)) (a .style) (a .size .width) (a .size .height) (a .canvas .now) row (a .y) (c .before .before .before .row-at .ensures ∙ ap (styledRow (a .figure) (a .style)) held)
-    ∙ paint-by-figure (styledRow (a .figure) (a .style)) (a .style) (a .size .width) (a .size .height) (a .canvas .now) (a .figure) (λ _. refl) (a .y)
+    ∙ paint-by-found (a .figure) (a .style) (a .size .width) (a .size .height) (a .canvas .now) row (a .y) (c .before .before .before .row-at .ensures ∙ ap (styledRow (a .figure) (a .style)) held)
 
 pub paint-row-spec : {M : Type 1} → statement M
 paint-row-spec = tie.close (tie.spec row-at-requires paint-row-on-requires same-length returns)

@@ -12,7 +12,9 @@ use Rattle.geometry.specs.Limits.{maxLayers}
 use Rattle.signed.proofs.Laws.{int}
 use Rattle.geometry.specs.Bounds.{wideSide}
 use Rattle.book.specs.Sheet.{paintRow}
-use Rattle.drawing.specs.Drawing.{styledFigure, drawing}
+use Rattle.styled.specs.Styled.{styledRow}
+use Rattle.drawing.specs.Drawing.{styledFigure, paintBy, drawing}
+use Rattle.drawing.proofs.PaintRow.{paint-by-found}
 use Rattle.layers.specs.declared.Layer.{Layer}
 use Rattle.layers.specs.Layers.{blankLayer}
 use Rattle.layers.proofs.LayerRules.{LayerWithin}
@@ -60,35 +62,41 @@ layer-at-requires c κs = (c .before .before .pre .0, place (c .before .before))
 size-of-requires : tie.Need-size-of-requires
 size-of-requires c κs = search needs
 
-paint-row-alone-requires : tie.Need-paint-row-alone-requires
-paint-row-alone-requires c κs =
+row-at-requires : tie.Need-row-at-requires
+row-at-requires c κs =
     let read = c .before .before .before .before .before in
-    let size = c .size-of .ensures in
+    let next = within read .next in
+    (within read .figure, (within read .stroke, rw (toZ-ofZ (next .fits)) next))
+
+paint-row-on-requires : tie.Need-paint-row-on-requires
+paint-row-on-requires c κs =
+    let read = c .before .before .before .before .before .before in
+    let size = c .before .before .size-of .ensures in
     let next = within read .next in (
       told (entry read) .size ∙ sym (ap₂ _*_ (size .0) (size .1)),
-      (rw (size .0) (narrow (entry read)), (within read .figure, (within read .stroke, rw (toZ-ofZ (next .fits)) next))),
+      (rw (size .0) (narrow (entry read)), rw (toZ-ofZ (next .fits)) next),
     )
 
 add-requires : tie.Need-add-requires
 add-requires c κs =
-    let next = within (c .before .before .before .before .before .before .before .before) .next in
+    let next = within (c .before .before .before .before .before .before .before .before .before) .next in
     rw (toZ-ofZ (next .fits)) (omega (arith, int))
 
-mul-t18 : tie.Need-mul-t18
-mul-t18 c = search needs
-
-add-t19 : tie.Need-add-t19
-add-t19 c = search needs
+mul-t19 : tie.Need-mul-t19
+mul-t19 c = search needs
 
 add-t20 : tie.Need-add-t20
 add-t20 c = search needs
 
-mul-t21 : tie.Need-mul-t21
-mul-t21 c = search needs
+add-t21 : tie.Need-add-t21
+add-t21 c = search needs
+
+mul-t22 : tie.Need-mul-t22
+mul-t22 c = search needs
 
 slice-set-from-numbers : tie.Need-slice-set-from-numbers
 slice-set-from-numbers c =
-    let e = c .before .before .before .before .before .before .before .before .before .before .before .before in
+    let e = c .before .before .before .before .before .before .before .before .before .before .before .before .before in
     let within = place e in
     let long = e .pre .0 in
     omega arith
@@ -105,15 +113,20 @@ written canvas W H l = paintRow drawing W H (styledFigure (l .figure) (l .style)
 
 returns : tie.Need-returns
 returns c =
-    let read = c .before .before .before .before .before .before .before .before .before in
+    let read = c .before .before .before .before .before .before .before .before .before .before in
     let e = entry read in
     let a = e .args in
-    let size = c .before .before .before .before .size-of .ensures in
+    let layer = read .layer-at .result in
+    let made = c .before .before .before .before .before .before .size-of .result in
+    let size = c .before .before .before .before .before .before .size-of .ensures in
+    let row = c .before .before .before .before .row-at in
     let held = toZ-ofZ (within read .next .fits) in (
       ap (λ (z : ℤ). set (a .numbers .now) (placeAt (a .layer) + nextRowAt) z)
           (toZ-ofZ (c .add .ensures .fits) ∙ c .add .ensures .is ∙ ap (λ (z : ℤ). z +ℤ pos 1) (held ∙ ap (λ (l : Layer). l .«next_row») (read .layer-at .ensures))),
-      c .before .before .before .paint-row-alone .ensures
-          ∙ ap (λ (y : ℤ). paintRow drawing (c .before .before .before .before .size-of .result .width) (c .before .before .before .before .size-of .result .height) (styledFigure (read .layer-at .result .figure) (read .layer-at .result .style)) y (a .canvas .now)) held
+      c .before .before .before .paint-row-on .ensures
+          ∙ ap (λ (z : ℤ). paintBy (λ _. row .result) (layer .style) (made .width) (made .height) z (a .canvas .now)) held
+          ∙ paint-by-found (layer .figure) (layer .style) (made .width) (made .height) (a .canvas .now) (row .result) (layer .«next_row»)
+          (row .ensures ∙ ap (styledRow (layer .figure) (layer .style)) held)
           ∙ (λ k. written (a .canvas .now) (size .0 k) (size .1 k) (chosen-is read k))
           ∙ sym (painted-canvas (sheet e) (sixteen (a .numbers .now)) (a .canvas .now) (a .layer) (e .pre .1)),
     )
@@ -124,12 +137,13 @@ paint-next-spec =
     (tie.spec
     layer-at-requires
     size-of-requires
-    paint-row-alone-requires
+    row-at-requires
+    paint-row-on-requires
     add-requires
-    mul-t18
-    add-t19
+    mul-t19
     add-t20
-    mul-t21
+    add-t21
+    mul-t22
     slice-set-from-numbers
     same-length
     same-length-2

@@ -1,4 +1,4 @@
--- `row_alone::w3c_row_at` meets its contract: each area is the box offset by the W3C rule, and confined.
+-- `shape_row::w3c_row_at` meets its contract: each area is the box offset by the W3C rule, and confined.
 -- Assumes nothing.
 use borrow.Author.Needs.{needs}
 use mathlib.Core.Path.{_≡_, sym, ap, subst, _∙_}
@@ -6,12 +6,11 @@ use lib.IntN.{ℤ}
 use mir.Facts.{toZ-ofZ}
 use Rattle.rounded_rectangle.specs.declared.RoundedRectangle.{RoundedRectangle}
 use Rattle.box_rules.specs.BoxRules.{confinedW3c, offsetBox}
-use Rattle.shape.specs.declared.Shape.the-variants.{RoundedBox}
 use Rattle.figure.specs.Bounds.{AreaBox}
 use Rattle.figure.proofs.Within.{confined-w3c-bounded}
-use Rattle.shape_row.specs.StyledRow.{styledRowOfShapes}
-use Rattle.row_alone.proofs.w3c_row_at.Statement.{statement}
-use Rattle.row_alone.proofs.w3c_row_at.Tie as tie
+use Rattle.shape_row.specs.StyledRow.{boxStyledRow}
+use Rattle.shape_row.proofs.w3c_row_at.Statement.{statement}
+use Rattle.shape_row.proofs.w3c_row_at.Tie as tie
 
 abbrev start : tie.After-confined-w3c2 → tie.Start
 start c = c .before .before .before .before
@@ -45,8 +44,8 @@ offset-w3c-box-requires-2 c κs = search needs
 confined-w3c-requires-2 : tie.Need-confined-w3c-requires-2
 confined-w3c-requires-2 c κs = search needs
 
-styled-row-of-shapes-requires : tie.Need-styled-row-of-shapes-requires
-styled-row-of-shapes-requires c κs =
+box-row-requires : tie.Need-box-row-requires
+box-row-requires c κs =
     let near = start c .pre .1 .1 in (
       subst AreaBox (sym (c .before .before .confined-w3c .ensures))
           (confined-w3c-bounded _ (c .before .before .before .offset-w3c-box .ensures .1)),
@@ -59,8 +58,8 @@ styled-row-of-shapes-requires c κs =
 
 returns : tie.Need-returns
 returns c =
-    c .styled-row-of-shapes .ensures
-    ∙ (λ i. styledRowOfShapes (RoundedBox (outer-is (c .before) i)) (RoundedBox (inner-is (c .before) i))
+    c .box-row .ensures
+    ∙ (λ i. boxStyledRow (outer-is (c .before) i) (inner-is (c .before) i)
     (toZ-ofZ (start (c .before) .pre .1 .1 .fits) i))
 
 pub w3c-row-at-spec : {M : Type 1} → statement M
@@ -71,5 +70,5 @@ w3c-row-at-spec =
     confined-w3c-requires
     offset-w3c-box-requires-2
     confined-w3c-requires-2
-    styled-row-of-shapes-requires
+    box-row-requires
     returns)

@@ -1,4 +1,4 @@
--- `row_alone::ellipse_row_at` meets its contract: the areas are the ellipse's rectangle offset outward and inward.
+-- `shape_row::ellipse_row_at` meets its contract: the areas are the ellipse's rectangle offset outward and inward.
 -- Assumes nothing.
 use borrow.Author.Needs.{needs}
 use mathlib.Core.Path.{_≡_, sym, ap, subst, _∙_}
@@ -7,12 +7,11 @@ use lib.IntN.{pos, negℤ}
 use mir.Facts.{toZ-ofZ}
 use Rattle.signed.proofs.Laws.{int, positive-of-opposite, negative-of-opposite}
 use Rattle.rectangle.specs.Rectangle.{offset as Rectangle·offset}
-use Rattle.shape.specs.declared.Shape.the-variants.{Ellipse}
+use Rattle.ellipse_styled.specs.EllipseStyled.{ellipseStyledRow}
 use Rattle.figure.specs.Bounds.{AreaRectangle}
 use Rattle.figure.proofs.Within.{own-area, area-bounded, offset-area}
-use Rattle.shape_row.specs.StyledRow.{styledRowOfShapes}
-use Rattle.row_alone.proofs.ellipse_row_at.Statement.{statement}
-use Rattle.row_alone.proofs.ellipse_row_at.Tie as tie
+use Rattle.shape_row.proofs.ellipse_row_at.Statement.{statement}
+use Rattle.shape_row.proofs.ellipse_row_at.Tie as tie
 
 -- the two areas' rectangles
 area-is : (c : tie.After-offset)
@@ -65,18 +64,21 @@ offset-requires-2 c κs =
           (arith, int, opposite c, positive-of-opposite (pos inside), negative-of-opposite (pos inside)),
     )
 
-styled-row-of-shapes-requires : tie.Need-styled-row-of-shapes-requires
-styled-row-of-shapes-requires c κs =
+ellipse-row-requires : tie.Need-ellipse-row-requires
+ellipse-row-requires c κs =
     let entry = start (c .before) in
     let small = entry .pre .1 .0 in
     let near = entry .pre .1 .1 in
     let inside = entry .args .inside in (
-      subst AreaRectangle (sym (area-is (c .before .before .before)))
-          (offset-area (entry .args .rectangle) (pos (entry .args .outside)) (entry .pre .0) (omega (arith, int))),
+      area-bounded _
+          (subst AreaRectangle (sym (area-is (c .before .before .before)))
+          (offset-area (entry .args .rectangle) (pos (entry .args .outside)) (entry .pre .0) (omega (arith, int)))),
       (
-        subst AreaRectangle (sym (inner-is c))
+        area-bounded _
+            (subst AreaRectangle (sym (inner-is c))
             (offset-area (entry .args .rectangle) (negℤ (pos inside)) (entry .pre .0)
-            (omega (arith, int, positive-of-opposite (pos inside), negative-of-opposite (pos inside)))),
+            (omega (arith, int, positive-of-opposite (pos inside), negative-of-opposite (pos inside)))))
+            .size,
         rw (toZ-ofZ (near .fits)) near,
       ),
     )
@@ -84,8 +86,8 @@ styled-row-of-shapes-requires c κs =
 returns : tie.Need-returns
 returns c =
     let after = c .before in
-    c .styled-row-of-shapes .ensures
-    ∙ (λ i. styledRowOfShapes (Ellipse (area-is (after .before .before .before) i)) (Ellipse (inner-is after i))
+    c .ellipse-row .ensures
+    ∙ (λ i. ellipseStyledRow (area-is (after .before .before .before) i) (inner-is after i .size)
     (toZ-ofZ (start (after .before) .pre .1 .1 .fits) i))
 
 pub ellipse-row-at-spec : {M : Type 1} → statement M
@@ -97,5 +99,5 @@ ellipse-row-at-spec =
     from-u32-requires-2
     sub-requires
     offset-requires-2
-    styled-row-of-shapes-requires
+    ellipse-row-requires
     returns)

@@ -1,4 +1,4 @@
--- `row_alone::row_by_areas` meets its contract: the figure's kind says how its areas are made, and both widths are at most the
+-- `styled::row_by_areas` meets its contract: the figure's kind says how its areas are made, and both widths are at most the
 -- stroke's.
 -- Assumes nothing.
 use borrow.Author.Needs.{needs}
@@ -11,16 +11,17 @@ use mir.Facts.{toZ-ofZ}
 use Prim.Native.Nat.{ℕ}
 use Rattle.signed.specs.Signed.{Near}
 use Rattle.signed.proofs.Laws.{int, positive-of-opposite, negative-of-opposite}
+use Rattle.rectangle.specs.Rectangle.{offset as Rectangle·offset}
+use Rattle.ellipse_styled.specs.EllipseStyled.{ellipseStyledRow}
 use Rattle.box_rules.specs.BoxRules.{confined, confinedW3c, offsetBox}
-use Rattle.shape.specs.declared.Shape.the-variants.{RoundedBox}
 use Rattle.figure.specs.declared.Figure.{Figure}
 use Rattle.figure.specs.Bounds.{wideOffset, OwnFigure}
-use Rattle.shape_row.specs.StyledRow.{styledRowOfShapes}
+use Rattle.shape_row.specs.StyledRow.{boxStyledRow, styledRowOfShapes}
 use Rattle.style.specs.Style.{outsideStrokeWidth, insideStrokeWidth}
 use Rattle.style.proofs.StrokeWidths.{outside-within-stroke, inside-within-stroke}
 use Rattle.styled.specs.Styled.{styledRow}
-use Rattle.row_alone.proofs.row_by_areas.Statement.{statement}
-use Rattle.row_alone.proofs.row_by_areas.Tie as tie
+use Rattle.styled.proofs.row_by_areas.Statement.{statement}
+use Rattle.styled.proofs.row_by_areas.Tie as tie
 
 -- ---- the two offsets
 abbrev start : tie.After-sub → tie.Start
@@ -88,33 +89,32 @@ sub-requires c κs =
     let is = c .from-u322 .ensures .is in
     omega (arith, int, c .before .inside-stroke-width .ensures, inside-within-stroke (begin .args .style))
 
-enum-told : tie.Need-enum-told
-enum-told c = search needs
-
-row-at-requires : tie.Need-row-at-requires
-row-at-requires c κs =
-    let begin = start (c .before .before) in
-    let near = begin .pre .1 .1 in
-    (begin .pre .0, (begin .pre .1 .0, rw (toZ-ofZ (near .fits)) near))
-
 enum-known-figure : tie.Need-enum-known-figure
 enum-known-figure c = search needs
 
-crate-row-at-requires : tie.Need-crate-row-at-requires
-crate-row-at-requires c κs =
+ellipse-row-at-requires : tie.Need-ellipse-row-at-requires
+ellipse-row-at-requires c κs =
     let after = c .before .before .before in
-    let near = start after .pre .1 .1 in
-    let out = outward-near after in
-    let inw = inward-near after in (
-      subst OwnFigure (c .before .figure .given .1) (start after .pre .0),
-      ((rw (toZ-ofZ (out .fits)) out, rw (toZ-ofZ (inw .fits)) inw), rw (toZ-ofZ (near .fits)) near),
+    let begin = start after in
+    let small = begin .pre .1 .0 in
+    let near = begin .pre .1 .1 in (
+      subst OwnFigure (c .before .figure .given .1) (begin .pre .0),
+      (
+        (
+          omega
+              (arith, after .before .before .before .before .outside-stroke-width .ensures, outside-within-stroke (begin .args .style)),
+          omega
+              (arith, after .before .before .inside-stroke-width .ensures, inside-within-stroke (begin .args .style)),
+        ),
+        rw (toZ-ofZ (near .fits)) near,
+      ),
     )
 
 enum-known-figure-2 : tie.Need-enum-known-figure-2
 enum-known-figure-2 c = search needs
 
-w3c-row-at-requires : tie.Need-w3c-row-at-requires
-w3c-row-at-requires c κs =
+crate-row-at-requires : tie.Need-crate-row-at-requires
+crate-row-at-requires c κs =
     let after = c .before .before .before in
     let near = start after .pre .1 .1 in
     let out = outward-near after in
@@ -123,10 +123,31 @@ w3c-row-at-requires c κs =
       ((rw (toZ-ofZ (out .fits)) out, rw (toZ-ofZ (inw .fits)) inw), rw (toZ-ofZ (near .fits)) near),
     )
 
+enum-known-figure-3 : tie.Need-enum-known-figure-3
+enum-known-figure-3 c = search needs
+
+w3c-row-at-requires : tie.Need-w3c-row-at-requires
+w3c-row-at-requires c κs =
+    let after = c .before .before .before in
+    let near = start after .pre .1 .1 in
+    let out = outward-near after in
+    let inw = inward-near after in (
+      subst OwnFigure (c .before .figure3 .given .1) (start after .pre .0),
+      ((rw (toZ-ofZ (out .fits)) out, rw (toZ-ofZ (inw .fits)) inw), rw (toZ-ofZ (near .fits)) near),
+    )
+
 returns : tie.Need-returns
+unfolding styledRowOfShapes
 returns c =
-    let begin = start (c .before .before .before) in
-    c .row-at .ensures ∙ ap (styledRow (begin .args .figure) (begin .args .style)) (toZ-ofZ (begin .pre .1 .1 .fits))
+    let after = c .before .before .before .before in
+    let figure = c .before .before .figure .given in
+    let args = start after .args in
+    c .ellipse-row-at .ensures
+    ∙ (λ i. ellipseStyledRow
+    (Rectangle·offset (figure .0 .0) (pos (after .before .before .before .before .outside-stroke-width .ensures i)))
+    (Rectangle·offset (figure .0 .0) (negℤ (pos (after .before .before .inside-stroke-width .ensures i))) .size)
+    (toZ-ofZ (start after .pre .1 .1 .fits) i))
+    ∙ ap (λ (f : Figure). styledRow f (args .style) (args .y)) (sym (figure .1))
 
 -- the offsets as the callee reads them
 outward-held : (c : tie.After-sub)
@@ -140,23 +161,22 @@ returns-2 : tie.Need-returns-2
 unfolding styledRowOfShapes
 returns-2 c =
     let after = c .before .before .before .before in
-    let figure = c .before .before .figure .given in
+    let figure = c .before .before .figure2 .given in
     let args = start after .args in
     c .crate-row-at .ensures
-    ∙ (λ i. styledRowOfShapes (RoundedBox (confined (offsetBox (figure .0 .0) (outward-held after i))))
-    (RoundedBox (confined (offsetBox (figure .0 .0) (inward-held after i)))) (toZ-ofZ (start after .pre .1 .1 .fits) i))
+    ∙ (λ i. boxStyledRow (confined (offsetBox (figure .0 .0) (outward-held after i)))
+    (confined (offsetBox (figure .0 .0) (inward-held after i))) (toZ-ofZ (start after .pre .1 .1 .fits) i))
     ∙ ap (λ (f : Figure). styledRow f (args .style) (args .y)) (sym (figure .1))
 
 returns-3 : tie.Need-returns-3
 unfolding styledRowOfShapes
 returns-3 c =
     let after = c .before .before .before .before in
-    let figure = c .before .before .figure2 .given in
+    let figure = c .before .before .figure3 .given in
     let args = start after .args in
     c .w3c-row-at .ensures
-    ∙ (λ i. styledRowOfShapes
-    (RoundedBox (confinedW3c (confinedW3c (offsetBox (confinedW3c (figure .0 .0)) (outward-held after i)))))
-    (RoundedBox (confinedW3c (confinedW3c (offsetBox (confinedW3c (figure .0 .0)) (inward-held after i)))))
+    ∙ (λ i. boxStyledRow (confinedW3c (confinedW3c (offsetBox (confinedW3c (figure .0 .0)) (outward-held after i))))
+    (confinedW3c (confinedW3c (offsetBox (confinedW3c (figure .0 .0)) (inward-held after i))))
     (toZ-ofZ (start after .pre .1 .1 .fits) i))
     ∙ ap (λ (f : Figure). styledRow f (args .style) (args .y)) (sym (figure .1))
 
@@ -169,11 +189,11 @@ row-by-areas-spec =
     inside-stroke-width-requires
     from-u32-requires-2
     sub-requires
-    enum-told
-    row-at-requires
     enum-known-figure
-    crate-row-at-requires
+    ellipse-row-at-requires
     enum-known-figure-2
+    crate-row-at-requires
+    enum-known-figure-3
     w3c-row-at-requires
     returns
     returns-2

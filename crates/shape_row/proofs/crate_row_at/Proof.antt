@@ -1,15 +1,14 @@
--- `row_alone::crate_row_at` meets its contract: each area is the box offset and confined.
+-- `shape_row::crate_row_at` meets its contract: each area is the box offset and confined.
 -- Assumes nothing.
 use borrow.Author.Needs.{needs}
 use mathlib.Core.Path.{_≡_, sym, ap, subst, _∙_}
 use mir.Facts.{toZ-ofZ}
 use Rattle.box_rules.specs.BoxRules.{confined, offsetBox}
-use Rattle.shape.specs.declared.Shape.the-variants.{RoundedBox}
 use Rattle.figure.specs.Bounds.{AreaBox}
 use Rattle.figure.proofs.Within.{offset-box-bounded, confined-bounded}
-use Rattle.shape_row.specs.StyledRow.{styledRowOfShapes}
-use Rattle.row_alone.proofs.crate_row_at.Statement.{statement}
-use Rattle.row_alone.proofs.crate_row_at.Tie as tie
+use Rattle.shape_row.specs.StyledRow.{boxStyledRow}
+use Rattle.shape_row.proofs.crate_row_at.Statement.{statement}
+use Rattle.shape_row.proofs.crate_row_at.Tie as tie
 
 -- the box offset outward and inward
 outer-is : (c : tie.After-offset-box) → c .offset-box .result ≡ offsetBox (c .before .args .b) (c .before .args .outward)
@@ -43,8 +42,8 @@ offset-box-requires-2 c κs = search needs
 confined-requires-2 : tie.Need-confined-requires-2
 confined-requires-2 c κs = inner-bounded c
 
-styled-row-of-shapes-requires : tie.Need-styled-row-of-shapes-requires
-styled-row-of-shapes-requires c κs =
+box-row-requires : tie.Need-box-row-requires
+box-row-requires c κs =
     let near = start (c .before) .pre .1 .1 in (
       subst AreaBox (sym (c .before .before .confined .ensures))
           (confined-bounded _ (outer-bounded (c .before .before .before))),
@@ -58,11 +57,10 @@ styled-row-of-shapes-requires c κs =
 returns : tie.Need-returns
 returns c =
     let made = c .before in
-    c .styled-row-of-shapes .ensures
+    c .box-row .ensures
     ∙ (λ i.
-    styledRowOfShapes
-    (RoundedBox ((made .before .before .confined .ensures ∙ ap confined (outer-is (made .before .before .before))) i))
-    (RoundedBox ((made .confined2 .ensures ∙ ap confined (inner-is (made .before))) i))
+    boxStyledRow ((made .before .before .confined .ensures ∙ ap confined (outer-is (made .before .before .before))) i)
+    ((made .confined2 .ensures ∙ ap confined (inner-is (made .before))) i)
     (toZ-ofZ (start (made .before) .pre .1 .1 .fits) i))
 
 pub crate-row-at-spec : {M : Type 1} → statement M
@@ -73,5 +71,5 @@ crate-row-at-spec =
     confined-requires
     offset-box-requires-2
     confined-requires-2
-    styled-row-of-shapes-requires
+    box-row-requires
     returns)
