@@ -19,6 +19,7 @@ ghost use Rattle.drawing.specs.Drawing.{styledFigure, drawing};
 ghost use Rattle.paint_whole.specs.Rows.{visibleRows};
 
 // The rows of a stroke area, by its shape: those that `drawing::stroke_rows` finds from the figure.
+// The shape is at hand here; to offset the figure for its rows alone takes longer (docs/SPEED.md).
 fn shape_rows(shape: Shape) -> StrokeRows
     requires { ⌜ BoundedShape shape ⌝ }
     ensures { λ r. ⌜ r ≡ rowsOfShape shape ⌝ }

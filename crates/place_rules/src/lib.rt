@@ -168,7 +168,8 @@ fn is_wide(width: u32, height: u32) -> bool
 }
 
 // How many rows the stroke area of an ellipse or of a box has. An ellipse that is at least as wide as
-// high has rows, and needs no test.
+// high has rows, and needs no test. `drawing::stroke_rows` says the same of a figure; here none is made,
+// since every paint call asks for the rows of every place.
 fn area_rows(ellipse: bool, width: u32, height: u32, outside: u32) -> u32
     requires { ⌜ (width ≤ wideOwnSide) × (height ≤ wideOwnSide) × (outside ≤ wideOffset) ⌝ }
     ensures { λ r. ⌜ r ≡ strokeCount ellipse (width + 2 * outside) (height + 2 * outside) ⌝ }
