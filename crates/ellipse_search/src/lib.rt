@@ -97,7 +97,7 @@ fn walk_right(test: EllipseContains, width: u32, y: u64, start: u32, nearest: u3
 
 // The same as `first_inside`, looked for from a column that the caller supposes near: in a scan the
 // row before gives it. The answer does not depend on it.
-pub fn next_inside(
+fn next_inside(
     test: EllipseContains,
     width: u32,
     y: u64,

@@ -37,14 +37,6 @@ use Rattle.place_rules.specs.PlaceRules.{rowsAbove, strokeCount, outside
 use Rattle.place_rules.proofs.Limits.{layer-numbers, PlaceLimits}
 
 -- ---- sums
-pub stroke-count-le : (ellipse : Bool) (w h : ℕ) → strokeCount ellipse w h ≤ h
-stroke-count-le false w h = omega arith
-stroke-count-le true w h = by-rows (firstRowInside w h)
-  where
-    by-rows : (t : Bool) → cond t h 0 ≤ h
-    by-rows true = omega arith
-    by-rows false = omega arith
-
 pub rows-above-le : (h k : ℕ) → rowsAbove h k ≤ k
 rows-above-le h k = by-height (eqb h 0)
   where

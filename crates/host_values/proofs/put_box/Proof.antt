@@ -1,8 +1,8 @@
 -- `host_values::put_box` meets its contract: the numbers before the radii and then the radii, each put as they were made.
 -- Assumes nothing.
 use mathlib.Core.Path.{ap, _∙_}
-use mathlib.Core.List.{List, [], _∷_}
-use lib.IntN.{ℤ, pos}
+use mathlib.Core.List.{[], _∷_}
+use lib.IntN.{pos}
 use lib.ListN.{replicate}
 use lib.Seq.{sets}
 use Rattle.host_answers.proofs.Telling.{tells-put}
