@@ -97,14 +97,7 @@ fn walk_right(test: EllipseContains, width: u32, y: u64, start: u32, nearest: u3
 
 // The same as `first_inside`, looked for from a column that the caller supposes near: in a scan the
 // row before gives it. The answer does not depend on it.
-fn next_inside(
-    test: EllipseContains,
-    width: u32,
-    y: u64,
-    from: u32,
-    count: u32,
-    hint: u32,
-) -> Place
+fn next_inside(test: EllipseContains, width: u32, y: u64, from: u32, count: u32, hint: u32) -> Place
     requires { ⌜ SmallWeights test ⌝ }
     requires { ⌜ (0 < width) × (width ≤ wideSide) × (y ≤ wideDistance) ⌝ }
     requires { ⌜ (from ≤ (width - 1) / 2) × (count ≤ wideSide) ⌝ }
