@@ -108,7 +108,7 @@ pub struct Record {
     pub places: Vec<(Figure, Style, i64)>,
 }
 
-/// The sheet that the numbers are, as crate sheet_record reads it: unused places are not looked at, and numbers that hold something
+/// The sheet that the numbers are, as crate host_sheet_record reads it: unused places are not looked at, and numbers that hold something
 /// else than records are a sheet that says 17 layers.
 pub fn read_sheet(n: &[i32]) -> Option<Record> {
     if n.len() != SHEET_LENGTH {

@@ -9,19 +9,7 @@ cd "$(dirname "$0")/.."
 # The library that is tested is built here.
 unset WUNQABER_LIBRARY
 
-# The prover writes some five thousand small files for each check and removes them again. In memory this takes a second less for each
-# crate and each edit; a folder there must have room and let programs run.
-memory=/dev/shm
-if [ -z "${TMPDIR:-}" ] && [ -d "$memory" ] && [ -w "$memory" ]; then
-    free=$(df -Pk "$memory" | awk 'NR == 2 { print $4 }')
-    trial=$(mktemp "$memory/trial.XXXXXX")
-    printf '#!/bin/sh\nexit 0\n' > "$trial"
-    chmod +x "$trial"
-    if [ "${free:-0}" -ge 2097152 ] && "$trial" 2> /dev/null; then
-        export TMPDIR="$memory"
-    fi
-    rm -f "$trial"
-fi
+. tests/memory.sh
 
 work=$(mktemp -d)
 # A test that still runs beside others ends before its files go.
@@ -45,8 +33,9 @@ said() { # its name
     [ "$(cat "$work/$1.status")" = 0 ] || fail "tests/$1 failed"
 }
 
-# Which public functions promise less than an equation is a list, and complete.
+# Which public functions promise less than an equation is a list, and complete; and nothing stands here that nobody uses.
 python3 tests/promises.py || fail 'tests/promises.py failed'
+python3 tests/unused.py || fail 'tests/unused.py failed'
 
 # netpbm's tools, installed where they are missing, read stored files: nothing that is proved here.
 beside netpbm.sh

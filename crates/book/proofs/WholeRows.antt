@@ -112,7 +112,8 @@ module _ (d : Drawing) (item : d .Item) (W H : ℕ) where
   unfolding overpaintRows
   overpaint-rows-length zero y canvas = refl
   overpaint-rows-length (suc n) y canvas =
-      simp (length-append, d .over-length item (pos y) (take W canvas), overpaint-rows-length n (suc y) (drop W canvas)) (take-drop-length W canvas)
+      simp (length-append, d .over-length item (pos y) (take W canvas), overpaint-rows-length n (suc y) (drop W canvas))
+      (take-drop-length W canvas)
     where
       take-drop-length : (n : ℕ) (l : List ℕ) → length (take n l) + length (drop n l) ≡ length l
       take-drop-length n l = sym (length-append (take n l) (drop n l)) ∙ ap length (take-append-drop n l)

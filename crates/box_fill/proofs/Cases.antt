@@ -6,7 +6,7 @@ use mathlib.Core.List.{List, [], _∷_, map}
 use Prim.Native.Nat.{ℕ}
 use lib.IntN.{ℤ, pos, negsuc}
 use Rattle.geometry.specs.declared.Size.{Size}
-use Rattle.range.specs.declared.Range.{Range}
+use Rattle.geometry_range.specs.declared.Range.{Range}
 use Rattle.scanline.specs.Columns.{firstColumn, lastColumn}
 use Rattle.ellipse.specs.Ellipse.{center2x, fromCenter2x, threshold, inside, insideAbout}
 use Rattle.corner_radii.specs.declared.CornerRadii.{CornerRadii}
@@ -93,5 +93,6 @@ cases =
     ∷ []
 
 cases-hold : map (λ c. fillRun (c .area) (c .y) (c .stroke)) cases ≡ map (λ c. c .gives) cases
-unfolding fillRun firstColumn lastColumn contains insideTopLeft insideTopRight insideBottomRight insideBottomLeft insideAbout inside center2x fromCenter2x threshold
+unfolding fillRun firstColumn lastColumn contains insideTopLeft insideTopRight insideBottomRight insideBottomLeft insideAbout inside
+    center2x fromCenter2x threshold
 cases-hold = refl

@@ -9,10 +9,10 @@ use mir.Syntax.{w32}
 use mir.Val.{SFits, toZ, ofZ}
 use mir.Facts.{toZ-ofZ}
 use Rattle.geometry.specs.declared.Size.{Size}
-use Rattle.range.specs.declared.Range.{Range}
-use Rattle.range.specs.Range.{contains as Range·contains}
+use Rattle.geometry_range.specs.declared.Range.{Range}
+use Rattle.geometry_range.specs.Range.{contains as Range·contains}
 use Rattle.rectangle.specs.Rectangle.{rows}
-use Rattle.range.proofs.Fields.{range-by-fields}
+use Rattle.geometry_range.proofs.Fields.{range-by-fields}
 use Rattle.scanline.specs.declared.Place.the-variants.{At, Nowhere}
 use Rattle.scanline.specs.Places.{Placed}
 use Rattle.scanline.proofs.Find.{FoundAt, find-none, found-at, found-none}
@@ -77,7 +77,8 @@ module _ {c : CornerRadii} {s : Size} {left : ℤ} {dy : ℕ} {run : Range} {fro
   first-placed : firstContained c s dy from to ≡ firstContained c s dy (placeIn left w (run .start)) (placeIn left w (run .end))
   first-placed i = firstContained c s dy (l .from-is i) (l .to-is i)
 
-  last-placed : lastContained c s dy (w - to) (w - from) ≡ lastContained c s dy (w - placeIn left w (run .end)) (w - placeIn left w (run .start))
+  last-placed : lastContained c s dy (w - to) (w - from) ≡ lastContained c s dy (w - placeIn left w (run .end))
+      (w - placeIn left w (run .start))
   last-placed i = lastContained c s dy (w - l .to-is i) (w - l .from-is i)
 
   -- none from the left: none from the right
@@ -87,7 +88,8 @@ module _ {c : CornerRadii} {s : Size} {left : ℤ} {dy : ℕ} {run : Range} {fro
         sym (find-none (containedFromRight c s dy) _ _
         (λ k tk kf.
         let m = to-left w from to k (l .to-le) tk kf in
-        found-none (containedFromLeft c s dy) (to - from) from (sym (e ∙ first-whole)) (w - 1 - k) (m .i-from) (within (m .i-from) (m .i-to))))
+        found-none (containedFromLeft c s dy) (to - from) from (sym (e ∙ first-whole)) (w - 1 - k) (m .i-from)
+        (within (m .i-from) (m .i-to))))
       where
         within : {i : ℕ} → from ≤ i → i < to → i < from + (to - from)
         within {i} fi it = omega arith
@@ -95,7 +97,8 @@ module _ {c : CornerRadii} {s : Size} {left : ℤ} {dy : ℕ} {run : Range} {fro
     pub fill-none : run ≡ rowFill c s left dy run
     unfolding rowFill
     fill-none =
-        range-by-fields (ap (startElse left (run .start)) (e ∙ first-whole ∙ first-placed)) (ap (endElse left w (run .end)) (last-nowhere ∙ last-placed))
+        range-by-fields (ap (startElse left (run .start)) (e ∙ first-whole ∙ first-placed))
+        (ap (endElse left w (run .end)) (last-nowhere ∙ last-placed))
 
   -- one from the left: the search from the right stops there at the latest
   module _ (first : ℕ) (e : At first ≡ firstContained c s dy (max from n) to) where
@@ -134,7 +137,8 @@ module _ {c : CornerRadii} {s : Size} {left : ℤ} {dy : ℕ} {run : Range} {fro
         pub fill-found : record { start = left +ℤ pos first; end = left +ℤ pos w -ℤ pos last } ≡ rowFill c s left dy run
         unfolding rowFill
         fill-found =
-            range-by-fields (ap (startElse left (run .start)) (e ∙ first-whole ∙ first-placed)) (ap (endElse left w (run .end)) (last-whole ∙ last-placed))
+            range-by-fields (ap (startElse left (run .start)) (e ∙ first-whole ∙ first-placed))
+            (ap (endElse left w (run .end)) (last-whole ∙ last-placed))
 
 -- the place of a column where the machine reads both numbers
 pub place-read : (first v : ℤ) (n k : ℕ) → SFits w32 first → SFits w32 v

@@ -3,8 +3,8 @@
 -- Assumes nothing.
 use mathlib.Core.Bool.{cond}
 use lib.IntN.{ℤ}
-use Rattle.range.specs.declared.Range.{Range}
-use Rattle.range.specs.Range.{contains as Range·contains}
+use Rattle.geometry_range.specs.declared.Range.{Range}
+use Rattle.geometry_range.specs.Range.{contains as Range·contains}
 use Rattle.rectangle.specs.Rectangle.{rows}
 use Rattle.scanline.specs.Columns.{firstColumn, lastColumn, columnElse, columnAfterElse}
 use Rattle.scanline.specs.Points.{runLength}

@@ -6,7 +6,7 @@ use Prim.Native.Nat.{ℕ, _-_, _*_, min}
 use lib.IntN.{ℤ, pos, _+ℤ_, _-ℤ_}
 use Rattle.signed.specs.Signed.{Near, floor0}
 use Rattle.geometry.specs.declared.Size.{Size}
-use Rattle.range.specs.declared.Range.{Range}
+use Rattle.geometry_range.specs.declared.Range.{Range}
 use Rattle.rectangle.specs.declared.Rectangle.{Rectangle}
 use Rattle.geometry.specs.Bounds.{widePoint, PointNear}
 use Rattle.scanline.specs.declared.Place.{Place}

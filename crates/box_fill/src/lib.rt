@@ -5,7 +5,7 @@ use box_columns::first_contained;
 use box_columns::last_contained;
 use box_columns::left_skip;
 use box_columns::right_skip;
-use range::Range;
+use geometry_range::Range;
 use rounded_rectangle::RoundedRectangleContains;
 use scanline::Place;
 ghost use mathlib.Core.Path.{_≡_};

@@ -10,8 +10,8 @@ use lib.ListN.{length, getD}
 use lib.Seq.{ext-getD}
 use lib.Signed.{leZ, ltZ}
 use Rattle.signed.proofs.Laws.{int}
-use Rattle.range.specs.declared.Range.{Range}
-use Rattle.range.specs.Range.{contains}
+use Rattle.geometry_range.specs.declared.Range.{Range}
+use Rattle.geometry_range.specs.Range.{contains}
 use Rattle.scanline.specs.declared.StyledRuns.{StyledRuns}
 use Rattle.style.specs.declared.Paint.{Paint}
 use Rattle.style.specs.declared.Paint.the-variants.{Absent, Colour}
@@ -77,7 +77,8 @@ module _ (runs : StyledRuns) (fill : Paint) (nested : Nested runs fill) (x : ℤ
   fill-holds : contains (runs .fill) x ≡ true → contains (runs .«stroke_right») x ≡ false
   fill-holds =
       let after = nested .right-after in
-      fill-or-right (leZ (runs .fill .start) x) (ltZ x (runs .fill .end)) (leZ (runs .«stroke_right» .start) x) (ltZ x (runs .«stroke_right» .end))
+      fill-or-right (leZ (runs .fill .start) x) (ltZ x (runs .fill .end)) (leZ (runs .«stroke_right» .start) x)
+      (ltZ x (runs .«stroke_right» .end))
       (λ e. omega (arith, int))
 
   fill-lacks : contains (runs .fill) x ≡ false
@@ -87,7 +88,8 @@ module _ (runs : StyledRuns) (fill : Paint) (nested : Nested runs fill) (x : ℤ
       let right-reaches = nested .right-reaches in
       let left-within = nested .left-within in
       let right-within = nested .right-within in
-      beside-fill (leZ (runs .«stroke_left» .start) x) (ltZ x (runs .«stroke_left» .end)) (leZ (runs .fill .start) x) (ltZ x (runs .fill .end))
+      beside-fill (leZ (runs .«stroke_left» .start) x) (ltZ x (runs .«stroke_left» .end)) (leZ (runs .fill .start) x)
+      (ltZ x (runs .fill .end))
       (leZ (runs .«stroke_right» .start) x) (ltZ x (runs .«stroke_right» .end))
       (λ e. omega (arith, int)) (λ e. omega (arith, int)) (λ e. omega (arith, int)) (λ e. omega (arith, int))
 

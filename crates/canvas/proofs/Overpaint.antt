@@ -9,8 +9,8 @@ use lib.IntN.{ℤ, pos}
 use lib.ListN.{length, getD}
 use lib.Signed.{leZ, ltZ}
 use Rattle.signed.proofs.Laws.{ltZ-true, lt-leZ}
-use Rattle.range.specs.declared.Range.{Range}
-use Rattle.range.specs.Range.{contains}
+use Rattle.geometry_range.specs.declared.Range.{Range}
+use Rattle.geometry_range.specs.Range.{contains}
 use Rattle.scanline.specs.declared.StyledRuns.{StyledRuns}
 use Rattle.scanline.specs.declared.StyledRow.{StyledRow}
 use Rattle.scanline.specs.declared.StyledRow.the-variants.{Runs, NoRow}

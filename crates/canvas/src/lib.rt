@@ -3,10 +3,13 @@
 // stroke, fill, right stroke. A canvas is lent bytes, so there is no `DrawTarget`.
 use canvas_run::clip;
 use canvas_run::paint_run;
-use range::Range;
+use geometry_range::Range;
 use scanline::StyledRuns;
 use style::Paint;
 use style::Style;
+
+pub mod row;
+
 ghost use mathlib.Core.Path.{_≡_};
 ghost use mathlib.Core.Bool.{true};
 ghost use mathlib.Core.List.{List};

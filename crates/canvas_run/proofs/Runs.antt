@@ -13,8 +13,8 @@ use lib.ListN.{length, take, drop, getD, replicate, length-replicate, getD-repli
 use lib.Seq.{ext-getD}
 use lib.Signed.{leZ, ltZ}
 use Rattle.signed.proofs.Laws.{le-leZ, lt-leZ, lt-ltZ, le-ltZ}
-use Rattle.range.specs.declared.Range.{Range}
-use Rattle.range.specs.Range.{contains}
+use Rattle.geometry_range.specs.declared.Range.{Range}
+use Rattle.geometry_range.specs.Range.{contains}
 use Rattle.style.specs.declared.Paint.{Paint}
 use Rattle.style.specs.declared.Paint.the-variants.{Absent, Colour}
 use Rattle.canvas_run.specs.declared.Columns.{Columns}

@@ -4,7 +4,7 @@ use mathlib.Core.List.{List, _++_}
 use Prim.Native.Nat.{ℕ, _-_, min}
 use lib.ListN.{take, drop, replicate}
 use Rattle.signed.specs.Signed.{floor0}
-use Rattle.range.specs.declared.Range.{Range}
+use Rattle.geometry_range.specs.declared.Range.{Range}
 use Rattle.canvas_run.specs.declared.Columns.{Columns}
 
 -- the columns of a run within 0..width; none of them, from and to alike, where it holds none

@@ -5,8 +5,8 @@ use mathlib.Core.Bool.{cond}
 use mathlib.Core.List.{List, [], _∷_}
 use Prim.Native.Nat.{ℕ, suc}
 use lib.IntN.{pos}
-use Rattle.range.specs.declared.Range.{Range}
-use Rattle.range.specs.Range.{contains}
+use Rattle.geometry_range.specs.declared.Range.{Range}
+use Rattle.geometry_range.specs.Range.{contains}
 use Rattle.style.specs.declared.Paint.{Paint}
 use Rattle.style.specs.declared.Paint.the-variants.{Absent, Colour}
 

@@ -1,6 +1,6 @@
 // One run painted onto a row of a canvas, as far as the row goes: what the pixel iterators of
 // embedded-graphics 0.8.2 `ellipse/styled.rs` and `rounded_rectangle/styled.rs` do pixel by pixel.
-use range::Range;
+use geometry_range::Range;
 use style::Paint;
 ghost use mathlib.Core.Path.{_≡_};
 ghost use Prim.Native.Nat.{_≤_};

@@ -8,7 +8,7 @@ use lib.ListN.{length}
 use Rattle.rectangle.specs.declared.Rectangle.{Rectangle}
 use Rattle.rectangle.specs.Calls.{rectangleValues}
 use Rattle.ellipse.specs.Ellipse.{threshold}
-use Rattle.ellipse_points.specs.EllipsePoints.{isRun, row as Ellipse·row, rowCount}
+use Rattle.ellipse_rows.specs.EllipsePoints.{isRun, row as Ellipse·row, rowCount}
 use Rattle.corner_radii.specs.CornerRadii.{equalRadii}
 use Rattle.rounded_rectangle.specs.declared.RoundedRectangle.{RoundedRectangle}
 use Rattle.style.specs.declared.Paint.the-variants.{Absent}

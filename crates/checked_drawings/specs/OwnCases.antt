@@ -40,10 +40,12 @@ ownCases =
     case (entries (points (Ellipse plus)))
     (negsuc 0 ∷ negsuc 1 ∷ negsuc 1 ∷ negsuc 0 ∷ negsuc 0 ∷ negsuc 0 ∷ pos 0 ∷ negsuc 0 ∷ negsuc 0 ∷ pos 0 ∷ [])
     -- its test at a corner and beside it
-    ∷ case (flag (contains (Ellipse plus) (point (negsuc 1) (negsuc 1))) ∷ flag (contains (Ellipse plus) (point (negsuc 1) (negsuc 0))) ∷ [])
+    ∷ case (flag (contains (Ellipse plus) (point (negsuc 1) (negsuc 1)))
+    ∷ flag (contains (Ellipse plus) (point (negsuc 1) (negsuc 0))) ∷ [])
     (numbers (0 ∷ 1 ∷ []))
     -- where the top quadrants of case f overlap, the left one decides
-    ∷ case (flag (contains (CrateBox (box 10 100 9 60)) (point (pos 6) (pos 0))) ∷ flag (contains (CrateBox (box 10 100 9 60)) (point (pos 3) (pos 0))) ∷ [])
+    ∷ case (flag (contains (CrateBox (box 10 100 9 60)) (point (pos 6) (pos 0)))
+    ∷ flag (contains (CrateBox (box 10 100 9 60)) (point (pos 3) (pos 0))) ∷ [])
     (numbers (1 ∷ 0 ∷ []))
     -- rows 0, 1 and 4 of a circle 4 by 4 with a stroke of 1 inside
     ∷ case (styledRowValues (pos 0) (styledRow (Ellipse (rectangle 4 4)) (stroked 1 Inside) (pos 0)))

@@ -4,8 +4,8 @@ use Prim.Native.Nat.{ℕ, _*_, _/_}
 use lib.IntN.{ℤ, pos, _+ℤ_}
 use Rattle.signed.specs.Signed.{floor0}
 use Rattle.geometry.specs.declared.Size.{Size}
-use Rattle.edge.specs.declared.Edge.{Edge}
-use Rattle.edge.specs.Edge.{S, L}
+use Rattle.corner.specs.declared.edge.Edge.{Edge}
+use Rattle.corner.specs.Edge.{S, L}
 
 -- ---- 'Rectangle and offset'
 -- a radius number offset by k: k added, never below 0

@@ -1,2 +1,4 @@
 pub mod Bounds
 pub mod Corner
+pub mod EdgeBounds
+pub mod Edge

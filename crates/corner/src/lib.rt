@@ -1,13 +1,16 @@
 // What is done at one corner of a box, for the two rules that confine radii and for the offset, after
 // embedded-graphics 0.8.2 `rounded_rectangle/corner_radii.rs` and `rounded_rectangle/mod.rs`
 // (`OffsetOutline`). `corner_radii` does it at all four corners.
-use edge::Edge;
+use crate::edge::Edge;
 use geometry::Size;
+
+pub mod edge;
+
 ghost use mathlib.Core.Path.{_≡_};
 ghost use Prim.Native.Nat.{_<_, _≤_};
 ghost use Rattle.signed.specs.Signed.{Near};
 ghost use Rattle.geometry.specs.Bounds.{wideSide, SizeUpTo};
-ghost use Rattle.edge.specs.Bounds.{wideRadius, BoundedEdge};
+ghost use Rattle.corner.specs.EdgeBounds.{wideRadius, BoundedEdge};
 ghost use Rattle.corner.specs.Corner.{offsetRadius, offsetCorner, scaledCorner};
 
 // A corner's radii times L / S, rounded down.

@@ -12,8 +12,8 @@ use Rattle.signed.specs.Signed.{Near}
 use Rattle.geometry.specs.declared.Size.{Size}
 use Rattle.geometry.specs.Bounds.{SizeUpTo}
 use Rattle.corner_radii.specs.declared.CornerRadii.{CornerRadii}
-use Rattle.edge.specs.declared.Edge.{Edge}
-use Rattle.edge.specs.Edge.{S, L, over, mostOver, tightest}
+use Rattle.corner.specs.declared.edge.Edge.{Edge}
+use Rattle.corner.specs.Edge.{S, L, over, mostOver, tightest}
 use Rattle.corner.specs.Corner.{offsetRadius, offsetCorner, scaledCorner}
 use Rattle.corner.proofs.Offset.{offset-radius-by-parts}
 use Rattle.corner_radii.specs.Bounds.{RadiiUpTo, SizeWithin, RadiiWithin}

@@ -9,9 +9,9 @@ use Rattle.geometry.specs.declared.Size.{Size}
 use Rattle.refusal.specs.declared.Refusal.the-variants.{Radius}
 use Rattle.refusal.specs.declared.Checked.the-variants.{Passed, Refused}
 use Rattle.corner_radii.specs.declared.CornerRadii.{CornerRadii}
-use Rattle.edge.specs.declared.Edge.{Edge}
-use Rattle.edge.specs.declared.Edges.{Edges}
-use Rattle.edge.specs.Edge.{overlap, furtherOver, mostOver, tighter, tightest, someOver}
+use Rattle.corner.specs.declared.edge.Edge.{Edge}
+use Rattle.corner.specs.declared.edge.Edges.{Edges}
+use Rattle.corner.specs.Edge.{overlap, furtherOver, mostOver, tighter, tightest, someOver}
 use Rattle.corner.specs.Corner.{offsetRadius, offsetCorner, scaledCorner}
 use Rattle.corner_radii.specs.CornerRadii.{equalRadii, radiusCheck, radiiCheck, offset, reduced, confine, scaled, confineW3c}
 

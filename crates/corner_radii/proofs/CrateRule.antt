@@ -3,8 +3,8 @@
 use mathlib.Core.Path.{_≡_}
 use borrow.Author.Tests.{le-ltb}
 use Rattle.geometry.specs.declared.Size.{Size}
-use Rattle.edge.specs.Edge.{FitsEdges}
-use Rattle.edge.proofs.MostOver.{most-over-fits}
+use Rattle.corner.specs.Edge.{FitsEdges}
+use Rattle.corner.proofs.MostOver.{most-over-fits}
 use Rattle.corner_radii.specs.declared.CornerRadii.{CornerRadii}
 use Rattle.corner_radii.specs.CornerRadii.{edges, reduced, confine}
 

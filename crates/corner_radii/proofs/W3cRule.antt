@@ -7,9 +7,9 @@ use native.Mathlib.Nat.{mul-comm, add-mul, le-of-mul-le-mul-right, div-mul-le-se
 use native.Mathlib.Omega.{arith}
 use borrow.Author.Tests.{ltb-true}
 use Rattle.geometry.specs.declared.Size.{Size}
-use Rattle.edge.specs.Edge.{S, L, over, tightest, someOver, FitsEdges}
+use Rattle.corner.specs.Edge.{S, L, over, tightest, someOver, FitsEdges}
 use Rattle.corner.specs.Corner.{scaledCorner}
-use Rattle.edge.proofs.Tightest.{tightest-smallest, none-over-fits, fits-none-over, some-over-by-tightest}
+use Rattle.corner.proofs.Tightest.{tightest-smallest, none-over-fits, fits-none-over, some-over-by-tightest}
 use Rattle.corner_radii.specs.declared.CornerRadii.{CornerRadii}
 use Rattle.corner_radii.specs.CornerRadii.{edges, scaled, reduced, confineW3c}
 

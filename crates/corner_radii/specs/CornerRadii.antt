@@ -9,9 +9,9 @@ use Rattle.refusal.specs.declared.Checked.{Checked}
 use Rattle.refusal.specs.declared.Refusal.the-variants.{Radius}
 use Rattle.refusal.specs.Refusal.{refuseIf, orElse, above}
 use Rattle.geometry.specs.Limits.{maxRadius}
-use Rattle.edge.specs.declared.Edge.{Edge}
-use Rattle.edge.specs.declared.Edges.{Edges}
-use Rattle.edge.specs.Edge.{over, mostOver, tightest, someOver}
+use Rattle.corner.specs.declared.edge.Edge.{Edge}
+use Rattle.corner.specs.declared.edge.Edges.{Edges}
+use Rattle.corner.specs.Edge.{over, mostOver, tightest, someOver}
 use Rattle.corner.specs.Corner.{offsetCorner, scaledCorner}
 use Rattle.corner_radii.specs.declared.CornerRadii.{CornerRadii}
 

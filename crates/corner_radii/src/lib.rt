@@ -3,10 +3,10 @@
 // (`OffsetOutline`) for the offset. The W3C rule is not in the source. Each rule finds the edge that
 // decides and scales by it; the Rust keeps that edge in three mutable locals. The Rust's builder is
 // left out.
+use corner::edge::Edge;
+use corner::edge::Edges;
 use corner::offset_corner;
 use corner::scale_corner;
-use edge::Edge;
-use edge::Edges;
 use geometry::Size;
 use refusal::Checked;
 use refusal::Refusal;
@@ -15,7 +15,7 @@ ghost use mathlib.Core.Path.{_≡_};
 ghost use Prim.Native.Nat.{_<_};
 ghost use Rattle.signed.specs.Signed.{Near};
 ghost use Rattle.geometry.specs.Bounds.{wideSide, SizeUpTo};
-ghost use Rattle.edge.specs.Bounds.{BoundedEdge, BoundedEdges};
+ghost use Rattle.corner.specs.EdgeBounds.{BoundedEdge, BoundedEdges};
 ghost use Rattle.corner.specs.Bounds.{wideRadius, wideStrokeSide};
 ghost use Rattle.corner_radii.specs.Bounds.{RadiiUpTo};
 ghost use Rattle.corner_radii.specs.CornerRadii.{equalRadii, radiusCheck, radiiCheck, offset as CornerRadii·offset, edges as CornerRadii·edges, scaled, reduced, confine as CornerRadii·confine, confineW3c};

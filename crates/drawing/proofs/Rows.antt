@@ -10,14 +10,14 @@ use lib.IntN.{ℤ, pos, _+ℤ_}
 use Rattle.signed.specs.Signed.{Near}
 use Rattle.rectangle.specs.declared.Rectangle.{Rectangle}
 use Rattle.geometry.specs.declared.Size.{Size}
-use Rattle.range.specs.declared.Range.{Range}
-use Rattle.range.specs.Range.{contains as Range·contains}
+use Rattle.geometry_range.specs.declared.Range.{Range}
+use Rattle.geometry_range.specs.Range.{contains as Range·contains}
 use Rattle.rectangle.specs.Rectangle.{rows, offset as Rectangle·offset}
 use Rattle.scanline.specs.declared.Row.the-variants as row-of
 use Rattle.scanline.specs.declared.StyledRow.{StyledRow}
 use Rattle.scanline.specs.declared.StyledRow.the-variants.{NoRow}
-use Rattle.ellipse_points.specs.EllipsePoints.{row as Ellipse·row}
-use Rattle.ellipse_points.specs.EllipsePoints.{scanline, rowCount, hasRows}
+use Rattle.ellipse_rows.specs.EllipsePoints.{row as Ellipse·row}
+use Rattle.ellipse_rows.specs.EllipsePoints.{scanline, rowCount, hasRows}
 use Rattle.ellipse_styled.specs.EllipseStyled.{styledBy, ellipseFill, ellipseStyledRow}
 use Rattle.corner.specs.Bounds.{wideStrokeSide}
 use Rattle.rounded_rectangle.specs.declared.RoundedRectangle.{RoundedRectangle}
@@ -29,7 +29,7 @@ use Rattle.figure.specs.Figure.{confined, confinedW3c, offsetBox, shape}
 use Rattle.figure.specs.Bounds.{wideAreaPosition, AreaRectangle}
 use Rattle.style.specs.declared.Style.{Style}
 use Rattle.style.specs.Style.{outsideStrokeWidth}
-use Rattle.shape_row.specs.StyledRow.{boxStyledRow, styledRowOfShapes}
+use Rattle.styled_row.specs.StyledRow.{boxStyledRow, styledRowOfShapes}
 use Rattle.styled.specs.Styled.{strokeArea, fillArea}
 use Rattle.canvas.specs.Canvas.{overpaint}
 use Rattle.book.specs.Book.{inRun, hasRow}

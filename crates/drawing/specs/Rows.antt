@@ -2,7 +2,7 @@
 -- Assumes nothing.
 use Rattle.rectangle.specs.declared.Rectangle.{Rectangle}
 use Rattle.rectangle.specs.Rectangle.{rows}
-use Rattle.ellipse_points.specs.EllipsePoints.{rowCount}
+use Rattle.ellipse_rows.specs.EllipsePoints.{rowCount}
 use Rattle.figure.specs.declared.Figure.{Figure}
 use Rattle.shape.specs.declared.Shape.{Shape}
 use Rattle.shape.specs.declared.Shape.the-variants as shape-of

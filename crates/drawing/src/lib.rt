@@ -1,7 +1,7 @@
 // What a canvas call has to know of a figure with its style: whether the two are within limits, which
 // rows it has, and one of its rows painted on a canvas. The one-call painting and the sheet stand on
 // this; `specs/Drawing.antt` puts it into the book of demand 3.
-pub use canvas_row::paint_row_on;
+pub use canvas::row::paint_row_on;
 use canvas_size::CanvasSize;
 use figure::Figure;
 use rectangle::Rectangle;
@@ -57,7 +57,7 @@ fn ellipse_rows(rectangle: Rectangle, k: i32) -> StrokeRows
     let top_left = area.top_left;
     StrokeRows {
         first: top_left.y,
-        count: ellipse_points::row_count(area),
+        count: ellipse_rows::row_count(area),
     }
 }
 
@@ -83,7 +83,8 @@ pub fn paint_row(canvas: &mut [u8], size: CanvasSize, figure: Figure, style: Sty
     requires { ⌜ OwnFigure figure ⌝ }
     requires { ⌜ style .«stroke_width» ≤ wideOffset ⌝ }
     requires { ⌜ Near widePoint y ⌝ }
-    ensures { λ _. ⌜ now (canvas .exit) ≡ Sheet·paintRow drawing (size .width) (size .height) (styledFigure figure style) y (now (canvas .entry)) ⌝ }
+    ensures { λ _. ⌜ now (canvas .exit) ≡ Sheet·paintRow drawing (size .width) (size .height) (styledFigure figure style) y
+        (now (canvas .entry)) ⌝ }
 {
     paint_row_on(canvas, size, styled::row_at(figure, style, y), style, y);
 }

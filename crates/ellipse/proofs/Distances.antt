@@ -48,7 +48,14 @@ unfolding fromCenter2x center2x
 distance-from-corner point corner d side e =
     let c = pos 2 *ℤ corner +ℤ pos (side - 1) in
     magnitude-law (pos 2 *ℤ point -ℤ c)
-    ∙ omega (arith, sub-read d point corner e, sub-law (pos 2 *ℤ point) c, times-law 2 point, add-law (pos 2 *ℤ corner) (pos (side - 1)), times-law 2 corner)
+    ∙ omega (
+      arith,
+      sub-read d point corner e,
+      sub-law (pos 2 *ℤ point) c,
+      times-law 2 point,
+      add-law (pos 2 *ℤ corner) (pos (side - 1)),
+      times-law 2 corner,
+    )
 
 module _ (first x : ℤ) (side k : ℕ) where
   -- of the place k after the first
@@ -65,7 +72,15 @@ module _ (first x : ℤ) (side k : ℕ) where
   distance-from-last s e =
       let c = pos 2 *ℤ first +ℤ pos (side - 1) in
       magnitude-law (pos 2 *ℤ x -ℤ c)
-      ∙ omega (arith, int, sub-law (pos 2 *ℤ x) c, add-law (pos 2 *ℤ first) (pos (side - 1)), add-law x (pos k), times-law 2 x, times-law 2 first)
+      ∙ omega (
+        arith,
+        int,
+        sub-law (pos 2 *ℤ x) c,
+        add-law (pos 2 *ℤ first) (pos (side - 1)),
+        add-law x (pos k),
+        times-law 2 x,
+        times-law 2 first,
+      )
 
 -- ---- distances of places: they fall up to the middle, are least there and largest at the edge
 pub gap-falls : (n i j : ℕ) → i ≤ j → j ≤ (n - 1) / 2 → gap n j ≤ gap n i

@@ -1,6 +1,6 @@
-// The test of a point, after embedded-graphics 0.8.2 `ellipse/mod.rs` (`EllipseContains`) and `circle/mod.rs` (`diameter_to_threshold`). The test
-// depends on the distances from the middle alone, so it works on unsigned numbers; in u64, so that
-// every size is answered where the Rust overflows u32.
+// The test of a point, after embedded-graphics 0.8.2 `ellipse/mod.rs` (`EllipseContains`) and
+// `circle/mod.rs` (`diameter_to_threshold`). The test depends on the distances from the middle alone, so
+// it works on unsigned numbers; in u64, so that every size is answered where the Rust overflows u32.
 use geometry::Point;
 use geometry::Size;
 use rectangle::Rectangle;

@@ -42,7 +42,8 @@ module _ (c : EllipseContains) (width y : ℕ) where
         test : ℕ → Bool
         test = columnInside c width y
 
-        by-place : (p : Place) → findFrom test (start + 1 - from) from ≡ p → findFrom test (start + 1 - from) from ≡ findFrom test count from
+        by-place : (p : Place) → findFrom test (start + 1 - from) from ≡ p → findFrom test (start + 1 - from) from
+            ≡ findFrom test count from
         by-place (At j) e =
             let f = found-at test (start + 1 - from) from j e in
             let b = f .below in
@@ -64,7 +65,8 @@ module _ (c : EllipseContains) (width y : ℕ) where
         before-start : (i : ℕ) → from ≤ i → i ≤ start → test i ≡ false
         before-start i fi is′ = columns-rise from nearest (omega arith) i start fi is′ sn here
 
-        by-place : (p : Place) → findFrom test (nearest - start) (start + 1) ≡ p → findFrom test (nearest - start) (start + 1) ≡ findFrom test count from
+        by-place : (p : Place) → findFrom test (nearest - start) (start + 1) ≡ p → findFrom test (nearest - start) (start + 1)
+            ≡ findFrom test count from
         by-place (At j) e =
             let f = found-at test (nearest - start) (start + 1) j e in
             let l = f .from in

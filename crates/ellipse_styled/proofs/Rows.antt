@@ -21,9 +21,9 @@ use Rattle.ellipse.specs.declared.EllipseContains.{EllipseContains}
 use Rattle.ellipse.specs.Ellipse.{insideAbout}
 use Rattle.ellipse.specs.Relative.{gap, containsOf}
 use Rattle.ellipse_search.specs.Search.{columnInside}
-use Rattle.ellipse_points.specs.Relative.{firstInside, firstRowInside, mirroredRun}
-use Rattle.ellipse_points.proofs.Rows.{inside-about-at, rowAt, row-lacking, first-inside-half}
-use Rattle.ellipse_points.proofs.Rows.{row-out, row-placed}
+use Rattle.ellipse_rows.specs.Relative.{firstInside, firstRowInside, mirroredRun}
+use Rattle.ellipse_rows.proofs.Rows.{inside-about-at, rowAt, row-lacking, first-inside-half}
+use Rattle.ellipse_rows.proofs.Rows.{row-out, row-placed}
 use Rattle.ellipse_styled.specs.EllipseStyled.{aroundFill, styledBy, fillFrom, ellipseFill, ellipseStyledRow}
 use Rattle.ellipse_styled.specs.Relative.{runsFrom}
 use Rattle.ellipse_styled.proofs.Fields.{scanline-by-ends}
@@ -42,7 +42,8 @@ module _ (area : Rectangle) (sides : Size) where
   h = area .size .height
 
   -- the fill around, by the place where it starts
-  runs-by-place : (s : ℕ) (p : Place) → s ≤ w → aroundFill (mirroredRun left w s) (fillFrom (mirroredRun left w s) (fromLeft left p)) ≡ runsFrom left w s p
+  runs-by-place : (s : ℕ) (p : Place) → s ≤ w → aroundFill (mirroredRun left w s) (fillFrom (mirroredRun left w s) (fromLeft left p))
+      ≡ runsFrom left w s p
   runs-by-place s (At c) l =
       let end : left +ℤ pos w -ℤ pos s -ℤ (left +ℤ pos c -ℤ (left +ℤ pos s)) ≡ left +ℤ pos w -ℤ pos c =
       omega (
@@ -62,7 +63,14 @@ module _ (area : Rectangle) (sides : Size) where
   -- the run from s has w − 2s columns
   run-length-mirrored : (s : ℕ) → 2 * s < w → runLength (mirroredRun left w s) ≡ w - 2 * s
   run-length-mirrored s l =
-      omega (arith, add-law left (pos w), add-law left (pos s), sub-law (left +ℤ pos w) (pos s), sub-law (left +ℤ pos w -ℤ pos s) (left +ℤ pos s))
+      omega (
+        arith,
+        add-law left (pos w),
+        add-law left (pos s),
+        sub-law (left +ℤ pos w) (pos s),
+        sub-law (left +ℤ pos w -ℤ pos s)
+            (left +ℤ pos s),
+      )
 
   module _ (y : ℤ) where
     pub styled-out : Placed top h y Nowhere → NoRow ≡ ellipseStyledRow area sides y
@@ -83,7 +91,8 @@ module _ (area : Rectangle) (sides : Size) where
       styled-none e = sym (by-row ∙ ap (λ (p : Place). styledBy (rowAt area p) (ellipseFill sides area y)) e)
 
       pub styled-found : (s : ℕ) → firstInside w h dy ≡ At s
-          → Runs (runsFrom left w s (findFrom (columnInside (containsOf (sides .width) (sides .height)) w (gap h dy)) (w - 2 * s) s)) ≡ ellipseStyledRow area sides y
+          → Runs (runsFrom left w s (findFrom (columnInside (containsOf (sides .width) (sides .height)) w (gap h dy)) (w - 2 * s) s))
+          ≡ ellipseStyledRow area sides y
       styled-found s e =
           let half = first-inside-half w h dy s e in
           let test = columnInside (containsOf (sides .width) (sides .height)) w (gap h dy) in

@@ -2,7 +2,7 @@
 -- Assumes nothing.
 use lib.IntN.{ℤ, _-ℤ_}
 use Rattle.geometry.specs.declared.Size.{Size}
-use Rattle.range.specs.declared.Range.{Range}
+use Rattle.geometry_range.specs.declared.Range.{Range}
 use Rattle.rectangle.specs.declared.Rectangle.{Rectangle}
 use Rattle.scanline.specs.declared.Row.{Row}
 use Rattle.scanline.specs.declared.Row.the-variants as row-of
@@ -12,7 +12,7 @@ use Rattle.scanline.specs.declared.StyledRow.the-variants.{Runs, NoRow}
 use Rattle.scanline.specs.Columns.{Column, found, none, firstColumn}
 use Rattle.scanline.specs.Points.{runLength}
 use Rattle.ellipse.specs.Ellipse.{insideAbout}
-use Rattle.ellipse_points.specs.EllipsePoints.{row}
+use Rattle.ellipse_rows.specs.EllipsePoints.{row}
 
 -- the stroke area's run s..e around a fill: left is s..fill start, right is fill end..e
 abbrev pub aroundFill : Range → Range → StyledRuns

@@ -8,7 +8,7 @@ use Rattle.scanline.specs.declared.Place.{Place}
 use Rattle.scanline.specs.declared.Place.the-variants.{At, Nowhere}
 use Rattle.rectangle.specs.Bounds.{Bounded}
 use Rattle.ellipse.specs.Relative.{containsOf, SmallWeights}
-use Rattle.ellipse_points.specs.Relative.{firstRowInside}
+use Rattle.ellipse_rows.specs.Relative.{firstRowInside}
 use Rattle.ellipse_styled.specs.declared.StyledEllipse.{StyledEllipse}
 
 -- a column counted from the left edge, and one counted before the end of w columns

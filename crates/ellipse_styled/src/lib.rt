@@ -2,10 +2,10 @@
 // (`StyledScanlines`). The fill is looked for among the stroke's columns, by the ellipse of the fill
 // sides about the centre of the stroke area.
 use ellipse::EllipseContains;
-use ellipse_points::has_rows;
+use ellipse_rows::has_rows;
 use ellipse_search::scan_inside;
 use geometry::Size;
-use range::Range;
+use geometry_range::Range;
 use rectangle::Rectangle;
 use scanline::Place;
 use scanline::StyledRow;

@@ -1,4 +1,4 @@
--- Bounds: a figure that passes its check is within the wide bounds of a figure's own numbers; the laws of `box_rules` on its
+-- Bounds: a figure that passes its check is within the wide bounds of a figure's own numbers; the laws of `shape::box_rules` on its
 -- rectangle or box are passed on. And what a figure's shape says of its confined radii.
 -- Assumes nothing.
 use mathlib.Core.Path.{_≡_, refl, sym, ap}
@@ -17,8 +17,8 @@ use Rattle.rectangle.specs.Calls.{rectangleValues}
 use Rattle.geometry.specs.Checks.{sizeCheck, positionCheck}
 use Rattle.rectangle.specs.Rectangle.{withCenter}
 use Rattle.rounded_rectangle.specs.declared.RoundedRectangle.{RoundedRectangle}
-use Rattle.box_rules.proofs.Within.{own-box-passed, own-rectangle-passed}
-pub use Rattle.box_rules.proofs.Within.{point-wider, size-wider, own-area, own-box-bounded, area-bounded, area-box-bounded, offset-area, offset-box-bounded, confined-bounded, confined-w3c-bounded}
+use Rattle.shape.proofs.Within.{own-box-passed, own-rectangle-passed}
+pub use Rattle.shape.proofs.Within.{point-wider, size-wider, own-area, own-box-bounded, area-bounded, area-box-bounded, offset-area, offset-box-bounded, confined-bounded, confined-w3c-bounded}
 use Rattle.figure.specs.declared.Figure.{Figure}
 use Rattle.figure.specs.declared.Figure.the-variants.{Ellipse, CrateBox, W3cBox}
 use Rattle.shape.specs.declared.Shape.the-variants as shape-of

@@ -8,7 +8,7 @@ use Rattle.geometry.specs.declared.Point.{Point}
 use Rattle.rectangle.specs.declared.Rectangle.{Rectangle}
 use Rattle.rectangle.specs.Rectangle.{offset as Rectangle·offset}
 use Rattle.scanline.specs.declared.Row.{Row}
-unfoldable pub use Rattle.box_rules.specs.BoxRules.{confined, confinedW3c, offsetBox}
+unfoldable pub use Rattle.shape.specs.BoxRules.{confined, confinedW3c, offsetBox}
 use Rattle.figure.specs.declared.Figure.{Figure}
 use Rattle.figure.specs.declared.Figure.the-variants.{Ellipse, CrateBox, W3cBox}
 use Rattle.shape.specs.declared.Shape.{Shape}

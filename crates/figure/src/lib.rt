@@ -3,16 +3,16 @@
 // (`OffsetOutline`, `confine_radii`); the W3C box is not in the source. The functions of this file
 // are for callers that have made the checks; those that a host calls are in calls.rt. The shape that
 // rows and tests go by is in `shape`.
-use box_rules::confined;
-use box_rules::confined_w3c;
-use box_rules::offset_box;
-use box_rules::offset_w3c_box;
 use geometry::check_position;
 use geometry::check_size;
 use rectangle::Rectangle;
 use refusal::Checked;
 use rounded_rectangle::RoundedRectangle;
 pub use shape::Shape;
+use shape::box_rules::confined;
+use shape::box_rules::confined_w3c;
+use shape::box_rules::offset_box;
+use shape::box_rules::offset_w3c_box;
 
 pub mod calls;
 

@@ -29,7 +29,9 @@ unfolding positionCheck
 position-passed p e =
     record {
       x = near-within maxPosition (p .x) (passed-beyond maxPosition (p .x) Position (passed-first _ _ e)) (omega arith);
-      y = near-within maxPosition (p .y) (passed-beyond maxPosition (p .y) Position (passed-next (refuseIf (beyond maxPosition (p .x)) Position) _ e)) (omega arith);
+      y =
+          near-within maxPosition (p .y) (passed-beyond maxPosition (p .y) Position
+          (passed-next (refuseIf (beyond maxPosition (p .x)) Position) _ e)) (omega arith);
     }
 
 pub offset-passed : (k : ℤ) → offsetCheck k ≡ Passed → Near maxOffset k
@@ -51,7 +53,9 @@ unfolding centerCheck
 center-passed c e =
     record {
       x = wider (c .x) (passed-beyond (maxPosition + maxSide) (c .x) Position (passed-first _ _ e));
-      y = wider (c .y) (passed-beyond (maxPosition + maxSide) (c .y) Position (passed-next (refuseIf (beyond (maxPosition + maxSide) (c .x)) Position) _ e));
+      y =
+          wider (c .y) (passed-beyond (maxPosition + maxSide) (c .y) Position
+          (passed-next (refuseIf (beyond (maxPosition + maxSide) (c .x)) Position) _ e));
     }
   where
     wider : (z : ℤ) → natAbs z ≤ maxPosition + maxSide → Near (2 * widePoint) z

@@ -3,7 +3,7 @@
 -- Assumes nothing.
 use Prim.Native.Nat.{ℕ, _≤_}
 use Rattle.signed.specs.Signed.{Near}
-pub use Rattle.side.specs.Side.{wideSide}
+pub use Rattle.rectangle_side.specs.Side.{wideSide}
 use Rattle.geometry.specs.declared.Point.{Point}
 use Rattle.geometry.specs.declared.Size.{Size}
 

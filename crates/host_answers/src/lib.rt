@@ -48,7 +48,8 @@ pub fn put_from(out: &mut [i32], at: usize, values: &[i32])
 // Writes the values, if the list has room for them (13).
 pub fn put_numbers(out: &mut [i32], values: &[i32]) -> u32
     ensures { λ r. ⌜ r ≡ answerNumber (roomCheck (length (now (values .entry))) (length (now (out .entry)))) ⌝ }
-    ensures { λ _. ⌜ now (out .exit) ≡ keeping (roomCheck (length (now (values .entry))) (length (now (out .entry)))) (now (out .entry)) (sets (now (out .entry)) 0 (now (values .entry))) ⌝ }
+    ensures { λ _. ⌜ now (out .exit) ≡ keeping (roomCheck (length (now (values .entry))) (length (now (out .entry)))) (now (out .entry))
+        (sets (now (out .entry)) 0 (now (values .entry))) ⌝ }
 {
     let checked = check_room(values.len(), out.len());
     let Checked::Passed = checked else {

@@ -26,10 +26,10 @@ use Rattle.sheet.specs.Sheet.{stateOf, openedSheet, sheetAnswer, sheetAfter, ca
 use Rattle.sheet.specs.SheetDemand3.{sheetAnswers, sheetAfterAll, canvasAfterAll as Sheet·canvasAfterAll}
 use Rattle.sheet.proofs.Records.{add-takes-no-canvas}
 use Rattle.sheet.proofs.SheetDemand3.{sheet-demand3}
-use Rattle.sheet_record.specs.SheetRecord.{sheetLength, isSheet, sheetOf}
+use Rattle.host_sheet_record.specs.SheetRecord.{sheetLength, isSheet, sheetOf}
 use Rattle.host_answers.specs.HostAnswers.{noRecord, heldBy32, outAfter, told}
-use Rattle.host_sheets.specs.Sheets.{unusedPlaces, openedNumbers, openSaid, addTold, addNumbers, areRecords, paintTold, paintCanvas}
-use Rattle.host_sheets.proofs.NumbersAfter.{open-reads-back, add-reads-back, paint-reads-back}
+use Rattle.host_sheet.specs.Sheets.{unusedPlaces, openedNumbers, openSaid, addTold, addNumbers, areRecords, paintTold, paintCanvas}
+use Rattle.host_sheet.proofs.NumbersAfter.{open-reads-back, add-reads-back, paint-reads-back}
 use Rattle.host_book.specs.HostBook.{HostCall, add, paint, givesRecords, callOf, callTold, callNumbers, callCanvas, toldOfAll, numbersAfterAll, canvasAfterAll, bookCalls, toldBy, opened, HostDemand3}
 
 -- ---- one call
@@ -37,7 +37,8 @@ module _ (numbers : List ℤ) (is : isSheet numbers ≡ true) (canvas : List ℕ
   all-records : (figure style : List ℤ) → givesRecords (add figure style) ≡ true → areRecords numbers figure style ≡ true
   all-records figure style records = rw is records
 
-  told-is : (call : HostCall) → givesRecords call ≡ true → callTold numbers canvas call ≡ answerNumber (sheetAnswer (sheetOf numbers) canvas (callOf call))
+  told-is : (call : HostCall) → givesRecords call ≡ true → callTold numbers canvas call ≡ answerNumber
+      (sheetAnswer (sheetOf numbers) canvas (callOf call))
   unfolding addTold paintTold answer
   told-is (add figure style) records = rw (all-records figure style records)
   told-is (paint i) records = rw is

@@ -33,14 +33,14 @@ use Rattle.figure.specs.Calls.{sidesCheck, cornersCheck, placeCheck, figureChec
 use Rattle.style.specs.declared.Style.{Style}
 use Rattle.style.specs.Style.{styleCheck}
 use Rattle.drawing.specs.Drawing.{StyledFigure, styledFigure, styledCheck, drawing}
-use Rattle.layers.specs.Layers.{layersOf}
+use Rattle.sheet_layers.specs.Layers.{layersOf}
 use Rattle.sheet.proofs.Places.{kept-few}
 use Rattle.sheet.specs.declared.Sheet.{Sheet}
 use Rattle.sheet.specs.Sheet.{stateOf, sheetAnswer}
-use Rattle.record_numbers.specs.RecordNumbers.{figureOf, styleOf}
-use Rattle.sheet_record.specs.SheetRecord.{holdsRecords, sheetOf}
-use Rattle.sheet_record.proofs.Parts.{sixteen, records-of-few, count-of-records}
-use Rattle.host_sheets.specs.Sheets.{addOf, addTold, paintTold}
+use Rattle.host_records.specs.RecordNumbers.{figureOf, styleOf}
+use Rattle.host_sheet_record.specs.SheetRecord.{holdsRecords, sheetOf}
+use Rattle.host_sheet_record.proofs.Parts.{sixteen, records-of-few, count-of-records}
+use Rattle.host_sheet.specs.Sheets.{addOf, addTold, paintTold}
 use Rattle.host_book.specs.HostRules.{RulesHold, NoSheetOrBroken, PaintToldSeven, AddToldSeven}
 
 -- ---- the sheet as which the numbers are read: its rules are those that the numbers say, if they are a sheet's

@@ -1,5 +1,5 @@
 -- Demand 3 (document 00) of a sheet that a host keeps as numbers: a list of calls, each on the numbers and the canvas that the last
--- one left, by what `wunqaber_sheet_open`, `wunqaber_sheet_add` and `wunqaber_sheet_paint` promise (`host_sheets`). That it holds is
+-- one left, by what `wunqaber_sheet_open`, `wunqaber_sheet_add` and `wunqaber_sheet_paint` promise (`host_sheet`). That it holds is
 -- `host-demand3` (proofs/HostDemand3.antt).
 -- Assumes nothing.
 use mathlib.Core.Path.{_≡_}
@@ -17,10 +17,10 @@ use Rattle.book.specs.Sheet.{WithinSide, answer}
 use Rattle.book.specs.Demand3.{AfterCalls}
 use Rattle.drawing.specs.Drawing.{StyledFigure, drawing}
 use Rattle.sheet.specs.Sheet.{stateOf}
-use Rattle.record_numbers.specs.RecordNumbers.{isFigure, isStyle}
-use Rattle.sheet_record.specs.SheetRecord.{sheetLength, sheetOf}
+use Rattle.host_records.specs.RecordNumbers.{isFigure, isStyle}
+use Rattle.host_sheet_record.specs.SheetRecord.{sheetLength, sheetOf}
 use Rattle.host_answers.specs.HostAnswers.{noRecord, outAfter, told}
-use Rattle.host_sheets.specs.Sheets.{openSaid, addOf, addTold, addNumbers, paintTold, paintNumbers, paintCanvas}
+use Rattle.host_sheet.specs.Sheets.{openSaid, addOf, addTold, addNumbers, paintTold, paintNumbers, paintCanvas}
 
 -- A call that a host makes on its sheet: a figure and a style to add, given as numbers, or the layer to paint a row of.
 pub data HostCall : Type 0 where

@@ -1,5 +1,5 @@
 -- Number 7 (document 01, 'The records' and 'Sheet') by the numbers that a host keeps: when a host is told it, by what
--- `wunqaber_sheet_paint` and `wunqaber_sheet_add` promise (`host_sheets`). The rules are the paper's own, `Rules`, over every
+-- `wunqaber_sheet_paint` and `wunqaber_sheet_add` promise (`host_sheet`). The rules are the paper's own, `Rules`, over every
 -- row y, and not the test by which the code answers. The laws are `paint-told-seven` and `add-told-seven`
 -- (proofs/HostRules.antt).
 -- Assumes nothing.
@@ -13,10 +13,10 @@ use Rattle.signed.specs.Signed.{floor0}
 use Rattle.refusal.specs.declared.Checked.the-variants.{Passed}
 use Rattle.book.specs.Sheet.{Layers, Rules}
 use Rattle.drawing.specs.Drawing.{styledCheck, drawing}
-use Rattle.layers.specs.Layers.{layersOf}
-use Rattle.record_numbers.specs.RecordNumbers.{numberAt, figureOf, styleOf}
-use Rattle.sheet_record.specs.SheetRecord.{countAt, isSheet, holdsRecords, sheetOf}
-use Rattle.host_sheets.specs.Sheets.{areRecords, addTold, paintTold}
+use Rattle.sheet_layers.specs.Layers.{layersOf}
+use Rattle.host_records.specs.RecordNumbers.{numberAt, figureOf, styleOf}
+use Rattle.host_sheet_record.specs.SheetRecord.{countAt, isSheet, holdsRecords, sheetOf}
+use Rattle.host_sheet.specs.Sheets.{areRecords, addTold, paintTold}
 
 -- The layers that a sheet's numbers say ('The records'): those in the first places, as many as the third number says. That
 -- number is taken as it stands, where `sheetOf` reads numbers that are no sheet's as one layer too many.
@@ -28,7 +28,7 @@ abbrev pub RulesHold : List ℤ → Type 0
 RulesHold numbers = Rules drawing (sheetOf numbers .width) (sheetOf numbers .height) (layersSaid numbers)
 
 -- The numbers are no sheet's, since one of the first three is negative, or a place that is to hold a layer has numbers out
--- of a figure's or a style's ranges (`holdsRecords` of `sheet_record`); or the rules do not hold ('The records', number 7).
+-- of a figure's or a style's ranges (`holdsRecords` of `host_sheet_record`); or the rules do not hold ('The records', number 7).
 abbrev pub NoSheetOrBroken : List ℤ → Type 0
 NoSheetOrBroken numbers = (holdsRecords numbers ≡ false) ⊎ (RulesHold numbers → ⊥)
 

@@ -16,8 +16,10 @@ pub fn run_calls(
     canvas: &mut [u8],
     answers: &mut [u32],
 ) -> u32
-    ensures { λ r. ⌜ r ≡ runNumber (runAnswer width height (now (calls .entry)) (length (now (canvas .entry))) (length (now (answers .entry)))) ⌝ }
-    ensures { λ _. ⌜ RunTold width height (now (calls .entry)) (now (canvas .entry)) (now (answers .entry)) (now (canvas .exit)) (now (answers .exit)) ⌝ }
+    ensures { λ r. ⌜ r ≡ runNumber (runAnswer width height (now (calls .entry)) (length (now (canvas .entry)))
+        (length (now (answers .entry)))) ⌝ }
+    ensures { λ _. ⌜ RunTold width height (now (calls .entry)) (now (canvas .entry)) (now (answers .entry)) (now (canvas .exit))
+        (now (answers .exit)) ⌝ }
 {
     let ran = sheet_calls::run_calls(width, height, calls, canvas, answers);
     let answer = ran.answer;

@@ -6,7 +6,7 @@ use Prim.Native.Nat.{ℕ}
 use lib.IntN.{ℤ}
 use Rattle.refusal.specs.Refusal.{Outcome}
 use Rattle.figure.specs.Calls.{containsCall, rowCall, figureOffsetCall, confinedRadiiCall, ellipseWithCenterCall}
-use Rattle.record_numbers.specs.RecordNumbers.{isFigure, figureOf}
+use Rattle.host_records.specs.RecordNumbers.{isFigure, figureOf}
 use Rattle.host_answers.specs.HostAnswers.{ofRecord}
 
 -- `Figure::contains`

@@ -10,12 +10,12 @@ use geometry::Point;
 use geometry::Size;
 use host_answers::NO_RECORD;
 use host_answers::NOTHING;
+use host_records::figure_of;
+use host_records::is_figure;
 use host_values::put_figure;
 use host_values::put_flag;
 use host_values::put_radii;
 use host_values::put_row;
-use record_numbers::figure_of;
-use record_numbers::is_figure;
 ghost use Rattle.host_answers.specs.HostAnswers.{Tells};
 ghost use Rattle.host_figures.specs.Figures.{containsSaid, rowSaid, offsetSaid, confinedRadiiSaid, ellipseWithCenterSaid};
 

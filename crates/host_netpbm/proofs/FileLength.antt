@@ -13,7 +13,7 @@ use Rattle.refusal.specs.Refusal.{orElse, Outcome, refused, answered, unless, r
 use Rattle.refusal.proofs.Checks.{passed-first, passed-next}
 use Rattle.canvas_size.specs.CanvasSize.{canvasSizeCheck, canvasLengthCheck}
 use Rattle.canvas_size.proofs.Sides.{canvas-size-passed, canvas-length-passed}
-use Rattle.p5_header.proofs.Header.{length-header-u32}
+use Rattle.netpbm_header.proofs.Header.{length-header-u32}
 use Rattle.netpbm.specs.Netpbm.{p5, writeCheck, writeCall}
 use Rattle.netpbm.proofs.File.{length-p5}
 use Rattle.host_netpbm.specs.Netpbm.{writeRoom}

@@ -12,7 +12,8 @@ ghost use Rattle.host_netpbm.specs.Netpbm.{writeSaid, writtenAfter};
 
 // The canvas as P5, and the length of the file. Refused by 6, 8 and 13.
 pub fn write_p5(width: u32, height: u32, canvas: &[u8], file: &mut [u8], out: &mut [i32]) -> u32
-    ensures { λ r. ⌜ Tells (writeSaid width height (now (canvas .entry)) (now (file .entry)) (length (now (out .entry)))) (now (out .entry)) r (now (out .exit)) ⌝ }
+    ensures { λ r. ⌜ Tells (writeSaid width height (now (canvas .entry)) (now (file .entry)) (length (now (out .entry))))
+        (now (out .entry)) r (now (out .exit)) ⌝ }
     ensures { λ _. ⌜ now (file .exit) ≡ writtenAfter width height (now (canvas .entry)) (now (file .entry)) (length (now (out .entry))) ⌝ }
 {
     let size = CanvasSize {

@@ -6,7 +6,7 @@ use Prim.Native.Nat.{ℕ}
 use lib.IntN.{ℤ}
 use Rattle.refusal.specs.Refusal.{Outcome}
 use Rattle.paint.specs.Paint.{paintCall, canvasAfter}
-use Rattle.record_numbers.specs.RecordNumbers.{isFigure, isStyle, figureOf, styleOf}
+use Rattle.host_records.specs.RecordNumbers.{isFigure, isStyle, figureOf, styleOf}
 use Rattle.host_answers.specs.HostAnswers.{ofRecord, ifRecord}
 
 -- `paint_figure`

@@ -2,11 +2,11 @@
 // where it is 0 has anything been written.
 use host_answers::DONE;
 use host_answers::NO_RECORD;
+use host_records::figure_of;
+use host_records::is_figure;
+use host_records::is_style;
+use host_records::style_of;
 use paint::PaintAnswer;
-use record_numbers::figure_of;
-use record_numbers::is_figure;
-use record_numbers::is_style;
-use record_numbers::style_of;
 ghost use mathlib.Core.Path.{_≡_};
 ghost use Rattle.host_answers.specs.HostAnswers.{outcomeNumber};
 ghost use Rattle.host_paint.specs.Paint.{paintSaid, paintedAfter};

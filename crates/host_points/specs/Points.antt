@@ -6,11 +6,11 @@ use lib.IntN.{ℤ}
 use Rattle.refusal.specs.declared.Checked.{Checked}
 use Rattle.refusal.specs.Refusal.{orElse, Outcome, keeping, roomCheck}
 use Rattle.figure.specs.Calls.{figureCheck}
-use Rattle.points.specs.Points.{pointsCall, listAfter}
-use Rattle.record_numbers.specs.RecordNumbers.{isFigure, figureOf}
+use Rattle.figure_points.specs.Points.{pointsCall, listAfter}
+use Rattle.host_records.specs.RecordNumbers.{isFigure, figureOf}
 use Rattle.host_answers.specs.HostAnswers.{ofRecord, ifRecord, afterCheck}
 
--- `points::points`: of the host's two lists the one for the number of pairs is looked at first, so that nothing is written where
+-- `figure_points::points`: of the host's two lists the one for the number of pairs is looked at first, so that nothing is written where
 -- it has no room
 abbrev pub pointsRoom : List ℤ → ℕ → Checked
 pointsRoom figure room = orElse (figureCheck (figureOf figure)) (roomCheck 1 room)

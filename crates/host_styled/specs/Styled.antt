@@ -5,7 +5,7 @@ use mathlib.Core.List.{List}
 use lib.IntN.{ℤ}
 use Rattle.refusal.specs.Refusal.{Outcome}
 use Rattle.styled.specs.Calls.{styledRowCall, styledBoundingBoxCall}
-use Rattle.record_numbers.specs.RecordNumbers.{isFigure, isStyle, figureOf, styleOf}
+use Rattle.host_records.specs.RecordNumbers.{isFigure, isStyle, figureOf, styleOf}
 use Rattle.host_answers.specs.HostAnswers.{ofRecord}
 
 -- `styled_row`: the figure and the style are both read

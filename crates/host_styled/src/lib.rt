@@ -2,12 +2,12 @@
 // call made, and its answer told as one number, with the values in a lent list.
 use host_answers::NO_RECORD;
 use host_answers::NOTHING;
+use host_records::figure_of;
+use host_records::is_figure;
+use host_records::is_style;
+use host_records::style_of;
 use host_values::put_rectangle;
 use host_values::put_styled_row;
-use record_numbers::figure_of;
-use record_numbers::is_figure;
-use record_numbers::is_style;
-use record_numbers::style_of;
 use rectangle::RectangleAnswer;
 use styled::StyledRowAnswer;
 ghost use Rattle.host_answers.specs.HostAnswers.{Tells};

@@ -125,7 +125,8 @@ fn put_plain(kind: u32, rectangle: Rectangle, out: &mut [i32]) -> u32
 
 // The same and the radii of a box.
 fn put_box(kind: u32, b: RoundedRectangle, out: &mut [i32]) -> u32
-    ensures { λ r. ⌜ Tells (answered (pos kind ∷ rectangleValues (b .rectangle) ++ radiiValues (b .corners))) (now (out .entry)) r (now (out .exit)) ⌝ }
+    ensures { λ r. ⌜ Tells (answered (pos kind ∷ rectangleValues (b .rectangle) ++ radiiValues (b .corners))) (now (out .entry)) r
+        (now (out .exit)) ⌝ }
 {
     let plain = plain_numbers(kind, b.rectangle);
     let radii = radii_numbers(b.corners);

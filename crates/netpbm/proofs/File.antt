@@ -9,8 +9,8 @@ use Rattle.refusal.specs.declared.Checked.the-variants.{Passed}
 use Rattle.refusal.specs.Refusal.{orElse}
 use Rattle.refusal.proofs.Checks.{passed-next, passed-above}
 use Rattle.canvas_size.specs.CanvasSize.{canvasSizeCheck, canvasLengthCheck}
-use Rattle.text.proofs.Written.{sets-start}
-use Rattle.p5_header.specs.Header.{header}
+use Rattle.netpbm_text.proofs.Written.{sets-start}
+use Rattle.netpbm_header.specs.Header.{header}
 use Rattle.netpbm.specs.Netpbm.{p5, writeCheck, fileAfter}
 
 pub length-p5 : (W H : ℕ) (canvas : List ℕ) → length (p5 W H canvas) ≡ length (header W H) + length canvas

@@ -8,8 +8,8 @@ use lib.IntN.{pos}
 use lib.ListN.{replicate}
 use Rattle.refusal.specs.Refusal.{refused, answered}
 use Rattle.canvas_size.specs.CanvasSize.{canvasSizeCheck, canvasLengthCheck}
-use Rattle.text.specs.Decimal.{decimalUpTo, decimal}
-use Rattle.p5_header.specs.Header.{header}
+use Rattle.netpbm_text.specs.Decimal.{decimalUpTo, decimal}
+use Rattle.netpbm_header.specs.Header.{header}
 use Rattle.netpbm.specs.Netpbm.{writeCheck, writeCall, fileAfter}
 
 decimals-hold : map decimal (0 ∷ 1 ∷ 2 ∷ 3 ∷ 4 ∷ 5 ∷ 6 ∷ 7 ∷ 8 ∷ 9 ∷ 10 ∷ 99 ∷ 100 ∷ 999 ∷ 1000 ∷ 1024 ∷ 4096 ∷ [])

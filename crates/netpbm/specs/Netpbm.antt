@@ -10,7 +10,7 @@ use Rattle.refusal.specs.Refusal.{number, orElse, Outcome, refused, answered, u
 use Rattle.netpbm.specs.declared.WriteAnswer.{WriteAnswer}
 use Rattle.netpbm.specs.declared.WriteAnswer.the-variants as write-answer
 use Rattle.canvas_size.specs.CanvasSize.{canvasSizeCheck, canvasLengthCheck}
-use Rattle.p5_header.specs.Header.{header}
+use Rattle.netpbm_header.specs.Header.{header}
 
 -- the header, then the bytes of the canvas
 abbrev pub p5 : ℕ → ℕ → List ℕ → List ℕ

@@ -4,16 +4,16 @@
 // The call that a host makes has no `requires`: it refuses by the lowest number that applies and
 // then has written nothing. The functions below it are for callers that have made the checks.
 use canvas_size::CanvasSize;
-use p5_header::header_length;
-use p5_header::put_header;
+use netpbm_header::header_length;
+use netpbm_header::put_header;
+use netpbm_text::put;
 use refusal::Checked;
 use refusal::Refusal;
 use refusal::check_room;
-use text::put;
 ghost use mathlib.Core.Path.{_≡_};
 ghost use Prim.Native.Nat.{_≤_};
 ghost use lib.ListN.{length};
-ghost use Rattle.text.specs.Written.{Wrote};
+ghost use Rattle.netpbm_text.specs.Written.{Wrote};
 ghost use Rattle.netpbm.specs.Netpbm.{p5, writeOutcome, writeCall, fileAfter};
 
 pub enum WriteAnswer {

@@ -10,14 +10,14 @@ use Rattle.geometry.specs.Checks.{sizeCheck, positionCheck}
 use Rattle.rectangle.specs.Rectangle.{center, withCenter, offsetSide, offset}
 use Rattle.scanline.specs.Columns.{firstColumn}
 use Rattle.ellipse.specs.Ellipse.{center2x, fromCenter2x, threshold, inside, insideAbout}
-use Rattle.ellipse_points.specs.EllipsePoints.{row, scanline, hasRows}
+use Rattle.ellipse_rows.specs.EllipsePoints.{row, scanline, hasRows}
 use Rattle.ellipse_styled.specs.EllipseStyled.{ellipseStyledRow}
 use Rattle.figure.specs.declared.Figure.{Figure}
 use Rattle.figure.specs.declared.Figure.the-variants.{Ellipse}
 use Rattle.style.specs.declared.Paint.the-variants.{Absent, Colour}
 use Rattle.style.specs.declared.Style.{Style}
 use Rattle.style.specs.Style.{defaultAlignment, styledByDefault, styleCheck, outsideStrokeWidth, insideStrokeWidth}
-use Rattle.shape_row.specs.StyledRow.{styledRowOfShapes}
+use Rattle.styled_row.specs.StyledRow.{styledRowOfShapes}
 use Rattle.canvas_size.specs.CanvasSize.{canvasSizeCheck, canvasLengthCheck}
 use Rattle.canvas_run.specs.Run.{runOverFrom}
 use Rattle.canvas.specs.Canvas.{overpaintRuns}

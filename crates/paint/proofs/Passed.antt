@@ -30,11 +30,15 @@ pub paint-passed : (f : Figure) (style : Style) (W H : ℕ) (canvas : List ℕ) 
     → PaintPassed f style W H canvas
 unfolding paintCheck styledCheck
 paint-passed f style W H canvas e =
-    let given = passed-first (orElse (orElse (figureCheck f) (styleCheck style)) (canvasSizeCheck W H)) (canvasLengthCheck W H (length canvas)) e in
+    let given = passed-first (orElse (orElse (figureCheck f) (styleCheck style)) (canvasSizeCheck W H))
+    (canvasLengthCheck W H (length canvas)) e in
     let styled = passed-first (orElse (figureCheck f) (styleCheck style)) (canvasSizeCheck W H) given in
     record {
       figure = figure-passed f (passed-first (figureCheck f) (styleCheck style) styled);
       stroke = style-passed style (passed-next (figureCheck f) (styleCheck style) styled);
       sides = canvas-size-passed W H (passed-next (orElse (figureCheck f) (styleCheck style)) (canvasSizeCheck W H) given);
-      size = canvas-length-passed W H (length canvas) (passed-next (orElse (orElse (figureCheck f) (styleCheck style)) (canvasSizeCheck W H)) (canvasLengthCheck W H (length canvas)) e);
+      size =
+          canvas-length-passed W H (length canvas)
+          (passed-next (orElse (orElse (figureCheck f) (styleCheck style)) (canvasSizeCheck W H))
+          (canvasLengthCheck W H (length canvas)) e);
     }

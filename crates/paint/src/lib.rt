@@ -1,9 +1,9 @@
 // A figure with its style painted in one call, without a sheet, on a canvas given with its width and
 // height. Document 01 adds it; in the Rust it is `pixels` drawn to a target. Its checks
-// stand here, its rows are painted by crate paint_whole.
+// stand here, its rows are painted by crate paint_figures.
 use canvas_size::CanvasSize;
 use figure::Figure;
-use paint_whole::paint_whole;
+use paint_figures::paint_whole;
 use refusal::Checked;
 use refusal::Refusal;
 use style::Style;

@@ -1,4 +1,4 @@
--- One styled row on rows at equal distances, and what a turn of the loop over an even box's rows comes to.
+-- One styled row on rows at equal distances, and what a turn of the loop over a symmetric box's rows comes to.
 -- Assumes nothing.
 use mathlib.Core.Path.{_≡_, refl, sym, ap, subst, _∙_}
 use mathlib.Core.Bool.{Bool}
@@ -123,7 +123,7 @@ module _ (row : StyledRow) (style : Style) (W H : ℕ) (first : ℤ) (step count
   spaced-end y zero canvas done l = l .rest
   spaced-end y (suc n) canvas done l = absurd (omega arith)
 
--- ---- a turn over an even box's rows
+-- ---- a turn over a symmetric box's rows
 rest-number : (count pairs dy : ℕ) → pairs ≤ dy → count - pairs - dy ≡ count - dy - min dy pairs
 rest-number count pairs dy past = omega arith
 

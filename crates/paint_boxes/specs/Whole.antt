@@ -1,14 +1,14 @@
--- When a box is painted as an even one: all of its rows are to be painted.
+-- When a box is painted as a symmetric one: all of its rows are to be painted.
 -- Assumes nothing.
 use mathlib.Core.Path.{_≡_}
 use Prim.Native.Nat.{ℕ}
 use lib.IntN.{ℤ}
-use Rattle.styled_box.specs.declared.StyledBox.{StyledBox}
-use Rattle.even_box.specs.declared.Evenness.{Evenness}
-use Rattle.even_box.specs.declared.Evenness.the-variants.{Even, Uneven}
-use Rattle.even_box.specs.EvenBox.{EvenOf}
+use Rattle.styled_scan.specs.declared.styled_box.StyledBox.{StyledBox}
+use Rattle.styled_scan.specs.declared.symmetric_box.Symmetry.{Symmetry}
+use Rattle.styled_scan.specs.declared.symmetric_box.Symmetry.the-variants.{Symmetric, Asymmetric}
+use Rattle.styled_scan.specs.SymmetricBox.{SymmetricOf}
 
--- the box is even, and the rows from y on are all that it has; else nothing is said
-abbrev pub WholeEven : StyledBox → ℤ → ℕ → Evenness → Type 0
-WholeEven b y count (Even e) = EvenOf b (Even e) × (y ≡ b .area .«top_left» .y) × (count ≡ b .area .size .height)
-WholeEven b y count Uneven = Unit {0}
+-- the box is symmetric, and the rows from y on are all that it has; else nothing is said
+abbrev pub WholeSymmetric : StyledBox → ℤ → ℕ → Symmetry → Type 0
+WholeSymmetric b y count (Symmetric e) = SymmetricOf b (Symmetric e) × (y ≡ b .area .«top_left» .y) × (count ≡ b .area .size .height)
+WholeSymmetric b y count Asymmetric = Unit {0}

@@ -1,14 +1,14 @@
-// The rows of a box made ready, painted. A box with even corners all of whose rows are to be painted
-// is painted from both ends inward, two rows by one search, and then the rows between by one row; any
-// other box goes row by row (crate paint_rows). For callers that have made the checks.
+// The rows of a box made ready, painted. Where all rows of a symmetric box are asked for it is painted from
+// both ends inward, two rows by one search, and then the rows between by one row; any other box goes row by
+// row (crate paint_rows). For callers that have made the checks.
 use canvas_size::CanvasSize;
 use ellipse_search::ANYWHERE;
 use ellipse_styled::EllipseHints;
-use even_box::EvenBox;
-use even_box::Evenness;
 use scanline::StyledRow;
 use style::Style;
-use styled_box::StyledBox;
+use styled_scan::styled_box::StyledBox;
+use styled_scan::symmetric_box::SymmetricBox;
+use styled_scan::symmetric_box::Symmetry;
 ghost use mathlib.Core.Path.{_≡_};
 ghost use Prim.Native.Nat.{_-_, _*_, _<_, _≤_};
 ghost use lib.ListN.{length};
@@ -16,12 +16,12 @@ ghost use Rattle.signed.specs.Signed.{Near};
 ghost use Rattle.geometry.specs.Bounds.{wideSide};
 ghost use Rattle.corner.specs.Bounds.{wideStrokeSide};
 ghost use Rattle.figure.specs.Bounds.{wideAreaPosition};
-ghost use Rattle.shape_row.specs.StyledRow.{boxStyledRow};
-ghost use Rattle.styled_box.specs.Ready.{strokeBox, fillBox, ReadyStyledBox};
-ghost use Rattle.even_box.specs.EvenBox.{evenStroke, evenFill, ReadyEven};
+ghost use Rattle.styled_row.specs.StyledRow.{boxStyledRow};
+ghost use Rattle.styled_scan.specs.ReadyBox.{strokeBox, fillBox, ReadyStyledBox};
+ghost use Rattle.styled_scan.specs.SymmetricBox.{symmetricStroke, symmetricFill, ReadySymmetric};
 ghost use Rattle.paint_rows.specs.Rows.{widePainted, rowsBy};
 ghost use Rattle.paint_boxes.specs.Spaced.{spacedBy, SpacedNear, TurnAt};
-ghost use Rattle.paint_boxes.specs.Whole.{WholeEven};
+ghost use Rattle.paint_boxes.specs.Whole.{WholeSymmetric};
 
 // The rows that a turn paints: how far from one to the next, how many, and the row of the next turn.
 struct Turn {
@@ -74,12 +74,13 @@ fn paint_spaced_rows(
     }
 }
 
-// Paints all rows of an even box.
-fn paint_even_box(canvas: &mut [u8], size: CanvasSize, b: EvenBox, style: Style)
+// Paints all rows of a symmetric box.
+fn paint_symmetric_box(canvas: &mut [u8], size: CanvasSize, b: SymmetricBox, style: Style)
     requires { ⌜ length (now canvas) ≡ size .width * size .height ⌝ }
     requires { ⌜ size .width ≤ wideSide ⌝ }
-    requires { ⌜ ReadyEven b ⌝ }
-    ensures { λ _. ⌜ now (canvas .exit) ≡ rowsBy (boxStyledRow (evenStroke b) (evenFill b)) style (size .width) (size .height) (b .area .«top_left» .y) (b .area .size .height) (now (canvas .entry)) ⌝ }
+    requires { ⌜ ReadySymmetric b ⌝ }
+    ensures { λ _. ⌜ now (canvas .exit) ≡ rowsBy (boxStyledRow (symmetricStroke b) (symmetricFill b)) style (size .width) (size .height)
+        (b .area .«top_left» .y) (b .area .size .height) (now (canvas .entry)) ⌝ }
 {
     let area = b.area;
     let top_left = area.top_left;
@@ -101,27 +102,27 @@ fn paint_even_box(canvas: &mut [u8], size: CanvasSize, b: EvenBox, style: Style)
     }
 }
 
-// The even box, if it is one and the rows are all of its rows.
-fn whole_even_box(b: StyledBox, y: i32, count: u32) -> Evenness
+// The symmetric box, if it is one and the rows are all of its rows.
+fn whole_symmetric_box(b: StyledBox, y: i32, count: u32) -> Symmetry
     requires { ⌜ ReadyStyledBox b ⌝ }
-    ensures { λ r. ⌜ WholeEven b y count r ⌝ }
+    ensures { λ r. ⌜ WholeSymmetric b y count r ⌝ }
 {
     let area = b.area;
     let top_left = area.top_left;
     let sides = area.size;
     if y < top_left.y {
-        return Evenness::Uneven;
+        return Symmetry::Asymmetric;
     }
     if top_left.y < y {
-        return Evenness::Uneven;
+        return Symmetry::Asymmetric;
     }
     if count != sides.height {
-        return Evenness::Uneven;
+        return Symmetry::Asymmetric;
     }
-    let Evenness::Even(even) = EvenBox::new(b) else {
-        return Evenness::Uneven;
+    let Symmetry::Symmetric(symmetric) = SymmetricBox::new(b) else {
+        return Symmetry::Asymmetric;
     };
-    Evenness::Even(even)
+    Symmetry::Symmetric(symmetric)
 }
 
 // Paints so many rows of a box made ready, from row y on.
@@ -137,11 +138,12 @@ pub fn paint_box(
     requires { ⌜ size .width ≤ wideSide ⌝ }
     requires { ⌜ ReadyStyledBox b ⌝ }
     requires { ⌜ Near wideAreaPosition y × (count ≤ wideStrokeSide) ⌝ }
-    ensures { λ _. ⌜ now (canvas .exit) ≡ rowsBy (boxStyledRow (strokeBox b) (fillBox b)) style (size .width) (size .height) y count (now (canvas .entry)) ⌝ }
+    ensures { λ _. ⌜ now (canvas .exit) ≡ rowsBy (boxStyledRow (strokeBox b) (fillBox b)) style (size .width) (size .height) y count
+        (now (canvas .entry)) ⌝ }
 {
-    let Evenness::Even(even) = whole_even_box(b, y, count) else {
+    let Symmetry::Symmetric(symmetric) = whole_symmetric_box(b, y, count) else {
         paint_rows::paint_box_rows(canvas, size, b, style, y, count);
         return;
     };
-    paint_even_box(canvas, size, even, style);
+    paint_symmetric_box(canvas, size, symmetric, style);
 }

@@ -20,7 +20,7 @@ use Rattle.scanline.specs.declared.Place.the-variants.{At, Nowhere}
 use Rattle.scanline.specs.Places.{findFrom}
 use Rattle.ellipse.specs.Relative.{gap, containsOf}
 use Rattle.ellipse_search.specs.Search.{columnInside}
-use Rattle.ellipse_points.specs.Relative.{firstInside, firstRowInside}
+use Rattle.ellipse_rows.specs.Relative.{firstInside, firstRowInside}
 use Rattle.ellipse_styled.specs.EllipseStyled.{ellipseStyledRow}
 use Rattle.ellipse_styled.specs.Relative.{runsFrom}
 use Rattle.ellipse_styled.proofs.Rows.{styled-lacking, styled-none, styled-found}
@@ -61,13 +61,15 @@ module _ (area : Rectangle) (sides : Size) where
           → ellipseStyledRow area sides (top +ℤ pos dy) ≡ ellipseStyledRow area sides (top +ℤ pos ey)
       found (At s) is there =
           sym (styled-found area sides (top +ℤ pos dy) dy (refl, dh) there s is)
-          ∙ ap (λ (g : ℕ). Runs (runsFrom (area .«top_left» .x) w s (findFrom (columnInside (containsOf (sides .width) (sides .height)) w g) (w - 2 * s) s))) same
+          ∙ ap (λ (g : ℕ). Runs (runsFrom (area .«top_left» .x) w s
+          (findFrom (columnInside (containsOf (sides .width) (sides .height)) w g) (w - 2 * s) s))) same
           ∙ styled-found area sides (top +ℤ pos ey) ey (refl, eh) there s (sym (first-by-gap dy ey same) ∙ is)
       found Nowhere is there =
           sym (styled-none area sides (top +ℤ pos dy) dy (refl, dh) there is)
           ∙ styled-none area sides (top +ℤ pos ey) ey (refl, eh) there (sym (first-by-gap dy ey same) ∙ is)
 
-      by-rows : (t : Bool) → firstRowInside w h ≡ t → ellipseStyledRow area sides (top +ℤ pos dy) ≡ ellipseStyledRow area sides (top +ℤ pos ey)
+      by-rows : (t : Bool) → firstRowInside w h ≡ t → ellipseStyledRow area sides (top +ℤ pos dy) ≡ ellipseStyledRow area sides
+          (top +ℤ pos ey)
       by-rows true there = found (firstInside w h dy) refl there
       by-rows false lacking = sym (styled-lacking area sides (top +ℤ pos dy) lacking) ∙ styled-lacking area sides (top +ℤ pos ey) lacking
 
@@ -149,7 +151,8 @@ module _ (rowAt : ℤ → StyledRow) (style : Style) (W H : ℕ) where
 
   -- the first and the last of n + 2 rows, then those between
   pub ends-first : (n k : ℕ) (y z : ℤ) (canvas : List ℕ) → length canvas ≡ W * H → k ≡ n + 2 → z ≡ y +ℤ pos (n + 1)
-      → rowsBy rowAt style W H (y +ℤ pos 1) n (paintBy rowAt style W H z (paintBy rowAt style W H y canvas)) ≡ rowsBy rowAt style W H y k canvas
+      → rowsBy rowAt style W H (y +ℤ pos 1) n (paintBy rowAt style W H z (paintBy rowAt style W H y canvas))
+      ≡ rowsBy rowAt style W H y k canvas
   unfolding rowsBy
   ends-first n zero y z canvas size is at = absurd (omega (arith, is))
   ends-first n (suc k) y z canvas size is at =
@@ -175,7 +178,8 @@ last-of-them count pairs dy pair half =
 fewer-past : (count pairs dy : ℕ) → dy + pairs < count → count - dy - pairs ≡ 1 + (count - (dy + 1) - pairs)
 fewer-past count pairs dy more = omega arith
 
-fewer-by-one : (count pairs dy : ℕ) → pairs ≤ dy → dy < count - pairs → count - dy - min dy pairs ≡ 1 + (count - (dy + 1) - min (dy + 1) pairs)
+fewer-by-one : (count pairs dy : ℕ) → pairs ≤ dy → dy < count - pairs → count - dy - min dy pairs ≡ 1 +
+    (count - (dy + 1) - min (dy + 1) pairs)
 fewer-by-one count pairs dy past more =
     let room : dy + pairs < count = omega arith in
     let here : min dy pairs ≡ pairs = omega arith in
@@ -208,17 +212,20 @@ module _ (rowAt : ℤ → StyledRow) (style : Style) (W H : ℕ) (first : ℤ) (
 
     -- a row and its mirror image
     rest-by-two : dy < pairs
-        → rowsBy rowAt style W H (first +ℤ pos (dy + 1)) n (paintBy rowAt style W H (first +ℤ pos (count - 1 - dy)) (paintBy rowAt style W H (first +ℤ pos dy) canvas))
+        → rowsBy rowAt style W H (first +ℤ pos (dy + 1)) n
+        (paintBy rowAt style W H (first +ℤ pos (count - 1 - dy)) (paintBy rowAt style W H (first +ℤ pos dy) canvas))
         ≡ rowsBy rowAt style W H first count lent
     rest-by-two pair =
-        ap (λ (z : ℤ). rowsBy rowAt style W H z n (paintBy rowAt style W H (first +ℤ pos (count - 1 - dy)) (paintBy rowAt style W H (first +ℤ pos dy) canvas))) (further dy)
+        ap (λ (z : ℤ). rowsBy rowAt style W H z n
+        (paintBy rowAt style W H (first +ℤ pos (count - 1 - dy)) (paintBy rowAt style W H (first +ℤ pos dy) canvas))) (further dy)
         ∙ ends-first rowAt style W H n (count - dy - min dy pairs) (first +ℤ pos dy) (first +ℤ pos (count - 1 - dy)) canvas (left .size)
         (fewer-by-two count pairs dy pair half) (far-row first (count - 1 - dy) dy n (last-of-them count pairs dy pair half))
         ∙ left .rest
 
     -- a row by itself
     rest-by-one : pairs ≤ dy
-        → rowsBy rowAt style W H (first +ℤ pos (dy + 1)) n (paintBy rowAt style W H (first +ℤ pos dy) canvas) ≡ rowsBy rowAt style W H first count lent
+        → rowsBy rowAt style W H (first +ℤ pos (dy + 1)) n (paintBy rowAt style W H (first +ℤ pos dy) canvas)
+        ≡ rowsBy rowAt style W H first count lent
     unfolding rowsBy
     rest-by-one past =
         ap (λ (z : ℤ). rowsBy rowAt style W H z n (paintBy rowAt style W H (first +ℤ pos dy) canvas)) (further dy)
@@ -248,7 +255,8 @@ module _ (rowAt : ℤ → StyledRow) (style : Style) (W H : ℕ) (first : ℤ) (
   unfolding rowsBy
   no-row y n canvas none = rw none
 
-  pub between-end : (dy : ℕ) (canvas : List ℕ) → count - pairs ≤ dy → 2 * pairs ≤ count → RowsBetween dy canvas → canvas ≡ rowsBy rowAt style W H first count lent
+  pub between-end : (dy : ℕ) (canvas : List ℕ) → count - pairs ≤ dy → 2 * pairs ≤ count → RowsBetween dy canvas → canvas
+      ≡ rowsBy rowAt style W H first count lent
   between-end dy canvas done half left =
       let within = left .within in
       no-row (first +ℤ pos dy) (count - dy - min dy pairs) canvas (omega (arith, within)) ∙ left .rest

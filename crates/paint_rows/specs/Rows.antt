@@ -1,4 +1,4 @@
--- Rows painted one after another, as the code does it: `paint_whole` and `paint` equate it with `painted`.
+-- Rows painted one after another, as the code does it: `paint_figures` and `paint` equate it with `painted`.
 -- Assumes nothing.
 use mathlib.Core.Path.{_≡_}
 use mathlib.Core.Bool.{Bool, cond}

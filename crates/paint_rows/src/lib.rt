@@ -7,8 +7,8 @@ use ellipse_styled::EllipseHints;
 use ellipse_styled::StyledEllipse;
 use scanline::StyledRow;
 use style::Style;
-use styled_box::RowHints;
-use styled_box::StyledBox;
+use styled_scan::styled_box::RowHints;
+use styled_scan::styled_box::StyledBox;
 ghost use mathlib.Core.Path.{_≡_};
 ghost use Prim.Native.Nat.{_*_, _≤_};
 ghost use lib.ListN.{length};
@@ -18,8 +18,8 @@ ghost use Rattle.corner.specs.Bounds.{wideStrokeSide};
 ghost use Rattle.figure.specs.Bounds.{wideAreaPosition};
 ghost use Rattle.ellipse_styled.specs.EllipseStyled.{ellipseStyledRow};
 ghost use Rattle.ellipse_styled.specs.Relative.{ReadyEllipse};
-ghost use Rattle.shape_row.specs.StyledRow.{boxStyledRow};
-ghost use Rattle.styled_box.specs.Ready.{strokeBox, fillBox, ReadyStyledBox};
+ghost use Rattle.styled_row.specs.StyledRow.{boxStyledRow};
+ghost use Rattle.styled_scan.specs.ReadyBox.{strokeBox, fillBox, ReadyStyledBox};
 ghost use Rattle.paint_rows.specs.Rows.{widePainted, twiceBy, rowsBy, Mirrored};
 
 // How many pairs of rows mirror each other: half of an ellipse's rows where all of them are to be
@@ -79,7 +79,8 @@ pub fn paint_ellipse(
     requires { ⌜ size .width ≤ wideSide ⌝ }
     requires { ⌜ ReadyEllipse ellipse ⌝ }
     requires { ⌜ Near wideAreaPosition y × (count ≤ wideStrokeSide) ⌝ }
-    ensures { λ _. ⌜ now (canvas .exit) ≡ rowsBy (ellipseStyledRow (ellipse .area) (ellipse .sides)) style (size .width) (size .height) y count (now (canvas .entry)) ⌝ }
+    ensures { λ _. ⌜ now (canvas .exit) ≡ rowsBy (ellipseStyledRow (ellipse .area) (ellipse .sides)) style (size .width)
+        (size .height) y count (now (canvas .entry)) ⌝ }
 {
     let pairs = mirrored_pairs(ellipse, y, count);
     let mut hints = EllipseHints {
@@ -135,7 +136,8 @@ pub fn paint_box_rows(
     requires { ⌜ size .width ≤ wideSide ⌝ }
     requires { ⌜ ReadyStyledBox b ⌝ }
     requires { ⌜ Near wideAreaPosition y × (count ≤ wideStrokeSide) ⌝ }
-    ensures { λ _. ⌜ now (canvas .exit) ≡ rowsBy (boxStyledRow (strokeBox b) (fillBox b)) style (size .width) (size .height) y count (now (canvas .entry)) ⌝ }
+    ensures { λ _. ⌜ now (canvas .exit) ≡ rowsBy (boxStyledRow (strokeBox b) (fillBox b)) style (size .width) (size .height) y count
+        (now (canvas .entry)) ⌝ }
 {
     let mut hints = RowHints::none();
     let mut dy: u32 = 0;

@@ -44,7 +44,8 @@ pub center-refused : (c : Point) (s : Size) (refusal : Refusal) → SizeUpTo max
 unfolding centerCheck positionCheck withCenter
 center-refused c s refusal small e = either-axis _ _ _ _ (far (c .x) (s .width) (small .width)) (far (c .y) (s .height) (small .height)) e
   where
-    far : (z : ℤ) (side : ℕ) → side ≤ maxSide → beyond (maxPosition + maxSide) z ≡ true → beyond maxPosition (z -ℤ pos (centerTerm side)) ≡ true
+    far : (z : ℤ) (side : ℕ) → side ≤ maxSide → beyond (maxPosition + maxSide) z ≡ true → beyond maxPosition (z -ℤ pos (centerTerm side))
+        ≡ true
     far z side h t =
         let d = z -ℤ pos (centerTerm side) in
         lt-ltb maxPosition (natAbs d)

@@ -5,7 +5,7 @@ use native.Mathlib.Omega.{arith}
 use lib.IntN.{ℤ, pos, _+ℤ_, _-ℤ_}
 use Rattle.signed.specs.Signed.{maxI32, Near}
 use Rattle.signed.proofs.Laws.{add-law, near-add, near-sub, one-part-zero}
-pub use Rattle.side.proofs.Parts.{offset-side-by-parts}
+pub use Rattle.rectangle_side.proofs.Parts.{offset-side-by-parts}
 use Rattle.geometry.specs.declared.Size.{Size}
 use Rattle.rectangle.specs.declared.Rectangle.{Rectangle}
 use Rattle.geometry.specs.Bounds.{widePoint, wideSide, PointNear, SizeUpTo}

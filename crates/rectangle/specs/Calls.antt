@@ -4,7 +4,7 @@ use mathlib.Core.List.{List, [], _∷_}
 use lib.IntN.{ℤ, pos}
 use Rattle.geometry.specs.declared.Point.{Point}
 use Rattle.geometry.specs.declared.Size.{Size}
-use Rattle.range.specs.declared.Range.{Range}
+use Rattle.geometry_range.specs.declared.Range.{Range}
 use Rattle.rectangle.specs.declared.Rectangle.{Rectangle}
 use Rattle.rectangle.specs.declared.PointAnswer.{PointAnswer}
 use Rattle.rectangle.specs.declared.PointAnswer.the-variants as point-answer

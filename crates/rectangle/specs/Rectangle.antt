@@ -1,11 +1,11 @@
 -- Document 01, 'Rectangle and offset' (`rectangle/mod.rs`).
 -- Assumes nothing.
 use lib.IntN.{ℤ, pos, _+ℤ_, _-ℤ_}
-pub use Rattle.side.specs.Side.{centerTerm}
-unfoldable pub use Rattle.side.specs.Side.{offsetSide}
+pub use Rattle.rectangle_side.specs.Side.{centerTerm}
+unfoldable pub use Rattle.rectangle_side.specs.Side.{offsetSide}
 use Rattle.geometry.specs.declared.Point.{Point}
 use Rattle.geometry.specs.declared.Size.{Size}
-use Rattle.range.specs.declared.Range.{Range}
+use Rattle.geometry_range.specs.declared.Range.{Range}
 use Rattle.rectangle.specs.declared.Rectangle.{Rectangle}
 
 -- the centre: top-left plus the term of each side (`Rectangle::center`)

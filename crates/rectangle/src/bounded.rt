@@ -4,8 +4,8 @@
 use crate::Rectangle;
 use geometry::Point;
 use geometry::Size;
-use range::Range;
-use side::offset_side;
+use geometry_range::Range;
+use rectangle_side::offset_side;
 ghost use mathlib.Core.Path.{_≡_};
 ghost use Prim.Native.Nat.{_*_};
 ghost use Rattle.signed.specs.Signed.{Near};
@@ -17,7 +17,7 @@ pub fn center(rectangle: Rectangle) -> Point
     requires { ⌜ Bounded rectangle ⌝ }
     ensures { λ r. ⌜ r ≡ Rectangle·center rectangle ⌝ }
 {
-    extent::center(rectangle.top_left, rectangle.size)
+    rectangle_extent::center(rectangle.top_left, rectangle.size)
 }
 
 pub fn with_center(center: Point, size: Size) -> Rectangle
@@ -26,7 +26,7 @@ pub fn with_center(center: Point, size: Size) -> Rectangle
     ensures { λ r. ⌜ r ≡ withCenter center size ⌝ }
 {
     Rectangle {
-        top_left: extent::top_left_about(center, size),
+        top_left: rectangle_extent::top_left_about(center, size),
         size: size,
     }
 }
@@ -35,14 +35,14 @@ pub fn rows(rectangle: Rectangle) -> Range
     requires { ⌜ Bounded rectangle ⌝ }
     ensures { λ r. ⌜ r ≡ Rectangle·rows rectangle ⌝ }
 {
-    extent::rows(rectangle.top_left, rectangle.size)
+    rectangle_extent::rows(rectangle.top_left, rectangle.size)
 }
 
 pub fn columns(rectangle: Rectangle) -> Range
     requires { ⌜ Bounded rectangle ⌝ }
     ensures { λ r. ⌜ r ≡ Rectangle·columns rectangle ⌝ }
 {
-    extent::columns(rectangle.top_left, rectangle.size)
+    rectangle_extent::columns(rectangle.top_left, rectangle.size)
 }
 
 pub fn offset(rectangle: Rectangle, k: i32) -> Rectangle

@@ -7,7 +7,7 @@ use geometry::check_center;
 use geometry::check_offset;
 use geometry::check_position;
 use geometry::check_size;
-use range::Range;
+use geometry_range::Range;
 use refusal::Checked;
 use refusal::Refusal;
 

@@ -3,11 +3,11 @@
 // where the arm has more to do than to hand on.
 use geometry::Point;
 use geometry::Size;
+use geometry_range::Range;
 use host_answers::NO_RECORD;
 use host_answers::held;
 use host_answers::put_numbers;
 use host_values::put_rectangle;
-use range::Range;
 use rectangle::PointAnswer;
 use rectangle::RangeAnswer;
 use rectangle::Rectangle;
@@ -80,9 +80,9 @@ pub fn make(
         6 => host_styled::styled_row(a, b, i0, c),
         7 => host_styled::styled_bounding_box(a, b, c),
         8 => host_paint::paint_figure(a, b, u0, u1, p),
-        9 => host_sheets::open(u0, u1, a),
-        10 => host_sheets::add(a, b, c),
-        11 => host_sheets::paint(a, u0, p),
+        9 => host_sheet::open(u0, u1, a),
+        10 => host_sheet::add(a, b, c),
+        11 => host_sheet::paint(a, u0, p),
         12 => run_calls(u0, u1, a, p, b),
         13 => host_netpbm::write_p5(u0, u1, p, q, a),
         _ => on_rectangle(call, n, a),

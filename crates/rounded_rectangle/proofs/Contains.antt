@@ -6,12 +6,12 @@ use mathlib.Core.Bool.{Bool, true, false, cond, _&&_, and-false}
 use Prim.Native.Nat.{ℕ, _+_, _-_, _<_}
 use native.Mathlib.Omega.{arith}
 use lib.IntN.{ℤ, pos, _+ℤ_}
-use Rattle.range.specs.Range.{contains as Range·contains}
+use Rattle.geometry_range.specs.Range.{contains as Range·contains}
 use Rattle.rectangle.specs.Rectangle.{rows, columns}
 use Rattle.scanline.specs.declared.Place.the-variants.{At, Nowhere}
 use Rattle.scanline.specs.Places.{Placed}
 use Rattle.scanline.proofs.Placed.{place-among}
-use Rattle.ellipse_quadrant.proofs.Within.{quadrant-has-rows}
+use Rattle.rounded_rectangle.proofs.Within.{quadrant-has-rows}
 use Rattle.corner_radii.specs.declared.CornerRadii.{CornerRadii}
 use Rattle.rounded_rectangle.specs.declared.RoundedRectangle.{RoundedRectangle}
 use Rattle.rounded_rectangle.specs.Quadrants.{left, top, width, height, insideTopRight, insideBottomRight, insideBottomLeft}
@@ -64,7 +64,8 @@ module _ (b : RoundedRectangle) (dx dy : ℕ) (in-columns : dx < width b) (in-ro
       (λ e. ap (insideBottomLeft b x) y-from-last ∙ bottom-left-relative b dx below below-in (quadrant-has-rows below _ _ e))
       (same-arm
       (ap₂ _&&_ (from-start-relative (top b) (height b) dy _ in-rows) (from-start-relative (left b) (width b) dx _ in-columns))
-      (λ e. ap₂ (insideBottomRight b) x-from-last y-from-last ∙ bottom-right-relative b beside below beside-in below-in (quadrant-has-rows below _ _ e))
+      (λ e. ap₂ (insideBottomRight b) x-from-last y-from-last ∙ bottom-right-relative b beside below beside-in below-in
+      (quadrant-has-rows below _ _ e))
       refl))))
 
 module _ (b : RoundedRectangle) (x y : ℤ) where

@@ -48,13 +48,24 @@ distance-mirrored first n r k kn p = distance-from-last start x (2 * r) k (omega
 
     meets : x +ℤ pos k ≡ start +ℤ pos (2 * r - 1)
     meets =
-        omega (arith, int, add-law x (pos k), add-law first (pos (n - 1 - k)), add-law start (pos (2 * r - 1)), sub-law (first +ℤ pos n -ℤ pos r) (pos r), sub-law (first +ℤ pos n) (pos r), add-law first (pos n))
+        omega (
+          arith,
+          int,
+          add-law x (pos k),
+          add-law first (pos (n - 1 - k)),
+          add-law start (pos (2 * r - 1)),
+          sub-law
+              (first +ℤ pos n -ℤ pos r) (pos r),
+          sub-law (first +ℤ pos n) (pos r),
+          add-law first (pos n),
+        )
 
 module _ (b : RoundedRectangle) where
   pub top-left-relative : (d e : ℕ) → insideTopLeft b (left b +ℤ pos d) (top b +ℤ pos e) ≡ insideCorner (b .corners .«top_left») d e
   unfolding insideTopLeft
   top-left-relative d e =
-      whole-by-distances _ _ (b .corners .«top_left») _ _ d e (λ _. distance-from-first (left b) _ _ d refl) (distance-from-first (top b) _ _ e refl)
+      whole-by-distances _ _ (b .corners .«top_left») _ _ d e (λ _. distance-from-first (left b) _ _ d refl)
+      (distance-from-first (top b) _ _ e refl)
 
   pub top-right-relative : (d e : ℕ) → d < width b
       → insideTopRight b (left b +ℤ pos (width b - 1 - d)) (top b +ℤ pos e) ≡ insideCorner (b .corners .«top_right») d e
@@ -71,7 +82,8 @@ module _ (b : RoundedRectangle) where
       (λ _. distance-from-first (left b) _ _ d refl) (distance-mirrored (top b) (height b) _ e eh p)
 
   pub bottom-right-relative : (d e : ℕ) → d < width b → e < height b → 0 < b .corners .«bottom_right» .height
-      → insideBottomRight b (left b +ℤ pos (width b - 1 - d)) (top b +ℤ pos (height b - 1 - e)) ≡ insideCorner (b .corners .«bottom_right») d e
+      → insideBottomRight b (left b +ℤ pos (width b - 1 - d)) (top b +ℤ pos (height b - 1 - e)) ≡ insideCorner
+      (b .corners .«bottom_right») d e
   unfolding insideBottomRight
   bottom-right-relative d e dw eh p =
       whole-by-distances _ _ (b .corners .«bottom_right») _ _ d e

@@ -10,9 +10,9 @@ use lib.Dec.{ltb}
 use lib.IntN.{ℤ, pos, _+ℤ_, _-ℤ_}
 use Rattle.signed.proofs.Laws.{int, add-law, sub-law}
 use Rattle.geometry.specs.declared.Size.{Size}
-use Rattle.range.specs.Range.{contains as Range·contains}
+use Rattle.geometry_range.specs.Range.{contains as Range·contains}
 use Rattle.rectangle.specs.Rectangle.{rows}
-use Rattle.range.proofs.Fields.{range-by-fields}
+use Rattle.geometry_range.proofs.Fields.{range-by-fields}
 use Rattle.scanline.specs.declared.Place.{Place}
 use Rattle.scanline.specs.declared.Place.the-variants.{At, Nowhere}
 use Rattle.scanline.specs.declared.Row.the-variants.{Run, NoRow}
@@ -22,7 +22,7 @@ use Rattle.scanline.specs.Points.{EndsWithin}
 use Rattle.scanline.proofs.Find.{found-at}
 use Rattle.scanline.proofs.Columns.{fromLeft, fromRight, first-from-edge, last-from-edge}
 use Rattle.scanline.proofs.Placed.{place-among}
-pub use Rattle.ellipse_quadrant.proofs.Insets.{side-straight, side-inset-le}
+pub use Rattle.rounded_rectangle.proofs.SideInsets.{side-straight, side-inset-le}
 use Rattle.rounded_rectangle.specs.declared.RoundedRectangle.{RoundedRectangle}
 use Rattle.rounded_rectangle.specs.declared.Insets.{Insets}
 use Rattle.rounded_rectangle.specs.Quadrants.{left, top, width, height, insideTopLeft, insideTopRight, insideBottomRight, insideBottomLeft}
@@ -74,7 +74,8 @@ module _ (b : RoundedRectangle) (dy : ℕ) (in-box : dy < height b) where
 
   end-by-test : (radius : Size) (e : ℕ) (test : ℤ → Bool)
       → ((d : ℕ) → d < width b → test (left b +ℤ pos (width b - 1 - d)) ≡ insideCorner radius d e)
-      → columnAfterElse (left b +ℤ pos (width b)) (lastColumn test (left b) (width b)) ≡ left b +ℤ pos (width b) -ℤ pos (inset radius e (width b))
+      → columnAfterElse (left b +ℤ pos (width b)) (lastColumn test (left b) (width b)) ≡ left b +ℤ pos (width b) -ℤ pos
+      (inset radius e (width b))
   unfolding inset
   end-by-test radius e test agree =
       ap (columnAfterElse (left b +ℤ pos (width b))) (last-from-edge test (λ d. insideCorner radius d e) (left b) (width b) agree)
@@ -111,7 +112,8 @@ module _ (b : RoundedRectangle) (dy : ℕ) (in-box : dy < height b) where
   run-relative = sym (range-by-fields start-relative end-relative)
 
 -- the run between two insets of w columns keeps to them
-pub between-within : (left : ℤ) (w : ℕ) (insets : Insets) → insets .left ≤ w → insets .right ≤ w → EndsWithin left w (runBetween left w insets)
+pub between-within : (left : ℤ) (w : ℕ) (insets : Insets) → insets .left ≤ w → insets .right ≤ w → EndsWithin left w
+    (runBetween left w insets)
 between-within left w insets l r =
     record {
       start-from = omega (arith, int, add-law left (pos (insets .left)));

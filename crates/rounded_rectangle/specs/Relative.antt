@@ -4,7 +4,7 @@
 use mathlib.Core.Bool.{Bool, true, cond}
 use Prim.Native.Nat.{ℕ, _-_}
 use lib.IntN.{ℤ, pos, _+ℤ_, _-ℤ_}
-use Rattle.range.specs.declared.Range.{Range}
+use Rattle.geometry_range.specs.declared.Range.{Range}
 use Rattle.geometry.specs.Bounds.{widePoint, PointNear, SizeUpTo}
 use Rattle.corner_radii.specs.declared.CornerRadii.{CornerRadii}
 use Rattle.corner.specs.Bounds.{wideRadius, wideStrokeSide}
@@ -13,8 +13,8 @@ use Rattle.rounded_rectangle.specs.declared.RoundedRectangle.{RoundedRec
 use Rattle.rounded_rectangle.specs.declared.Insets.{Insets}
 use Rattle.rounded_rectangle.specs.declared.RoundedRectangleContains.{RoundedRectangleContains}
 -- a corner: when it is ready, its test, what lies within it, and the insets of a row
-pub use Rattle.ellipse_quadrant.specs.Quadrant.{Ready}
-unfoldable pub use Rattle.ellipse_quadrant.specs.Quadrant.{insideCorner, inQuadrant, inset, sideInset}
+pub use Rattle.rounded_rectangle.specs.Quadrant.{Ready}
+unfoldable pub use Rattle.rounded_rectangle.specs.Quadrant.{insideCorner, inQuadrant, inset, sideInset}
 
 -- the box that the inner functions take: a stroke area too
 pub record BoundedBox (b : RoundedRectangle) : Type 0 where

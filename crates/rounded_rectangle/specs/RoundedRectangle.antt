@@ -4,8 +4,8 @@
 use mathlib.Core.Bool.{Bool, true, false, cond, _&&_}
 use lib.IntN.{ℤ}
 use lib.Signed.{ltZ, leZ}
-use Rattle.range.specs.declared.Range.{Range}
-use Rattle.range.specs.Range.{contains as Range·contains}
+use Rattle.geometry_range.specs.declared.Range.{Range}
+use Rattle.geometry_range.specs.Range.{contains as Range·contains}
 use Rattle.rectangle.specs.Rectangle.{rows, columns}
 use Rattle.scanline.specs.declared.Row.{Row}
 use Rattle.scanline.specs.declared.Row.the-variants.{Run, NoRow}

@@ -2,17 +2,20 @@
 // `rounded_rectangle/mod.rs` (`RoundedRectangleContains`) and `points.rs` (`Scanlines`). Columns and
 // rows are counted from the box's corners, unsigned; signed numbers come in with the asked point or
 // row, and go out with the run.
+use crate::ellipse_quadrant::EllipseQuadrant;
+use crate::ellipse_quadrant::in_quadrant;
+use crate::ellipse_quadrant::side_inset;
 use corner_radii::CornerRadii;
-use ellipse_quadrant::EllipseQuadrant;
-use ellipse_quadrant::in_quadrant;
-use ellipse_quadrant::side_inset;
 use ellipse_search::ANYWHERE;
 use geometry::Point;
 use geometry::Size;
-use range::Range;
+use geometry_range::Range;
 use rectangle::Rectangle;
 use scanline::Place;
 use scanline::Row;
+
+pub mod ellipse_quadrant;
+
 ghost use mathlib.Core.Path.{_≡_};
 ghost use Prim.Native.Nat.{_<_, _≤_};
 ghost use Rattle.signed.specs.Signed.{Near};
@@ -90,7 +93,8 @@ impl RoundedRectangleContains {
     pub fn insets(self, dy: u32, left_hint: u32, right_hint: u32) -> Insets
         requires { ⌜ ReadyBox self ⌝ }
         requires { ⌜ dy < self .size .height ⌝ }
-        ensures { λ r. ⌜ (r ≡ rowInsets (radii self) (self .size .width) (self .size .height) dy) × (r .left ≤ self .size .width) × (r .right ≤ self .size .width) ⌝ }
+        ensures { λ r. ⌜ (r ≡ rowInsets (radii self) (self .size .width) (self .size .height) dy) × (r .left ≤ self .size .width)
+            × (r .right ≤ self .size .width) ⌝ }
     {
         let size = self.size;
         let top_left = self.top_left;

@@ -10,8 +10,8 @@ use lib.IntN.{ℤ, pos, _+ℤ_}
 use lib.ListN.{length, set, length-set, length-append}
 use lib.Seq.{sets, length-sets}
 use Rattle.geometry.specs.declared.Point.{Point}
-use Rattle.range.specs.declared.Range.{Range}
-use Rattle.range.specs.Range.{isEmpty}
+use Rattle.geometry_range.specs.declared.Range.{Range}
+use Rattle.geometry_range.specs.Range.{isEmpty}
 use Rattle.scanline.specs.declared.Row.{Row}
 use Rattle.scanline.specs.declared.Row.the-variants.{Run, NoRow}
 use Rattle.scanline.specs.Points.{runLength, runPoints, andBelow, pointsFrom, entries}

@@ -8,8 +8,8 @@ use lib.IntN.{ℤ, pos, _+ℤ_, _-ℤ_}
 use lib.Signed.{leZ}
 use Rattle.signed.specs.Signed.{floor0}
 use Rattle.geometry.specs.declared.Point.{Point}
-use Rattle.range.specs.declared.Range.{Range}
-use Rattle.range.specs.Range.{isEmpty}
+use Rattle.geometry_range.specs.declared.Range.{Range}
+use Rattle.geometry_range.specs.Range.{isEmpty}
 use Rattle.scanline.specs.declared.Row.{Row}
 use Rattle.scanline.specs.declared.Row.the-variants.{Run, NoRow}
 

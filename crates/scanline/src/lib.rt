@@ -1,7 +1,7 @@
 // Rows of figures, and the places of columns and rows in them, after embedded-graphics 0.8.2
 // `common/scanline.rs`. Inside a figure's box columns and rows are counted from a corner, unsigned;
 // the leaves here carry signed columns to places and back.
-use range::Range;
+use geometry_range::Range;
 ghost use mathlib.Core.Path.{_≡_};
 ghost use Prim.Native.Nat.{_+_, _*_, _≤_};
 ghost use lib.IntN.{pos, _+ℤ_, _-ℤ_};

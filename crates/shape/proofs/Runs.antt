@@ -9,11 +9,11 @@ use lib.Signed.{leZ}
 use mir.Syntax.{w32}
 use Rattle.signed.specs.Signed.{Near}
 use Rattle.signed.proofs.Laws.{int, add-law, sub-law, fits-by-parts}
-use Rattle.range.specs.declared.Range.{Range}
+use Rattle.geometry_range.specs.declared.Range.{Range}
 use Rattle.geometry.specs.Bounds.{widePoint}
 use Rattle.scanline.specs.Points.{runLength, EndsWithin}
 use Rattle.corner.specs.Bounds.{wideStrokeSide}
-use Rattle.box_rules.specs.Bounds.{wideAreaPosition}
+use Rattle.shape.specs.BoxBounds.{wideAreaPosition}
 
 -- a run that keeps to w columns from left on has at most w columns, and its ends are near
 module _ (left : ℤ) (w : ℕ) (r : Range) (near : Near wideAreaPosition left) (small : w ≤ wideStrokeSide) (ends : EndsWithin left w r) where

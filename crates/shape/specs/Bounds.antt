@@ -1,6 +1,6 @@
--- What the inner functions ask of a shape, by the bounds of `box_rules`.
+-- What the inner functions ask of a shape, by the bounds of `shape::box_rules`.
 -- Assumes nothing.
-use Rattle.box_rules.specs.Bounds.{AreaRectangle, AreaBox}
+use Rattle.shape.specs.BoxBounds.{AreaRectangle, AreaBox}
 use Rattle.shape.specs.declared.Shape.{Shape}
 use Rattle.shape.specs.declared.Shape.the-variants.{Ellipse, RoundedBox}
 

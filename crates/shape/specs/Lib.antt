@@ -1,2 +1,4 @@
 pub mod Shape
 pub mod Bounds
+pub mod BoxBounds
+pub mod BoxRules

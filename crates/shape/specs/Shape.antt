@@ -9,7 +9,7 @@ use Rattle.rectangle.specs.Rectangle.{rows}
 use Rattle.scanline.specs.declared.Row.{Row}
 use Rattle.scanline.specs.Points.{pointsFrom}
 use Rattle.ellipse.specs.Ellipse.{contains as Ellipse·contains}
-use Rattle.ellipse_points.specs.EllipsePoints.{row as Ellipse·row}
+use Rattle.ellipse_rows.specs.EllipsePoints.{row as Ellipse·row}
 use Rattle.rounded_rectangle.specs.declared.RoundedRectangle.{RoundedRectangle}
 use Rattle.rounded_rectangle.specs.RoundedRectangle.{contains as RoundedRectangle·contains, row as RoundedRectangle·row}
 use Rattle.shape.specs.declared.Shape.{Shape}

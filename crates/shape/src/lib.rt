@@ -6,6 +6,9 @@ use geometry::Point;
 use rectangle::Rectangle;
 use rounded_rectangle::RoundedRectangle;
 use scanline::Row;
+
+pub mod box_rules;
+
 ghost use mathlib.Core.Path.{_≡_};
 ghost use Rattle.signed.specs.Signed.{Near};
 ghost use Rattle.geometry.specs.Bounds.{widePoint, PointNear};
@@ -47,7 +50,7 @@ impl Shape {
         ensures { λ r. ⌜ (r ≡ rowOfShape self y) × RowWithin (Shape·rectangle self .«top_left» .x) (Shape·rectangle self .size .width) r ⌝ }
     {
         match self {
-            Shape::Ellipse(rectangle) => ellipse_points::row(rectangle, y),
+            Shape::Ellipse(rectangle) => ellipse_rows::row(rectangle, y),
             Shape::RoundedBox(b) => b.row(y),
         }
     }

@@ -25,12 +25,12 @@ use Rattle.book.specs.Sheet.{keepsRules, layerAnswer, answer}
 use Rattle.book.proofs.Lists.{take-map}
 use Rattle.book.proofs.LowestNumber.{paint-refused-broken-sheet, paint-answer-on-sheet}
 use Rattle.drawing.specs.Drawing.{StyledFigure, drawing}
-use Rattle.layers.specs.declared.Layer.{Layer}
-use Rattle.layer_rows.specs.declared.LayerRows.{LayerRows}
-use Rattle.layer_rows.specs.LayerRows.{someRowsOwe}
-use Rattle.layers.specs.Layers.{blankLayer, layersOf, stateOf, layerRows}
-use Rattle.layer_rows.proofs.RowTests.{noRows}
-use Rattle.layers.proofs.LayerRules.{owe-by-rows}
+use Rattle.sheet_layers.specs.declared.Layer.{Layer}
+use Rattle.sheet_layers.specs.declared.rows.LayerRows.{LayerRows}
+use Rattle.sheet_layers.specs.LayerRows.{someRowsOwe}
+use Rattle.sheet_layers.specs.Layers.{blankLayer, layersOf, stateOf, layerRows}
+use Rattle.sheet_layers.proofs.RowTests.{noRows}
+use Rattle.sheet_layers.proofs.LayerRules.{owe-by-rows}
 use Rattle.sheet.proofs.Places.{layers-many, layer-at, layer-past, layers-before, kept-few}
 
 module _ (W H count : ℕ) (places : List Layer) (sixteen : length places ≡ 16) where
@@ -110,7 +110,12 @@ module _ (W H count : ℕ) (places : List Layer) (sixteen : length places ≡ 16
           unfolding layerRows
           by-layer =
               on-sheet
-              ∙ rw (layer-at count places sixteen few i within, layers-before count places sixteen few i (omega arith), owe-by-rows (take i places) (layer .«next_row»))
+              ∙ rw (
+                layer-at count places sixteen few i within,
+                layers-before count places sixteen few i (omega arith),
+                owe-by-rows
+                    (take i places) (layer .«next_row»),
+              )
 
           pub paint-finished : leZ (layerRows layer .end) (layerRows layer .next) ≡ true → painted ≡ Refused NoRowLeft
           paint-finished finished = by-layer ∙ rw finished
@@ -152,7 +157,8 @@ module _ (W H count : ℕ) (places : List Layer) (sixteen : length places ≡ 16
         by-place rules false past e = leb-false count i past
 
 -- ---- rows that were found for the first n places
-module _ (n i : ℕ) (within : i < n) (rows : List LayerRows) (layers : List Layer) (found : take n rows ≡ map layerRows (take n layers)) where
+module _ (n i : ℕ) (within : i < n) (rows : List LayerRows) (layers : List Layer)
+    (found : take n rows ≡ map layerRows (take n layers)) where
   pub rows-at : n ≤ length layers → getD rows i noRows ≡ layerRows (getD layers i blankLayer)
   rows-at enough = by-place n i rows layers within found room enough
     where

@@ -12,7 +12,7 @@ use Rattle.geometry.specs.Checks.{sizeCheck, positionCheck}
 use Rattle.rectangle.specs.Rectangle.{center, withCenter, offsetSide, offset}
 use Rattle.scanline.specs.Columns.{firstColumn}
 use Rattle.ellipse.specs.Ellipse.{center2x, fromCenter2x, threshold, inside}
-use Rattle.ellipse_points.specs.EllipsePoints.{scanline, hasRows, rowCount}
+use Rattle.ellipse_rows.specs.EllipsePoints.{scanline, hasRows, rowCount}
 use Rattle.corner_radii.specs.CornerRadii.{radiusCheck, radiiCheck}
 use Rattle.figure.specs.Figure.{confined, offsetBox}
 use Rattle.style.specs.Style.{styleCheck, outsideStrokeWidth}
@@ -22,7 +22,7 @@ use Rattle.book.specs.Book.{add, paint, hasRow}
 use Rattle.book.specs.Sheet.{answer, keepsRules, layersKeepRules, layerKeepsRules, noneOvertakes, overtakes, someLayerOwes, layerOwes}
 use Rattle.drawing.specs.Rows.{strokeRows}
 use Rattle.drawing.specs.Drawing.{StyledFigure, styledCheck}
-use Rattle.layers.specs.Layers.{blankLayer}
+use Rattle.sheet_layers.specs.Layers.{blankLayer}
 use Rattle.sheet.specs.declared.Sheet.{Sheet}
 use Rattle.sheet.specs.Sheet.{openAnswer, openedSheet, sheetAnswer, addedLayer}
 
@@ -55,8 +55,11 @@ abbrev boxes : Sheet
 boxes = record { width = 4; height = 4; count = 2; layers = addedLayer box ∷ addedLayer box ∷ replicate 14 blankLayer }
 
 pub table-examples : (answerNumber (openAnswer 0 4) ≡ 6) × (answerNumber (sheetAnswer (blanks 17) bytes (paint 0)) ≡ 7)
-    × (answerNumber (sheetAnswer (openedSheet 4 4) (replicate 15 0) (paint 0)) ≡ 8) × (answerNumber (sheetAnswer (blanks 16) [] (add box)) ≡ 9)
+    × (answerNumber (sheetAnswer (openedSheet 4 4) (replicate 15 0) (paint 0)) ≡ 8) ×
+    (answerNumber (sheetAnswer (blanks 16) [] (add box)) ≡ 9)
     × (answerNumber (sheetAnswer (openedSheet 4 4) bytes (paint 0)) ≡ 10) × (answerNumber (sheetAnswer (blanks 1) bytes (paint 0)) ≡ 11)
     × (answerNumber (sheetAnswer boxes bytes (paint 1)) ≡ 12) × (answerNumber (sheetAnswer boxes bytes (paint 0)) ≡ 0)
-unfolding answer keepsRules layersKeepRules layerKeepsRules noneOvertakes overtakes someLayerOwes layerOwes hasRow canvasSizeCheck styledCheck strokeRows sizeCheck positionCheck center withCenter offsetSide offset confined offsetBox styleCheck outsideStrokeWidth center2x fromCenter2x threshold inside scanline hasRows rowCount firstColumn radiusCheck radiiCheck
+unfolding answer keepsRules layersKeepRules layerKeepsRules noneOvertakes overtakes someLayerOwes layerOwes hasRow canvasSizeCheck
+    styledCheck strokeRows sizeCheck positionCheck center withCenter offsetSide offset confined offsetBox styleCheck outsideStrokeWidth
+    center2x fromCenter2x threshold inside scanline hasRows rowCount firstColumn radiusCheck radiiCheck
 table-examples = (refl, refl, refl, refl, refl, refl, refl, refl)

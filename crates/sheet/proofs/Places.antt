@@ -20,10 +20,10 @@ use Rattle.book.proofs.Tests.{and-true-parts, false-unless}
 use Rattle.book.proofs.Lists.{take-map, element-map}
 use Rattle.book.proofs.RulesTest.{side-fits, test-rules}
 use Rattle.drawing.specs.Drawing.{drawing}
-use Rattle.layers.specs.declared.Layer.{Layer}
-use Rattle.layers.proofs.Layer.{the-field}
-use Rattle.layers.proofs.LayerRules.{LayerWithin, kept-within, kept-at}
-use Rattle.layers.specs.Layers.{layerOf, blankLayer, layersOf}
+use Rattle.sheet_layers.specs.declared.Layer.{Layer}
+use Rattle.sheet_layers.proofs.Layer.{the-field}
+use Rattle.sheet_layers.proofs.LayerRules.{LayerWithin, kept-within, kept-at}
+use Rattle.sheet_layers.specs.Layers.{layerOf, blankLayer, layersOf}
 
 -- ---- elements by their number
 module _ {A : Type 0} where
@@ -116,7 +116,11 @@ module _ (W H count : ℕ) (places : List Layer) where
         → layersKeepRules drawing (map layerOf (take count places)) ≡ kept
     unfolding keepsRules
     kept-by-layers passed few =
-        rw (size-fits W H passed, le-leb (length (layersOf count places)) 16 (omega (arith, layers-many count places sixteen few)), layers-are count places sixteen few)
+        rw (
+          size-fits W H passed,
+          le-leb (length (layersOf count places)) 16 (omega (arith, layers-many count places sixteen few)),
+          layers-are count places sixteen few,
+        )
 
     pub kept-layer : kept ≡ true → (i : ℕ) → i < count → LayerWithin (getD places i blankLayer)
     unfolding keepsRules

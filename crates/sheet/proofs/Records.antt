@@ -17,8 +17,8 @@ use Rattle.book.specs.Sheet.{Layers, State, answer, carriedOut, after, paintRow
 use Rattle.book.proofs.Lists.{set-map}
 use Rattle.book.proofs.LowestNumber.{add-any-canvas, refused-changes-nothing, accepted-is-carried-out}
 use Rattle.drawing.specs.Drawing.{StyledFigure, styledFigure, drawing}
-use Rattle.layers.specs.declared.Layer.{Layer}
-use Rattle.layers.specs.Layers.{layerOf, blankLayer, layersOf}
+use Rattle.sheet_layers.specs.declared.Layer.{Layer}
+use Rattle.sheet_layers.specs.Layers.{layerOf, blankLayer, layersOf}
 use Rattle.sheet.specs.declared.Sheet.{Sheet}
 use Rattle.sheet.specs.Sheet.{stateOf, sheetAnswer, addedLayer, paintedLayer, carriedOutSheet, sheetAfter, canvasAfter}
 use Rattle.sheet.specs.SheetDemand3.{AddTakesNoCanvas}
@@ -27,7 +27,8 @@ use Rattle.sheet.proofs.Answers.{added-room, PaintAccepted, painted-acc
 
 module _ (s : Sheet) (sixteen : length (s .layers) ≡ 16) (canvas : List ℕ) where
   -- ---- refused: the record
-  pub refused-record : (call : Call StyledFigure) (refusal : Refusal) → sheetAnswer s canvas call ≡ Refused refusal → sheetAfter s canvas call ≡ s
+  pub refused-record : (call : Call StyledFigure) (refusal : Refusal) → sheetAnswer s canvas call ≡ Refused refusal
+      → sheetAfter s canvas call ≡ s
   refused-record call refusal e = rw e
 
   -- ---- added
@@ -64,7 +65,8 @@ module _ (s : Sheet) (sixteen : length (s .layers) ≡ 16) (canvas : List ℕ) w
     pub painted-record : sheetAfter s canvas (paint i) ≡ carriedOutSheet s (paint i)
     painted-record = rw e
 
-    painted-layers : layersOf (s .count) (set (s .layers) i (paintedLayer layer)) ≡ set (layersOf (s .count) (s .layers)) i (layerOf (paintedLayer layer))
+    painted-layers : layersOf (s .count) (set (s .layers) i (paintedLayer layer)) ≡ set (layersOf (s .count) (s .layers)) i
+        (layerOf (paintedLayer layer))
     painted-layers =
         layers-are (s .count) (set (s .layers) i (paintedLayer layer)) (length-set (s .layers) i (paintedLayer layer) ∙ sixteen) few
         ∙ ap (map layerOf) (take-set-lt (s .count) (s .layers) i (paintedLayer layer) (told .within))
@@ -93,7 +95,8 @@ module _ (s : Sheet) (sixteen : length (s .layers) ≡ 16) (canvas : List ℕ) w
         ∙ sym painted-carried-out
 
   -- ---- refused: the canvas
-  pub refused-canvas : (call : Call StyledFigure) (refusal : Refusal) → sheetAnswer s canvas call ≡ Refused refusal → canvasAfter s canvas call ≡ canvas
+  pub refused-canvas : (call : Call StyledFigure) (refusal : Refusal) → sheetAnswer s canvas call ≡ Refused refusal
+      → canvasAfter s canvas call ≡ canvas
   refused-canvas call refusal e =
       ap (λ (t : State StyledFigure). t .canvas) (refused-changes-nothing drawing (s .width) (s .height) (stateOf s canvas) call e)
 

@@ -8,8 +8,8 @@ use Rattle.refusal.specs.declared.Refusal.{Refusal}
 use Rattle.refusal.specs.declared.Refusal.the-variants.{SheetRule}
 use Rattle.refusal.specs.declared.Checked.{Checked}
 use Rattle.refusal.specs.declared.Checked.the-variants.{Passed, Refused}
-use Rattle.layers.specs.declared.Layer.{Layer}
-use Rattle.layers.specs.Layers.{blankLayer}
+use Rattle.sheet_layers.specs.declared.Layer.{Layer}
+use Rattle.sheet_layers.specs.Layers.{blankLayer}
 use Rattle.sheet.specs.declared.checks.Asked.{Asked}
 use Rattle.sheet.specs.declared.checks.Asked.the-variants as asked
 

@@ -14,8 +14,8 @@ use Rattle.book.specs.Book.{Call, add, paint}
 use Rattle.book.specs.Sheet.{State, answer, after}
 use Rattle.drawing.specs.Drawing.{StyledFigure, drawing}
 use Rattle.drawing.specs.Rows.{strokeRows}
-use Rattle.layers.specs.declared.Layer.{Layer}
-use Rattle.layers.specs.Layers.{blankLayer, stateOf as Layers·stateOf}
+use Rattle.sheet_layers.specs.declared.Layer.{Layer}
+use Rattle.sheet_layers.specs.Layers.{blankLayer, stateOf as Layers·stateOf}
 use Rattle.sheet.specs.declared.Sheet.{Sheet}
 use Rattle.sheet.specs.declared.SheetAnswer.{SheetAnswer}
 use Rattle.sheet.specs.declared.SheetAnswer.the-variants as sheet-answer

@@ -14,7 +14,7 @@ use Rattle.book.specs.Book.{Call, add, bookAnswers, bookAfterAll}
 use Rattle.book.specs.Sheet.{WithinSide, Rules, answer}
 use Rattle.book.specs.Demand3.{AfterCalls}
 use Rattle.drawing.specs.Drawing.{StyledFigure, drawing}
-use Rattle.layers.specs.Layers.{layersOf}
+use Rattle.sheet_layers.specs.Layers.{layersOf}
 use Rattle.sheet.specs.declared.Sheet.{Sheet}
 use Rattle.sheet.specs.Sheet.{stateOf, openAnswer, openedSheet, sheetAnswer, sheetAfter, canvasAfter}
 

@@ -2,10 +2,10 @@
 // hold.
 use crate::Sheet;
 use canvas_size::CanvasSize;
-use layers::Layer;
-use layers::RulesTested;
 use refusal::Checked;
 use refusal::Refusal;
+use sheet_layers::Layer;
+use sheet_layers::RulesTested;
 ghost use mathlib.Core.Path.{_≡_};
 ghost use mathlib.Core.Bool.{true};
 ghost use mathlib.Core.List.{List, map};
@@ -15,7 +15,7 @@ ghost use Rattle.refusal.specs.Refusal.{orElse};
 ghost use Rattle.book.specs.Book.{add as Call·add, paint as Call·paint};
 ghost use Rattle.book.specs.Sheet.{keepsRules, answer};
 ghost use Rattle.drawing.specs.Drawing.{StyledFigure, drawing};
-ghost use Rattle.layers.specs.Layers.{layersOf, stateOf, layerRows};
+ghost use Rattle.sheet_layers.specs.Layers.{layersOf, stateOf, layerRows};
 ghost use Rattle.sheet.specs.Asked.{askedAnswer, askedRefusal, NextRow};
 
 // What a paint call on a layer finds: the row that it asks for, or a refusal.
@@ -47,12 +47,13 @@ fn test_rules(size: CanvasSize, count: u32, places: [Layer; Layer::PLACES]) -> R
     if Sheet::MAX_LAYERS < count {
         return RulesTested::broken();
     }
-    layers::test_rules(places, count as usize)
+    sheet_layers::test_rules(places, count as usize)
 }
 
 // Refusals 7 and 9 of adding.
 pub fn check_add(size: CanvasSize, count: u32, places: [Layer; Layer::PLACES]) -> Checked
-    ensures { λ r. ⌜ ((item : StyledFigure) (canvas : List ℕ) → answer drawing (size .width) (size .height) (stateOf count places canvas) (Call·add item) ≡ orElse (drawing .refuse item) r) ⌝ }
+    ensures { λ r. ⌜ ((item : StyledFigure) (canvas : List ℕ)
+        → answer drawing (size .width) (size .height) (stateOf count places canvas) (Call·add item) ≡ orElse (drawing .refuse item) r) ⌝ }
 {
     let tested = test_rules(size, count, places);
     if !tested.kept {
@@ -73,7 +74,8 @@ pub fn asked_row(
     layer: u32,
     bytes: usize,
 ) -> Asked
-    ensures { λ r. ⌜ ((canvas : List ℕ) → length canvas ≡ bytes → askedAnswer r ≡ answer drawing (size .width) (size .height) (stateOf count places canvas) (Call·paint layer)) ⌝ }
+    ensures { λ r. ⌜ ((canvas : List ℕ) → length canvas ≡ bytes → askedAnswer r
+        ≡ answer drawing (size .width) (size .height) (stateOf count places canvas) (Call·paint layer)) ⌝ }
     ensures { λ r. ⌜ NextRow places layer r ⌝ }
 {
     let tested = test_rules(size, count, places);
@@ -94,7 +96,7 @@ pub fn asked_row(
     if own.end <= next {
         return Asked::Refused(Refusal::NoRowLeft);
     }
-    if layer_rows::some_owes(rows, place, next) {
+    if sheet_layers::rows::some_owes(rows, place, next) {
         return Asked::Refused(Refusal::RowOwed);
     }
     Asked::Row(next)

@@ -5,9 +5,9 @@
 use canvas_size::CanvasSize;
 use checks::Asked;
 use figure::Figure;
-use layers::Layer;
 use refusal::Checked;
 use refusal::Refusal;
+use sheet_layers::Layer;
 use style::Style;
 
 mod checks;

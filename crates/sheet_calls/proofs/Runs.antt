@@ -27,10 +27,10 @@ use Rattle.sheet.specs.declared.SheetOutcome.{SheetOutcome}
 use Rattle.sheet.specs.Sheet.{said, stateOf, openedSheet}
 use Rattle.sheet.specs.SheetDemand3.{sheetAnswers, sheetAfterAll, canvasAfterAll}
 use Rattle.sheet.proofs.SheetDemand3.{calls-made, sheet-demand3}
-use Rattle.record_numbers.specs.RecordNumbers.{listFrom}
-use Rattle.record_numbers.proofs.Walks.{list-from-here}
-use Rattle.call_numbers.specs.CallNumbers.{callLength, callOf, callNumbers, callsFrom, encodesCalls}
-use Rattle.call_numbers.proofs.Walks.{call-part}
+use Rattle.host_records.specs.RecordNumbers.{listFrom}
+use Rattle.host_records.proofs.Walks.{list-from-here}
+use Rattle.sheet_calls.specs.CallNumbers.{callLength, callOf, callNumbers, callsFrom, encodesCalls}
+use Rattle.sheet_calls.proofs.Walks.{call-part}
 use Rattle.sheet_calls.specs.SheetCalls.{allRan, notCalls, refusedBy, lentCheck, runAnswer, Called, answersAfter, stateAfter, Ran}
 
 -- ---- The loop, from a sheet s₀ with its canvas and the list of answers.

@@ -1,12 +1,12 @@
-// A list of calls, written as numbers (crate call_numbers), run from a sheet just opened on one
+// A list of calls, written as numbers (module `numbers`), run from a sheet just opened on one
 // canvas: the function whose promise is demand 3.
-use call_numbers::CALL_LENGTH;
-use call_numbers::FIGURE;
-use call_numbers::KIND;
-use call_numbers::LAYER;
-use call_numbers::PAINT;
-use call_numbers::STYLE;
-use call_numbers::STYLE_END;
+use crate::numbers::CALL_LENGTH;
+use crate::numbers::FIGURE;
+use crate::numbers::KIND;
+use crate::numbers::LAYER;
+use crate::numbers::PAINT;
+use crate::numbers::STYLE;
+use crate::numbers::STYLE_END;
 use canvas_size::CanvasSize;
 use refusal::Checked;
 use refusal::Refusal;
@@ -14,12 +14,15 @@ use refusal::check_room;
 use sheet::Sheet;
 use sheet::SheetAnswer;
 use sheet::SheetOutcome;
+
+pub mod numbers;
+
 ghost use mathlib.Core.Path.{_≡_};
 ghost use Prim.Native.Nat.{_*_, _≤_};
 ghost use lib.ListN.{length};
 ghost use Rattle.refusal.specs.Refusal.{answerNumber};
 ghost use Rattle.sheet.specs.Sheet.{said, stateOf};
-ghost use Rattle.call_numbers.specs.CallNumbers.{callLength, callOf, callsFrom, callsOf};
+ghost use Rattle.sheet_calls.specs.CallNumbers.{callLength, callOf, callsFrom, callsOf};
 ghost use Rattle.sheet_calls.specs.SheetCalls.{runSaid, runAnswer, Called, answersAfter, stateAfter, RunLeaves};
 
 pub enum RunAnswer {
@@ -53,8 +56,8 @@ fn make_call(sheet: Sheet, numbers: &[i32], canvas: &mut [u8]) -> SheetOutcome
         return sheet.paint(signed::floor0(numbers[LAYER]), canvas);
     }
     sheet.add(
-        record_numbers::figure_of(&numbers[FIGURE..STYLE]),
-        record_numbers::style_of(&numbers[STYLE..STYLE_END]),
+        host_records::figure_of(&numbers[FIGURE..STYLE]),
+        host_records::style_of(&numbers[STYLE..STYLE_END]),
     )
 }
 
@@ -68,7 +71,8 @@ fn make_calls(
 ) -> Sheet
     requires { ⌜ callLength * count ≤ length (now numbers) ⌝ }
     requires { ⌜ count ≤ length (now answers) ⌝ }
-    ensures { λ r. ⌜ now (answers .exit) ≡ answersAfter (now (answers .entry)) sheet (now (canvas .entry)) (callsFrom (now (numbers .entry)) 0 count) ⌝ }
+    ensures { λ r. ⌜ now (answers .exit) ≡ answersAfter (now (answers .entry)) sheet (now (canvas .entry))
+        (callsFrom (now (numbers .entry)) 0 count) ⌝ }
     ensures { λ r. ⌜ stateOf r (now (canvas .exit)) ≡ stateAfter sheet (now (canvas .entry)) (callsFrom (now (numbers .entry)) 0 count) ⌝ }
     ensures { λ r. ⌜ (r .width ≡ sheet .width) × (r .height ≡ sheet .height) ⌝ }
 {
@@ -96,8 +100,10 @@ pub fn run_calls(
     canvas: &mut [u8],
     answers: &mut [u32],
 ) -> RunOutcome
-    ensures { λ r. ⌜ runSaid (r .answer) ≡ runAnswer width height (now (calls .entry)) (length (now (canvas .entry))) (length (now (answers .entry))) ⌝ }
-    ensures { λ r. ⌜ RunLeaves (runSaid (r .answer)) width height (callsOf (now (calls .entry))) (now (canvas .entry)) (now (answers .entry)) (r .sheet) (now (canvas .exit)) (now (answers .exit)) ⌝ }
+    ensures { λ r. ⌜ runSaid (r .answer) ≡ runAnswer width height (now (calls .entry)) (length (now (canvas .entry)))
+        (length (now (answers .entry))) ⌝ }
+    ensures { λ r. ⌜ RunLeaves (runSaid (r .answer)) width height (callsOf (now (calls .entry))) (now (canvas .entry))
+        (now (answers .entry)) (r .sheet) (now (canvas .exit)) (now (answers .exit)) ⌝ }
 {
     let opened = Sheet::open(width, height);
     let sheet = opened.sheet;
@@ -114,7 +120,7 @@ pub fn run_calls(
             answer: RunAnswer::Refused(checked.refusal()),
         };
     };
-    if !call_numbers::encodes_calls(calls) {
+    if !numbers::encodes_calls(calls) {
         return RunOutcome {
             sheet: sheet,
             answer: RunAnswer::NotCalls,

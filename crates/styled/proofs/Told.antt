@@ -1,20 +1,20 @@
--- What `straight_row` tells of a box's row is told of the styled row of the figure, whichever rule confines its radii.
+-- What `styled_straight` tells of a box's row is told of the styled row of the figure, whichever rule confines its radii.
 -- Assumes nothing.
 use mathlib.Core.Path.{_≡_, sym, subst}
 use mathlib.Core.Logic.{_⊎_, ⊎-elim}
 use Prim.Native.Nat.{ℕ}
 use lib.IntN.{ℤ, pos, negℤ}
 use Rattle.rounded_rectangle.specs.declared.RoundedRectangle.{RoundedRectangle}
-use Rattle.box_rules.specs.BoxRules.{confined, confinedW3c, offsetBox}
+use Rattle.shape.specs.BoxRules.{confined, confinedW3c, offsetBox}
 use Rattle.figure.specs.declared.Figure.{Figure}
 use Rattle.figure.specs.declared.Figure.the-variants.{CrateBox, W3cBox}
 use Rattle.figure.specs.Bounds.{OwnBox, OwnFigure}
-use Rattle.shape_row.specs.StyledRow.{boxStyledRow, styledRowOfShapes}
+use Rattle.styled_row.specs.StyledRow.{boxStyledRow, styledRowOfShapes}
 use Rattle.style.specs.declared.Style.{Style}
 use Rattle.style.specs.Style.{outsideStrokeWidth, insideStrokeWidth}
 use Rattle.styled.specs.Styled.{styledRow}
-use Rattle.straight_row.specs.declared.StraightRow.{StraightRow}
-use Rattle.straight_row.specs.StraightRow.{Told}
+use Rattle.styled_straight.specs.declared.StraightRow.{StraightRow}
+use Rattle.styled_straight.specs.StraightRow.{Told}
 
 -- a figure is this box, of either kind
 abbrev pub IsBox : Figure → RoundedRectangle → Type 0
@@ -32,7 +32,8 @@ module _ (b : RoundedRectangle) (style : Style) (y : ℤ) (r : StraightRow) (out
       subst (Told r)
       (λ i. boxStyledRow (confined (offsetBox b (pos (outside-is i)))) (confined (offsetBox b (negℤ (pos (inside-is i))))) y)
 
-  w3c-told : Told r (boxStyledRow (confinedW3c (confinedW3c (offsetBox (confinedW3c b) (pos outside)))) (confinedW3c (confinedW3c (offsetBox (confinedW3c b) (negℤ (pos inside))))) y)
+  w3c-told : Told r (boxStyledRow (confinedW3c (confinedW3c (offsetBox (confinedW3c b) (pos outside))))
+      (confinedW3c (confinedW3c (offsetBox (confinedW3c b) (negℤ (pos inside))))) y)
       → Told r (styledRow (W3cBox b) style y)
   unfolding styledRowOfShapes
   w3c-told =
@@ -42,7 +43,8 @@ module _ (b : RoundedRectangle) (style : Style) (y : ℤ) (r : StraightRow) (out
 
   pub figure-told : (f : Figure) → IsBox f b
       → Told r (boxStyledRow (confined (offsetBox b (pos outside))) (confined (offsetBox b (negℤ (pos inside)))) y)
-      → Told r (boxStyledRow (confinedW3c (confinedW3c (offsetBox (confinedW3c b) (pos outside)))) (confinedW3c (confinedW3c (offsetBox (confinedW3c b) (negℤ (pos inside))))) y)
+      → Told r (boxStyledRow (confinedW3c (confinedW3c (offsetBox (confinedW3c b) (pos outside))))
+      (confinedW3c (confinedW3c (offsetBox (confinedW3c b) (negℤ (pos inside))))) y)
       → Told r (styledRow f style y)
   figure-told f is crate w3c =
       ⊎-elim (λ e. subst (λ (g : Figure). Told r (styledRow g style y)) (sym e) (crate-told crate))

@@ -1,2 +1,3 @@
 pub mod Styled
 pub mod Calls
+pub mod Areas

@@ -8,8 +8,8 @@ use Rattle.figure.specs.declared.Figure.{Figure}
 use Rattle.figure.specs.Figure.{ownRectangle, shape}
 use Rattle.style.specs.declared.Style.{Style}
 use Rattle.style.specs.Style.{outsideStrokeWidth}
-pub use Rattle.areas.specs.Areas.{strokeArea, fillArea}
-use Rattle.shape_row.specs.StyledRow.{styledRowOfShapes}
+pub use Rattle.styled.specs.Areas.{strokeArea, fillArea}
+use Rattle.styled_row.specs.StyledRow.{styledRowOfShapes}
 
 -- the styled bounding box: the rectangle offset by the outside width
 abbrev pub styledBoundingBox : Figure → Style → Rectangle

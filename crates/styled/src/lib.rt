@@ -7,19 +7,22 @@ use refusal::Checked;
 use refusal::Refusal;
 use scanline::StyledRow;
 use scanline::StyledScanline;
-use shape_row::crate_row_at;
-use shape_row::ellipse_row_at;
-use shape_row::w3c_row_at;
-use straight_row::StraightRow;
-use straight_row::straight_row;
 use style::Style;
+use styled_row::crate_row_at;
+use styled_row::ellipse_row_at;
+use styled_row::w3c_row_at;
+use styled_straight::StraightRow;
+use styled_straight::straight_row;
+
+pub mod areas;
+
 ghost use mathlib.Core.Path.{_≡_};
 ghost use Prim.Native.Nat.{_≤_};
 ghost use Rattle.signed.specs.Signed.{Near};
 ghost use Rattle.geometry.specs.Bounds.{widePoint};
 ghost use Rattle.rectangle.specs.Calls.{rectangleOutcome};
 ghost use Rattle.figure.specs.Bounds.{wideOffset, OwnFigure};
-ghost use Rattle.straight_row.specs.StraightRow.{Told};
+ghost use Rattle.styled_straight.specs.StraightRow.{Told};
 ghost use Rattle.styled.specs.Styled.{styledRow};
 ghost use Rattle.styled.specs.Calls.{styledRowOutcome, styledRowCall, styledBoundingBoxCall};
 

@@ -10,7 +10,7 @@ ghost use Rattle.sheet_calls.specs.SheetCalls.{runAnswer};
 ghost use Rattle.host_paint.specs.Paint.{paintSaid, paintedAfter};
 ghost use Rattle.host_calls.specs.Calls.{runNumber, RunTold};
 ghost use Rattle.host_netpbm.specs.Netpbm.{writeSaid, writtenAfter};
-ghost use Rattle.host_sheets.specs.Sheets.{openSaid, addTold, addNumbers, paintTold, paintNumbers, paintCanvas};
+ghost use Rattle.host_sheet.specs.Sheets.{openSaid, addTold, addNumbers, paintTold, paintNumbers, paintCanvas};
 
 // Whether a point is inside, as 1 or 0. Refused by 1, 2, 3, 4 and 13.
 #[no_mangle]
@@ -31,7 +31,8 @@ pub extern "C" fn wunqaber_row(figure: &[i32], y: i32, out: &mut [i32]) -> u32
 // The points into a list, and their number. Refused by 1, 2, 3 and 13.
 #[no_mangle]
 pub extern "C" fn wunqaber_points(figure: &[i32], list: &mut [i32], out: &mut [i32]) -> u32
-    ensures { λ r. ⌜ Tells (pointsSaid (now (figure .entry)) (now (list .entry)) (length (now (out .entry)))) (now (out .entry)) r (now (out .exit)) ⌝ }
+    ensures { λ r. ⌜ Tells (pointsSaid (now (figure .entry)) (now (list .entry)) (length (now (out .entry)))) (now (out .entry)) r
+        (now (out .exit)) ⌝ }
     ensures { λ _. ⌜ now (list .exit) ≡ pairsAfter (now (figure .entry)) (now (list .entry)) (length (now (out .entry))) ⌝ }
 {
     host_points::points(figure, list, out)
@@ -107,7 +108,7 @@ pub extern "C" fn wunqaber_paint_figure(
 pub extern "C" fn wunqaber_sheet_open(width: u32, height: u32, sheet: &mut [i32]) -> u32
     ensures { λ r. ⌜ Tells (openSaid width height) (now (sheet .entry)) r (now (sheet .exit)) ⌝ }
 {
-    host_sheets::open(width, height, sheet)
+    host_sheet::open(width, height, sheet)
 }
 
 // A figure more on top. Refused by 1, 2, 3, 5, 7 and 9.
@@ -116,7 +117,7 @@ pub extern "C" fn wunqaber_sheet_add(sheet: &mut [i32], figure: &[i32], style: &
     ensures { λ r. ⌜ r ≡ addTold (now (sheet .entry)) (now (figure .entry)) (now (style .entry)) ⌝ }
     ensures { λ _. ⌜ now (sheet .exit) ≡ addNumbers (now (sheet .entry)) (now (figure .entry)) (now (style .entry)) ⌝ }
 {
-    host_sheets::add(sheet, figure, style)
+    host_sheet::add(sheet, figure, style)
 }
 
 // The next row of a layer painted. Refused by 7, 8, 10, 11 and 12.
@@ -126,7 +127,7 @@ pub extern "C" fn wunqaber_sheet_paint(sheet: &mut [i32], layer: u32, canvas: &m
     ensures { λ _. ⌜ now (sheet .exit) ≡ paintNumbers (now (sheet .entry)) layer (now (canvas .entry)) ⌝ }
     ensures { λ _. ⌜ now (canvas .exit) ≡ paintCanvas (now (sheet .entry)) layer (now (canvas .entry)) ⌝ }
 {
-    host_sheets::paint(sheet, layer, canvas)
+    host_sheet::paint(sheet, layer, canvas)
 }
 
 // A list of sheet calls run from a sheet just opened, and the answer of each. Refused by 6, 8 and 13.
@@ -138,8 +139,10 @@ pub extern "C" fn wunqaber_run_calls(
     canvas: &mut [u8],
     answers: &mut [u32],
 ) -> u32
-    ensures { λ r. ⌜ r ≡ runNumber (runAnswer width height (now (calls .entry)) (length (now (canvas .entry))) (length (now (answers .entry)))) ⌝ }
-    ensures { λ _. ⌜ RunTold width height (now (calls .entry)) (now (canvas .entry)) (now (answers .entry)) (now (canvas .exit)) (now (answers .exit)) ⌝ }
+    ensures { λ r. ⌜ r ≡ runNumber (runAnswer width height (now (calls .entry)) (length (now (canvas .entry)))
+        (length (now (answers .entry)))) ⌝ }
+    ensures { λ _. ⌜ RunTold width height (now (calls .entry)) (now (canvas .entry)) (now (answers .entry)) (now (canvas .exit))
+        (now (answers .exit)) ⌝ }
 {
     host_calls::run_calls(width, height, calls, canvas, answers)
 }
@@ -153,7 +156,8 @@ pub extern "C" fn wunqaber_write_p5(
     file: &mut [u8],
     out: &mut [i32],
 ) -> u32
-    ensures { λ r. ⌜ Tells (writeSaid width height (now (canvas .entry)) (now (file .entry)) (length (now (out .entry)))) (now (out .entry)) r (now (out .exit)) ⌝ }
+    ensures { λ r. ⌜ Tells (writeSaid width height (now (canvas .entry)) (now (file .entry)) (length (now (out .entry))))
+        (now (out .entry)) r (now (out .exit)) ⌝ }
     ensures { λ _. ⌜ now (file .exit) ≡ writtenAfter width height (now (canvas .entry)) (now (file .entry)) (length (now (out .entry))) ⌝ }
 {
     host_netpbm::write_p5(width, height, canvas, file, out)

@@ -56,7 +56,9 @@ left-out-requires-2 c κs = search needs
 -- by the bottom-right corner
 returns-2 : tie.Need-returns-2
 returns-2 c =
-    let entry = c .before .before .before .before .before .before .before .before .before .before .before .before .before .before .before .args in
+    let early = c .before .before .before .before .before .before .before .before in
+    let a = early .before .before .before .before .before .before .before .args in
+    let entry = a in
     bottom-right-skips (radii (entry .b)) (entry .b .size) (entry .dy) _ _ (omega arith) (omega arith) (omega arith)
     (c .left-out2 .ensures)
 

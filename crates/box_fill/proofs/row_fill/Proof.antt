@@ -6,7 +6,7 @@ use Prim.Native.Nat.{ℕ, _+_, _-_, max}
 use lib.IntN.{ℤ, pos, _+ℤ_, _-ℤ_}
 use mir.Facts.{toZ-ofZ}
 use Rattle.geometry.specs.declared.Size.{Size}
-use Rattle.range.proofs.Fields.{range-by-fields}
+use Rattle.geometry_range.proofs.Fields.{range-by-fields}
 use Rattle.scanline.specs.declared.Place.{Place}
 use Rattle.scanline.specs.declared.Place.the-variants.{At}
 use Rattle.corner_radii.specs.declared.CornerRadii.{CornerRadii}
@@ -151,6 +151,7 @@ before-end-requires c κs =
 
 returns-2 : tie.Need-returns-2
 returns-2 c =
+    let at-most2 = c .before .before .before .before .most2 in
     let found = c .before .before .before .before .before .before .before in
     let after = searched found in
     let left-is = toZ-ofZ (entry after .pre .0 .fits) in
@@ -163,7 +164,7 @@ returns-2 c =
     (toZ-ofZ (end .fits) ∙ end .is ∙ ap (λ (z : ℤ). z +ℤ pos w -ℤ pos (last .result)) left-is)
     ∙ fill-found (looked after) _ (first-is found) _ (c .before .before .before .before .before .before .right-skip .ensures) _
     (last .ensures .0
-    ∙ ap (λ (k : ℕ). lastContained (corners after) (size after) (dy after) k (w - 1 - first found + 1)) (c .before .before .before .before .most2 .ensures))
+    ∙ ap (λ (k : ℕ). lastContained (corners after) (size after) (dy after) k (w - 1 - first found + 1)) (at-most2 .ensures))
 
 pub row-fill-spec : {M : Type 1} → statement M
 row-fill-spec =

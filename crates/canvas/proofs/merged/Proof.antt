@@ -18,7 +18,10 @@ returns : tie.Need-returns
 returns c = search needs
 
 returns-2 : tie.Need-returns-2
-returns-2 c = λ row.
+returns-2 c =
+    let at-if1 = c .before .before .before .before .before .before .if1 in
+    let at-is-nested = c .before .before .before .before .before .before .before .is-nested in
+    λ row.
     let a = c .before .before .before .before .before .before .before .before .args in
     let start-fits : SFits w32 (a .runs .«stroke_left» .start) = search needs in
     let end-fits : SFits w32 (a .runs .«stroke_right» .end) = search needs in
@@ -30,7 +33,7 @@ returns-2 c = λ row.
       fill = a .runs .fill;
       «stroke_right» = record { start = end i; end = end i };
     }) row)
-    ∙ merged-row (a .style) (a .runs) (c .before .before .before .before .before .before .before .is-nested .ensures (not-false _ (c .before .before .before .before .before .before .if1 .left))) row
+    ∙ merged-row (a .style) (a .runs) (at-is-nested .ensures (not-false _ (at-if1 .left))) row
 
 pub merged-spec : {M : Type 1} → statement M
 merged-spec = tie.close (tie.spec is-nested-requires returns returns-2)

@@ -28,12 +28,13 @@ same-length c = search needs
 returns : tie.Need-returns
 unfolding overpaintRuns
 returns c =
+    let at-paint-run = c .before .before .before .before .before .before .before .before .before .before .paint-run in
     let a = c .before .before .before .before .before .before .before .before .before .before .before .before .before .before .args in
     let merged = c .before .before .before .before .before .before .before .before .before .before .before .before .merged in
     let runs = merged .result in
     c .before .before .paint-run3 .ensures
     ∙ ap (runOver (runs .«stroke_right») (a .style .stroke)) (c .before .before .before .before .before .before .paint-run2 .ensures)
-    ∙ ap (λ l. runOver (runs .«stroke_right») (a .style .stroke) (runOver (runs .fill) (a .style .fill) l)) (c .before .before .before .before .before .before .before .before .before .before .paint-run .ensures)
+    ∙ ap (λ l. runOver (runs .«stroke_right») (a .style .stroke) (runOver (runs .fill) (a .style .fill) l)) (at-paint-run .ensures)
     ∙ merged .ensures (a .row .now)
 
 pub paint-row-spec : {M : Type 1} → statement M

@@ -27,7 +27,8 @@ returns c =
     let is = area-is (c .before .before .before) in
     let fits = offset-area (entry .args .rectangle) (entry .args .k) (entry .pre .0) (entry .pre .1) .at .y .fits in
     λ i. record {
-      first = (toZ-ofZ (subst (λ (r : Rectangle). SFits w32 (r .«top_left» .y)) (sym is) fits) ∙ ap (λ (r : Rectangle). r .«top_left» .y) is) i;
+      first =
+          (toZ-ofZ (subst (λ (r : Rectangle). SFits w32 (r .«top_left» .y)) (sym is) fits) ∙ ap (λ (r : Rectangle). r .«top_left» .y) is) i;
       count = is i .size .height;
     }
 

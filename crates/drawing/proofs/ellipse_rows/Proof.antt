@@ -10,7 +10,7 @@ use Rattle.figure.proofs.Within.{own-area, area-bounded, offset-area}
 use mir.Syntax.{w32}
 use mir.Val.{SFits}
 use Rattle.rectangle.specs.declared.Rectangle.{Rectangle}
-use Rattle.ellipse_points.specs.EllipsePoints.{rowCount}
+use Rattle.ellipse_rows.specs.EllipsePoints.{rowCount}
 use Rattle.drawing.proofs.ellipse_rows.Statement.{statement}
 use Rattle.drawing.proofs.ellipse_rows.Tie as tie
 
@@ -24,7 +24,8 @@ offset-requires c κs = (area-bounded _ (own-area _ (c .pre .0)), let near = c .
 row-count-requires : tie.Need-row-count-requires
 row-count-requires c κs =
     let entry = c .before .before in
-    subst Bounded (sym (area-is (c .before))) (area-bounded _ (offset-area (entry .args .rectangle) (entry .args .k) (entry .pre .0) (entry .pre .1)))
+    subst Bounded (sym (area-is (c .before)))
+    (area-bounded _ (offset-area (entry .args .rectangle) (entry .args .k) (entry .pre .0) (entry .pre .1)))
 
 returns : tie.Need-returns
 returns c =
@@ -32,7 +33,8 @@ returns c =
     let is = area-is (c .before .before .before) in
     let fits = offset-area (entry .args .rectangle) (entry .args .k) (entry .pre .0) (entry .pre .1) .at .y .fits in
     λ i. record {
-      first = (toZ-ofZ (subst (λ (r : Rectangle). SFits w32 (r .«top_left» .y)) (sym is) fits) ∙ ap (λ (r : Rectangle). r .«top_left» .y) is) i;
+      first =
+          (toZ-ofZ (subst (λ (r : Rectangle). SFits w32 (r .«top_left» .y)) (sym is) fits) ∙ ap (λ (r : Rectangle). r .«top_left» .y) is) i;
       count = (c .before .row-count .ensures ∙ ap rowCount is) i;
     }
 

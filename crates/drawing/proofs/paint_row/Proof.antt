@@ -27,13 +27,15 @@ same-length c = search needs
 
 returns : tie.Need-returns
 returns c =
+    let at-row-at = c .before .before .before .row-at in
     let entry = c .before .before .before .before .before .before in
     let a = entry .args in
     let held = toZ-ofZ (entry .pre .1 .1 .1 .1 .fits) in
-    let row = c .before .before .before .row-at .result in
+    let row = at-row-at .result in
     c .before .before .paint-row-on .ensures
     ∙ ap (λ (z : ℤ). paintBy (λ _. row) (a .style) (a .size .width) (a .size .height) z (a .canvas .now)) held
-    ∙ paint-by-found (a .figure) (a .style) (a .size .width) (a .size .height) (a .canvas .now) row (a .y) (c .before .before .before .row-at .ensures ∙ ap (styledRow (a .figure) (a .style)) held)
+    ∙ paint-by-found (a .figure) (a .style) (a .size .width) (a .size .height) (a .canvas .now) row (a .y)
+    (at-row-at .ensures ∙ ap (styledRow (a .figure) (a .style)) held)
 
 pub paint-row-spec : {M : Type 1} → statement M
 paint-row-spec = tie.close (tie.spec row-at-requires paint-row-on-requires same-length returns)

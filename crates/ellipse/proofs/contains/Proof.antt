@@ -25,10 +25,14 @@ contains-requires c κs = search needs
 returns : tie.Need-returns
 unfolding insideAbout
 returns c =
+    let at-distance = c .before .before .before .before .distance in
     let entry = c .before .before .before .before .before .before .before .before .before .before in
     let e = entry .args .ellipse in
-    let x = c .before .before .before .before .distance .ensures .0 ∙ (λ i. natAbs (fromCenter2x (toZ-ofZ (entry .pre .1 .x .fits) i) (center2x (toZ-ofZ (entry .pre .0 .at .x .fits) i) (e .size .width)))) in
-    let y = c .before .distance2 .ensures .0 ∙ (λ i. natAbs (fromCenter2x (toZ-ofZ (entry .pre .1 .y .fits) i) (center2x (toZ-ofZ (entry .pre .0 .at .y .fits) i) (e .size .height)))) in
+    let x = at-distance .ensures .0 ∙ (λ i. natAbs
+    (fromCenter2x (toZ-ofZ (entry .pre .1 .x .fits) i) (center2x (toZ-ofZ (entry .pre .0 .at .x .fits) i) (e .size .width)))) in
+    let y = c .before .distance2 .ensures .0 ∙
+    (λ i. natAbs (fromCenter2x (toZ-ofZ (entry .pre .1 .y .fits) i)
+    (center2x (toZ-ofZ (entry .pre .0 .at .y .fits) i) (e .size .height)))) in
     c .contains .ensures
     ∙ (λ i. belowThreshold (c .before .before .before .before .before .before .before .new .ensures .0 i) (x i) (y i))
     ∙ sym (inside-by-distance (e .size .width) (e .size .height) _ _)

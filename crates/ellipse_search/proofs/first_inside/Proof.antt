@@ -55,7 +55,8 @@ returns-2 : tie.Need-returns-2 Inv-loop μ-loop
 returns-2 c =
     let found = near (c .before .before .before) in
     let a = start (c .before .before .before) .args in
-    sym (find-none _ _ _ (nearest-outside (a .test) (a .width) (a .y) (a .from) (a .count) _ (found .1) (found .0) (sym (c .before .inside-left .ensures) ∙ not-true _ (c .if1 .taken))))
+    sym (find-none _ _ _ (nearest-outside (a .test) (a .width) (a .y) (a .from) (a .count) _ (found .1) (found .0)
+    (sym (c .before .inside-left .ensures) ∙ not-true _ (c .if1 .taken))))
 
 loop-holds : tie.Need-loop-holds Inv-loop μ-loop
 loop-holds c =
@@ -85,7 +86,8 @@ loop-less c = omega arith
 
 loop-again : tie.Need-loop-again Inv-loop μ-loop
 loop-again c =
-    bracket-down (c .before .before .before .loop .inv) _ (omega arith) (omega arith) (sym (c .before .inside-left2 .ensures) ∙ c .if2 .taken)
+    let at-loop = c .before .before .before .loop in
+    bracket-down (at-loop .inv) _ (omega arith) (omega arith) (sym (c .before .inside-left2 .ensures) ∙ c .if2 .taken)
 
 add-lo : tie.Need-add-lo Inv-loop μ-loop
 add-lo c = let is = near (c .before .before .before .before .before .before .before) .1 in omega arith

@@ -39,7 +39,8 @@ returns c =
     let entry = c .before .before .before .before .args in
     let k = c .before .before .before .loop .k in
     sym (find-at _ _ _ _ (omega arith) (omega arith)
-    (λ i fi il. columns-rise (entry .test) (entry .width) (entry .y) (entry .from) (entry .start) (omega arith) i (k - 1) fi (omega arith) (omega arith)
+    (λ i fi il. columns-rise (entry .test) (entry .width) (entry .y) (entry .from) (entry .start) (omega arith) i (k - 1) fi (omega arith)
+    (omega arith)
     (sym (c .before .inside-left .ensures) ∙ c .if1 .left))
     (c .before .before .before .loop .inv .2))
 

@@ -31,10 +31,12 @@ hollow-runs-requires c κs = search needs
 
 returns : tie.Need-returns
 returns c =
+    let at-scan-inside = c .before .before .before .scan-inside in
     let entry = c .before .before .before .before in
     c .hollow-runs .ensures
     ∙ ap (λ (z : ℤ). runsFrom z (entry .args .width) (entry .args .s) Nowhere) (toZ-ofZ (entry .fits .left))
-    ∙ ap (runsFrom (entry .args .left) (entry .args .width) (entry .args .s)) (sym (c .before .enum-told .given .1) ∙ c .before .before .before .scan-inside .ensures)
+    ∙ ap (runsFrom (entry .args .left) (entry .args .width) (entry .args .s))
+    (sym (c .before .enum-told .given .1) ∙ at-scan-inside .ensures)
 
 filled-runs-requires : tie.Need-filled-runs-requires
 filled-runs-requires c κs =
@@ -44,10 +46,13 @@ filled-runs-requires c κs =
 
 returns-2 : tie.Need-returns-2
 returns-2 c =
+    let at-scan-inside = c .before .before .before .before .scan-inside in
     let entry = c .before .before .before .before .before in
     c .filled-runs .ensures
-    ∙ ap (λ (z : ℤ). runsFrom z (entry .args .width) (entry .args .s) (At (c .before .before .c .given .0 .0))) (toZ-ofZ (entry .fits .left))
-    ∙ ap (runsFrom (entry .args .left) (entry .args .width) (entry .args .s)) (sym (c .before .before .c .given .1) ∙ c .before .before .before .before .scan-inside .ensures)
+    ∙ ap (λ (z : ℤ). runsFrom z (entry .args .width) (entry .args .s) (At (c .before .before .c .given .0 .0)))
+    (toZ-ofZ (entry .fits .left))
+    ∙ ap (runsFrom (entry .args .left) (entry .args .width) (entry .args .s))
+    (sym (c .before .before .c .given .1) ∙ at-scan-inside .ensures)
 
 pub runs-at-spec : {M : Type 1} → statement M
 runs-at-spec =

@@ -29,12 +29,13 @@ or-else-requires c κs = search needs
 returns : tie.Need-returns
 unfolding centerCheck
 returns c =
+    let at-refuse-beyond = c .before .before .before .refuse-beyond in
     let entry = c .before .before .before .before .before in
     let x-fits : SFits w32 (entry .args .center .x) = search needs in
     let y-fits : SFits w32 (entry .args .center .y) = search needs in
     c .or-else .ensures
     ∙ ap₂ orElse
-    (c .before .before .before .refuse-beyond .ensures ∙ ap (λ (z : ℤ). refuseIf (beyond (maxPosition + maxSide) z) Position) (toZ-ofZ x-fits))
+    (at-refuse-beyond .ensures ∙ ap (λ (z : ℤ). refuseIf (beyond (maxPosition + maxSide) z) Position) (toZ-ofZ x-fits))
     (c .before .refuse-beyond2 .ensures ∙ ap (λ (z : ℤ). refuseIf (beyond (maxPosition + maxSide) z) Position) (toZ-ofZ y-fits))
 
 pub check-center-spec : {M : Type 1} → statement M

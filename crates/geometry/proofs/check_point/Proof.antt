@@ -22,11 +22,12 @@ or-else-requires c κs = search needs
 returns : tie.Need-returns
 unfolding pointCheck
 returns c =
+    let at-check-row = c .before .before .before .check-row in
     let entry = c .before .before .before .before .before in
     let x-fits : SFits w32 (entry .args .point .x) = search needs in
     let y-fits : SFits w32 (entry .args .point .y) = search needs in
     c .or-else .ensures
-    ∙ ap₂ orElse (c .before .before .before .check-row .ensures ∙ ap askedCheck (toZ-ofZ x-fits)) (c .before .check-row2 .ensures ∙ ap askedCheck (toZ-ofZ y-fits))
+    ∙ ap₂ orElse (at-check-row .ensures ∙ ap askedCheck (toZ-ofZ x-fits)) (c .before .check-row2 .ensures ∙ ap askedCheck (toZ-ofZ y-fits))
 
 pub check-point-spec : {M : Type 1} → statement M
 check-point-spec =

@@ -15,7 +15,8 @@ use Rattle.host_answers.proofs.put_from.Statement.{statement}
 use Rattle.host_answers.proofs.put_from.Tie as tie
 
 abbrev Inv-loop : tie.InvT-loop
-Inv-loop out₀ at values i₀ out i = (i ≤ length values) × (sets out (at + i) (drop i values) ≡ sets out₀ at values) × (length out ≡ length out₀)
+Inv-loop out₀ at values i₀ out i =
+    (i ≤ length values) × (sets out (at + i) (drop i values) ≡ sets out₀ at values) × (length out ≡ length out₀)
 
 abbrev μ-loop : tie.MeasureT-loop
 μ-loop out₀ at values i₀ out i = length values - i

@@ -33,15 +33,20 @@ returns c =
 
 put-from-requires : tie.Need-put-from-requires
 put-from-requires c κs =
+    let at-check-room = c .before .before .before .check-room in
     let entry = c .before .before .before .before .args in
-    let room = passed-above (length (entry .out .now)) (length (entry .values .now)) BufferLength (sym (c .before .before .before .check-room .ensures) ∙ c .before .enum-told .given .1) in
+    let room = passed-above (length (entry .out .now)) (length (entry .values .now)) BufferLength
+    (sym (at-check-room .ensures) ∙ c .before .enum-told .given .1) in
     omega arith
 
 same-length : tie.Need-same-length
 same-length c = search needs
 
 returns-2 : tie.Need-returns-2
-returns-2 c = rw (sym (c .before .before .before .before .before .check-room .ensures) ∙ c .before .before .before .enum-told .given .1) (refl, c .before .put-from .ensures)
+returns-2 c =
+    let at-enum-told = c .before .before .before .enum-told in
+    let at-check-room = c .before .before .before .before .before .check-room in
+    rw (sym (at-check-room .ensures) ∙ at-enum-told .given .1) (refl, c .before .put-from .ensures)
 
 pub put-numbers-spec : {M : Type 1} → statement M
 put-numbers-spec =

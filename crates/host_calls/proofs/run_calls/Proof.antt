@@ -4,20 +4,25 @@ use mathlib.Core.Path.{_≡_, sym, ap, subst, _∙_}
 use lib.ListN.{length}
 use Rattle.sheet_calls.specs.declared.RunAnswer.{RunAnswer}
 use Rattle.sheet_calls.specs.SheetCalls.{RunSays, runSaid, runAnswer, RunLeaves}
-use Rattle.call_numbers.specs.CallNumbers.{callsOf}
+use Rattle.sheet_calls.specs.CallNumbers.{callsOf}
 use Rattle.host_calls.specs.Calls.{runNumber, RunTold}
 use borrow.Author.Needs.{needs}
 use Rattle.host_calls.proofs.run_calls.Statement.{statement}
 use Rattle.host_calls.proofs.run_calls.Tie as tie
 
+abbrev start-run-calls : tie.After-run-calls → tie.Start
+start-run-calls c = c .before .before .before .before .before
+
 -- what the run says, and what it leaves
 says : (c : tie.After-run-calls)
     → runSaid (c .run-calls .result .answer)
-    ≡ runAnswer (c .before .before .before .before .before .args .width) (c .before .before .before .before .before .args .height) (c .before .before .before .before .before .args .calls .now) (length (c .before .before .before .before .before .args .canvas .now)) (length (c .before .before .before .before .before .args .answers .now))
+    ≡ runAnswer (start-run-calls c .args .width) (start-run-calls c .args .height) (start-run-calls c .args .calls .now)
+    (length (start-run-calls c .args .canvas .now)) (length (start-run-calls c .args .answers .now))
 says c = c .run-calls .ensures .0
 
 leaves : (c : tie.After-run-calls)
-    → RunTold (c .before .before .before .before .before .args .width) (c .before .before .before .before .before .args .height) (c .before .before .before .before .before .args .calls .now) (c .before .before .before .before .before .args .canvas .now) (c .before .before .before .before .before .args .answers .now)
+    → RunTold (start-run-calls c .args .width) (start-run-calls c .args .height) (start-run-calls c .args .calls .now)
+    (start-run-calls c .args .canvas .now) (start-run-calls c .args .answers .now)
     (c .run-calls .last .1 .1 .1 .0) (c .run-calls .last .1 .1 .1 .1 .0)
 leaves c =
     let a = c .before .before .before .before .before .args in
@@ -53,7 +58,11 @@ same-length-2 c = search needs
 
 returns : tie.Need-returns
 returns c =
-    (c .number .ensures ∙ ap (λ (s : RunSays). runNumber s) (sym (ap (λ (a : RunAnswer). runSaid a) (c .before .before .answer .given .1)) ∙ says (c .before .before .before .before .before .before .before .before)), leaves (c .before .before .before .before .before .before .before .before))
+    let back-8 = c .before .before .before .before .before .before .before .before in (
+      c .number .ensures ∙ ap (λ (s : RunSays). runNumber s)
+          (sym (ap (λ (a : RunAnswer). runSaid a) (c .before .before .answer .given .1)) ∙ says back-8),
+      leaves back-8,
+    )
 
 same-length-3 : tie.Need-same-length-3
 same-length-3 c = search needs
@@ -62,7 +71,11 @@ same-length-4 : tie.Need-same-length-4
 same-length-4 c = search needs
 
 returns-2 : tie.Need-returns-2
-returns-2 c = (ap (λ (s : RunSays). runNumber s) (sym (ap (λ (a : RunAnswer). runSaid a) (c .enum-told .given .1)) ∙ says (c .before .before .before .before .before .before)), leaves (c .before .before .before .before .before .before))
+returns-2 c = (
+  ap (λ (s : RunSays). runNumber s) (sym (ap (λ (a : RunAnswer). runSaid a) (c .enum-told .given .1)) ∙ says
+      (c .before .before .before .before .before .before)),
+  leaves (c .before .before .before .before .before .before),
+)
 
 same-length-5 : tie.Need-same-length-5
 same-length-5 c = search needs
@@ -71,7 +84,11 @@ same-length-6 : tie.Need-same-length-6
 same-length-6 c = search needs
 
 returns-3 : tie.Need-returns-3
-returns-3 c = (ap (λ (s : RunSays). runNumber s) (sym (ap (λ (a : RunAnswer). runSaid a) (c .enum-told2 .given .1)) ∙ says (c .before .before .before .before .before .before)), leaves (c .before .before .before .before .before .before))
+returns-3 c = (
+  ap (λ (s : RunSays). runNumber s) (sym (ap (λ (a : RunAnswer). runSaid a) (c .enum-told2 .given .1)) ∙ says
+      (c .before .before .before .before .before .before)),
+  leaves (c .before .before .before .before .before .before),
+)
 
 pub run-calls-spec : {M : Type 1} → statement M
 run-calls-spec =

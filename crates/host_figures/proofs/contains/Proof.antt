@@ -8,8 +8,8 @@ use mir.Facts.{toZ-ofZ}
 use borrow.Author.Tests.{not-true, not-false}
 use Rattle.figure.specs.declared.calls.ContainsAnswer.{ContainsAnswer}
 use Rattle.figure.specs.Calls.{containsOutcome, containsCall}
-use Rattle.record_numbers.specs.RecordNumbers.{isFigure, figureOf}
-use Rattle.record_numbers.proofs.Records.{figure-length}
+use Rattle.host_records.specs.RecordNumbers.{isFigure, figureOf}
+use Rattle.host_records.proofs.Records.{figure-length}
 use Rattle.host_answers.specs.HostAnswers.{noRecord}
 use Rattle.host_answers.proofs.Telling.{tells-as, tells-refused, tells-refusal}
 use mathlib.Core.Path.{_≡_, sym, ap, _∙_}
@@ -21,8 +21,12 @@ use Rattle.host_figures.proofs.contains.Tie as tie
 is-one : (c : tie.Else1) → isFigure (c .before .before .args .figure .now) ≡ true
 is-one c = sym (c .before .is-figure .ensures) ∙ not-false _ (c .if1 .left)
 
+abbrev start-contains : tie.After-contains → tie.Start
+start-contains c = c .before .before .before .before
+
 -- what the call says
-says : (c : tie.After-contains) → containsOutcome (c .contains .result) ≡ containsCall (figureOf (c .before .before .before .before .args .figure .now)) (record { x = c .before .before .before .before .args .x; y = c .before .before .before .before .args .y })
+says : (c : tie.After-contains) → containsOutcome (c .contains .result) ≡ containsCall (figureOf (start-contains c .args .figure .now))
+    (record { x = start-contains c .args .x; y = start-contains c .args .y })
 says c =
     let a = c .before .before .before .before .args in
     let x-fits : SFits w32 (a .x) = search needs in
@@ -34,7 +38,8 @@ is-figure-requires : tie.Need-is-figure-requires
 is-figure-requires c κs = search needs
 
 returns : tie.Need-returns
-returns c = rw (sym (c .before .is-figure .ensures) ∙ not-true _ (c .if1 .taken)) (tells-refused noRecord (c .before .before .args .out .now))
+returns c =
+    rw (sym (c .before .is-figure .ensures) ∙ not-true _ (c .if1 .taken)) (tells-refused noRecord (c .before .before .args .out .now))
 
 figure-of-requires : tie.Need-figure-of-requires
 figure-of-requires c κs = figure-length (c .before .before .args .figure .now) (is-one c)
@@ -56,16 +61,20 @@ put-flag-requires c κs = search needs
 
 returns-2 : tie.Need-returns-2
 returns-2 c =
+    let args = c .before .before .before .before .before .before .before .before .args in
     rw (is-one (c .before .before .before .before .before .before))
-    (tells-refusal (c .before .before .before .before .before .before .before .before .args .out .now) (sym (ap (λ (a : ContainsAnswer). containsOutcome a) (c .before .before .refusal .given .1)) ∙ says (c .before .before .before .before)) (c .number .ensures))
+    (tells-refusal (args .out .now) (sym (ap (λ (a : ContainsAnswer). containsOutcome a) (c .before .before .refusal .given .1)) ∙ says
+    (c .before .before .before .before)) (c .number .ensures))
 
 same-length : tie.Need-same-length
 same-length c = search needs
 
 returns-3 : tie.Need-returns-3
 returns-3 c =
+    let at-inside = c .before .before .before .before .inside in
     rw (is-one (c .before .before .before .before .before .before .before .before))
-    (tells-as (sym (ap (λ (a : ContainsAnswer). containsOutcome a) (c .before .before .before .before .inside .given .1)) ∙ says (c .before .before .before .before .before .before)) (c .before .put-flag .ensures))
+    (tells-as (sym (ap (λ (a : ContainsAnswer). containsOutcome a) (at-inside .given .1)) ∙ says
+    (c .before .before .before .before .before .before)) (c .before .put-flag .ensures))
 
 pub contains-spec : {M : Type 1} → statement M
 contains-spec =

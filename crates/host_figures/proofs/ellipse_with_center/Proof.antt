@@ -16,7 +16,8 @@ use Rattle.host_figures.proofs.ellipse_with_center.Tie as tie
 
 -- what the call says
 says : (c : tie.After-ellipse-with-center)
-    → figureOutcome (c .ellipse-with-center .result) ≡ ellipseWithCenterSaid (c .before .args .x) (c .before .args .y) (c .before .args .width) (c .before .args .height)
+    → figureOutcome (c .ellipse-with-center .result) ≡ ellipseWithCenterSaid (c .before .args .x) (c .before .args .y)
+    (c .before .args .width) (c .before .args .height)
 says c =
     let a = c .before .args in
     let x-fits : SFits w32 (a .x) = search needs in
@@ -41,13 +42,18 @@ put-figure-requires c κs = search needs
 
 returns : tie.Need-returns
 returns c =
-    tells-refusal (c .before .before .before .before .before .args .out .now) (sym (ap (λ (a : FigureAnswer). figureOutcome a) (c .before .before .refusal .given .1)) ∙ says (c .before .before .before .before)) (c .number .ensures)
+    let args = c .before .before .before .before .before .args in
+    tells-refusal (args .out .now) (sym (ap (λ (a : FigureAnswer). figureOutcome a) (c .before .before .refusal .given .1)) ∙ says
+    (c .before .before .before .before)) (c .number .ensures)
 
 same-length : tie.Need-same-length
 same-length c = search needs
 
 returns-2 : tie.Need-returns-2
-returns-2 c = tells-as (sym (ap (λ (a : FigureAnswer). figureOutcome a) (c .before .before .before .before .made .given .1)) ∙ says (c .before .before .before .before .before .before)) (c .before .put-figure .ensures)
+returns-2 c =
+    let at-made = c .before .before .before .before .made in
+    tells-as (sym (ap (λ (a : FigureAnswer). figureOutcome a) (at-made .given .1)) ∙ says
+    (c .before .before .before .before .before .before)) (c .before .put-figure .ensures)
 
 pub ellipse-with-center-spec : {M : Type 1} → statement M
 ellipse-with-center-spec =

@@ -10,8 +10,8 @@ use borrow.Author.Tests.{not-true, not-false}
 use Rattle.figure.specs.declared.Figure.{Figure}
 use Rattle.figure.specs.declared.calls.FigureAnswer.{FigureAnswer}
 use Rattle.figure.specs.Calls.{figureOutcome, figureOffsetCall}
-use Rattle.record_numbers.specs.RecordNumbers.{isFigure, figureOf}
-use Rattle.record_numbers.proofs.Records.{figure-length}
+use Rattle.host_records.specs.RecordNumbers.{isFigure, figureOf}
+use Rattle.host_records.proofs.Records.{figure-length}
 use Rattle.host_answers.specs.HostAnswers.{noRecord}
 use Rattle.host_answers.proofs.Telling.{tells-as, tells-refused, tells-refusal}
 use mathlib.Core.Path.{_≡_, sym, ap, _∙_}
@@ -23,8 +23,12 @@ use Rattle.host_figures.proofs.offset.Tie as tie
 is-one : (c : tie.Else1) → isFigure (c .before .before .args .figure .now) ≡ true
 is-one c = sym (c .before .is-figure .ensures) ∙ not-false _ (c .if1 .left)
 
+abbrev start-offset : tie.After-offset → tie.Start
+start-offset c = c .before .before .before .before
+
 -- what the call says
-says : (c : tie.After-offset) → figureOutcome (c .offset .result) ≡ figureOffsetCall (figureOf (c .before .before .before .before .args .figure .now)) (c .before .before .before .before .args .k)
+says : (c : tie.After-offset) → figureOutcome (c .offset .result) ≡ figureOffsetCall (figureOf (start-offset c .args .figure .now))
+    (start-offset c .args .k)
 says c =
     let fits : SFits w32 (c .before .before .before .before .args .k) = search needs in
     c .offset .ensures ∙ ap₂ (λ (f : Figure) (z : ℤ). figureOffsetCall f z) (c .before .figure-of .ensures) (toZ-ofZ fits)
@@ -33,7 +37,8 @@ is-figure-requires : tie.Need-is-figure-requires
 is-figure-requires c κs = search needs
 
 returns : tie.Need-returns
-returns c = rw (sym (c .before .is-figure .ensures) ∙ not-true _ (c .if1 .taken)) (tells-refused noRecord (c .before .before .args .out .now))
+returns c =
+    rw (sym (c .before .is-figure .ensures) ∙ not-true _ (c .if1 .taken)) (tells-refused noRecord (c .before .before .args .out .now))
 
 figure-of-requires : tie.Need-figure-of-requires
 figure-of-requires c κs = figure-length (c .before .before .args .figure .now) (is-one c)
@@ -55,16 +60,20 @@ put-figure-requires c κs = search needs
 
 returns-2 : tie.Need-returns-2
 returns-2 c =
+    let args = c .before .before .before .before .before .before .before .before .args in
     rw (is-one (c .before .before .before .before .before .before))
-    (tells-refusal (c .before .before .before .before .before .before .before .before .args .out .now) (sym (ap (λ (a : FigureAnswer). figureOutcome a) (c .before .before .refusal .given .1)) ∙ says (c .before .before .before .before)) (c .number .ensures))
+    (tells-refusal (args .out .now) (sym (ap (λ (a : FigureAnswer). figureOutcome a) (c .before .before .refusal .given .1)) ∙ says
+    (c .before .before .before .before)) (c .number .ensures))
 
 same-length : tie.Need-same-length
 same-length c = search needs
 
 returns-3 : tie.Need-returns-3
 returns-3 c =
+    let at-moved = c .before .before .before .before .moved in
     rw (is-one (c .before .before .before .before .before .before .before .before))
-    (tells-as (sym (ap (λ (a : FigureAnswer). figureOutcome a) (c .before .before .before .before .moved .given .1)) ∙ says (c .before .before .before .before .before .before)) (c .before .put-figure .ensures))
+    (tells-as (sym (ap (λ (a : FigureAnswer). figureOutcome a) (at-moved .given .1)) ∙ says
+    (c .before .before .before .before .before .before)) (c .before .put-figure .ensures))
 
 pub offset-spec : {M : Type 1} → statement M
 offset-spec =

@@ -14,15 +14,26 @@ use borrow.Author.Needs.{needs}
 use Rattle.host_netpbm.proofs.write_p5.Statement.{statement}
 use Rattle.host_netpbm.proofs.write_p5.Tie as tie
 
+abbrev start-or-else2 : tie.After-or-else2 → tie.Start
+start-or-else2 c = c .before .before .before .before .before .before .before
+
 -- the check made is the definition's
 checked : (c : tie.After-or-else2)
-    → c .or-else2 .result ≡ writeRoom (c .before .before .before .before .before .before .before .args .width) (c .before .before .before .before .before .before .before .args .height) (c .before .before .before .before .before .before .before .args .canvas .now) (length (c .before .before .before .before .before .before .before .args .out .now))
+    → c .or-else2 .result ≡ writeRoom (start-or-else2 c .args .width) (start-or-else2 c .args .height) (start-or-else2 c .args .canvas .now)
+    (length (start-or-else2 c .args .out .now))
 checked c =
-    c .or-else2 .ensures ∙ ap₂ orElse (c .before .before .or-else .ensures ∙ ap₂ orElse (c .before .before .before .before .check .ensures) (c .before .before .before .check-length .ensures)) (c .before .check-room .ensures)
+    let at-check-length = c .before .before .before .check-length in
+    let at-check = c .before .before .before .before .check in
+    c .or-else2 .ensures ∙ ap₂ orElse (c .before .before .or-else .ensures ∙ ap₂ orElse (at-check .ensures) (at-check-length .ensures))
+    (c .before .check-room .ensures)
+
+abbrev start-write-p5 : tie.After-write-p5 → tie.Start
+start-write-p5 c = c .before .before .before .before .before .before .before .before .before .before .before
 
 -- what the call says, and the file after it
 says : (c : tie.After-write-p5)
-    → writeOutcome (c .write-p5 .result) ≡ writeCall (c .before .before .before .before .before .before .before .before .before .before .before .args .width) (c .before .before .before .before .before .before .before .before .before .before .before .args .height) (c .before .before .before .before .before .before .before .before .before .before .before .args .canvas .now) (c .before .before .before .before .before .before .before .before .before .before .before .args .file .now)
+    → writeOutcome (c .write-p5 .result) ≡ writeCall (start-write-p5 c .args .width) (start-write-p5 c .args .height)
+    (start-write-p5 c .args .canvas .now) (start-write-p5 c .args .file .now)
 says c = c .write-p5 .ensures .0
 
 check-requires : tie.Need-check-requires
@@ -56,8 +67,11 @@ returns : tie.Need-returns
 returns c =
     let told = c .before .before in
     let entry = told .before .before .before .before .before .before .before .before .before in
-    rw (sym (checked (told .before .before)) ∙ told .enum-told2 .given .1)
-    (tells-refusal (entry .args .out .now) refl (c .number .ensures ∙ ap number (refusal-found (c .before .refusal .ensures) (told .enum-told2 .given .1))), refl)
+    rw (sym (checked (told .before .before)) ∙ told .enum-told2 .given .1) (
+      tells-refusal (entry .args .out .now) refl
+          (c .number .ensures ∙ ap number (refusal-found (c .before .refusal .ensures) (told .enum-told2 .given .1))),
+      refl,
+    )
 
 write-p5-requires : tie.Need-write-p5-requires
 write-p5-requires c κs = search needs
@@ -73,10 +87,15 @@ enum-known-n c = search needs
 
 cast-put-count : tie.Need-cast-put-count
 cast-put-count c =
-    let a = c .before .before .before .before .before .before .before .before .before .before .before .before .before .before .before .before .args in
+    let early = c .before .before .before .before .before .before .before .before in
+    let at-enum-told = c .before .before .before .before .before .before .before .enum-told in
+    let back-9 = c .before .before .before .before .before .before .before .before .before in
+    let args = early .before .before .before .before .before .before .before .before .args in
+    let a = args in
     record {
       fits = written-length-fits (a .width) (a .height) (a .canvas .now) (a .file .now) (length (a .out .now)) _
-          (sym (checked (c .before .before .before .before .before .before .before .before .before)) ∙ c .before .before .before .before .before .before .before .enum-told .given .1) (sym (ap (λ (a : WriteAnswer). writeOutcome a) (c .before .n .given .1)) ∙ says (c .before .before .before .before .before));
+          (sym (checked back-9) ∙ at-enum-told .given .1)
+          (sym (ap (λ (a : WriteAnswer). writeOutcome a) (c .before .n .given .1)) ∙ says (c .before .before .before .before .before));
     }
 
 put-count-requires : tie.Need-put-count-requires
@@ -87,8 +106,16 @@ same-length c = search needs
 
 returns-2 : tie.Need-returns-2
 returns-2 c =
-    rw (sym (checked (c .before .before .before .before .before .before .before .before .before .before)) ∙ c .before .before .before .before .before .before .before .before .enum-told .given .1)
-    (tells-refusal (c .before .before .before .before .before .before .before .before .before .before .before .before .before .before .before .before .before .args .out .now) (sym (ap (λ (a : WriteAnswer). writeOutcome a) (c .before .before .refusal2 .given .1)) ∙ says (c .before .before .before .before .before .before)) (c .number2 .ensures), c .before .before .before .before .before .before .write-p5 .ensures .1)
+    let early = c .before .before .before .before .before .before .before .before in
+    let at-write-p5 = c .before .before .before .before .before .before .write-p5 in
+    let at-enum-told = c .before .before .before .before .before .before .before .before .enum-told in
+    let back-10 = c .before .before .before .before .before .before .before .before .before .before in
+    let args = early .before .before .before .before .before .before .before .before .before .args in
+    rw (sym (checked back-10) ∙ at-enum-told .given .1) (
+      tells-refusal (args .out .now) (sym (ap (λ (a : WriteAnswer). writeOutcome a) (c .before .before .refusal2 .given .1)) ∙ says
+          (c .before .before .before .before .before .before)) (c .number2 .ensures),
+      at-write-p5 .ensures .1,
+    )
 
 same-length-2 : tie.Need-same-length-2
 same-length-2 c = search needs
@@ -98,8 +125,15 @@ same-length-3 c = search needs
 
 returns-3 : tie.Need-returns-3
 returns-3 c =
-    rw (sym (checked (c .before .before .before .before .before .before .before .before .before .before .before .before)) ∙ c .before .before .before .before .before .before .before .before .before .before .enum-told .given .1)
-    (tells-as (sym (ap (λ (a : WriteAnswer). writeOutcome a) (c .before .before .before .before .n .given .1)) ∙ says (c .before .before .before .before .before .before .before .before)) (c .before .put-count .ensures), c .before .before .before .before .before .before .before .before .write-p5 .ensures .1)
+    let at-n = c .before .before .before .before .n in
+    let back-8 = c .before .before .before .before .before .before .before .before in
+    let at-write-p5 = c .before .before .before .before .before .before .before .before .write-p5 in
+    let at-enum-told = c .before .before .before .before .before .before .before .before .before .before .enum-told in
+    let back-12 = c .before .before .before .before .before .before .before .before .before .before .before .before in
+    rw (sym (checked back-12) ∙ at-enum-told .given .1) (
+      tells-as (sym (ap (λ (a : WriteAnswer). writeOutcome a) (at-n .given .1)) ∙ says back-8) (c .before .put-count .ensures),
+      at-write-p5 .ensures .1,
+    )
 
 pub write-p5-spec : {M : Type 1} → statement M
 write-p5-spec =

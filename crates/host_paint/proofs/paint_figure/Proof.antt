@@ -6,8 +6,8 @@ use borrow.Author.Tests.{not-true, not-false}
 use Rattle.refusal.specs.Refusal.{Outcome}
 use Rattle.paint.specs.declared.PaintAnswer.{PaintAnswer}
 use Rattle.paint.specs.Paint.{paintOutcome, paintCall, canvasAfter}
-use Rattle.record_numbers.specs.RecordNumbers.{isFigure, isStyle, figureOf, styleOf}
-use Rattle.record_numbers.proofs.Records.{figure-length, style-length}
+use Rattle.host_records.specs.RecordNumbers.{isFigure, isStyle, figureOf, styleOf}
+use Rattle.host_records.proofs.Records.{figure-length, style-length}
 use Rattle.host_answers.specs.HostAnswers.{outcomeNumber}
 use borrow.Author.Needs.{needs}
 use Rattle.host_paint.proofs.paint_figure.Statement.{statement}
@@ -20,20 +20,29 @@ is-one c = sym (c .before .is-figure .ensures) ∙ not-false _ (c .if1 .left)
 is-styled : (c : tie.Else2) → isStyle (c .before .before .before .before .before .args .style .now) ≡ true
 is-styled c = sym (c .before .is-style .ensures) ∙ not-false _ (c .if2 .left)
 
+abbrev start-paint-figure : tie.After-paint-figure → tie.Start
+start-paint-figure c = c .before .before .before .before .before .before .before .before .before
+
 -- what the call says, and the canvas after it
 says : (c : tie.After-paint-figure)
     → paintOutcome (c .paint-figure .result)
-    ≡ paintCall (figureOf (c .before .before .before .before .before .before .before .before .before .args .figure .now)) (styleOf (c .before .before .before .before .before .before .before .before .before .args .style .now)) (c .before .before .before .before .before .before .before .before .before .args .width) (c .before .before .before .before .before .before .before .before .before .args .height) (c .before .before .before .before .before .before .before .before .before .args .canvas .now)
+    ≡ paintCall (figureOf (start-paint-figure c .args .figure .now)) (styleOf (start-paint-figure c .args .style .now))
+    (start-paint-figure c .args .width) (start-paint-figure c .args .height) (start-paint-figure c .args .canvas .now)
 says c =
+    let at-figure-of = c .before .before .before .figure-of in
     let a = c .before .before .before .before .before .before .before .before .before .args in
-    c .paint-figure .ensures .0 ∙ (λ i. paintCall (c .before .before .before .figure-of .ensures i) (c .before .before .style-of .ensures i) (a .width) (a .height) (a .canvas .now))
+    c .paint-figure .ensures .0 ∙ (λ i. paintCall (at-figure-of .ensures i) (c .before .before .style-of .ensures i) (a .width) (a .height)
+    (a .canvas .now))
 
 paints : (c : tie.After-paint-figure)
     → c .paint-figure .last .1 .1 .1 .1 .0
-    ≡ canvasAfter (figureOf (c .before .before .before .before .before .before .before .before .before .args .figure .now)) (styleOf (c .before .before .before .before .before .before .before .before .before .args .style .now)) (c .before .before .before .before .before .before .before .before .before .args .width) (c .before .before .before .before .before .before .before .before .before .args .height) (c .before .before .before .before .before .before .before .before .before .args .canvas .now)
+    ≡ canvasAfter (figureOf (start-paint-figure c .args .figure .now)) (styleOf (start-paint-figure c .args .style .now))
+    (start-paint-figure c .args .width) (start-paint-figure c .args .height) (start-paint-figure c .args .canvas .now)
 paints c =
+    let at-figure-of = c .before .before .before .figure-of in
     let a = c .before .before .before .before .before .before .before .before .before .args in
-    c .paint-figure .ensures .1 ∙ (λ i. canvasAfter (c .before .before .before .figure-of .ensures i) (c .before .before .style-of .ensures i) (a .width) (a .height) (a .canvas .now))
+    c .paint-figure .ensures .1 ∙ (λ i. canvasAfter (at-figure-of .ensures i) (c .before .before .style-of .ensures i) (a .width)
+    (a .height) (a .canvas .now))
 
 is-figure-requires : tie.Need-is-figure-requires
 is-figure-requires c κs = search needs
@@ -70,16 +79,28 @@ same-length c = search needs
 
 returns-3 : tie.Need-returns-3
 returns-3 c =
-    rw (is-one (c .before .before .before .before .before .before .before .before .before .before .before .before), is-styled (c .before .before .before .before .before .before .before .before .before .before))
-    (c .number .ensures ∙ ap (λ (o : Outcome). outcomeNumber o) (sym (ap (λ (a : PaintAnswer). paintOutcome a) (c .before .before .refusal .given .1)) ∙ says (c .before .before .before .before .before .before)), paints (c .before .before .before .before .before .before))
+    let back-10 = c .before .before .before .before .before .before .before .before .before .before in
+    let back-12 = c .before .before .before .before .before .before .before .before .before .before .before .before in
+    rw (is-one back-12, is-styled back-10) (
+      c .number .ensures ∙ ap (λ (o : Outcome). outcomeNumber o)
+          (sym (ap (λ (a : PaintAnswer). paintOutcome a) (c .before .before .refusal .given .1)) ∙ says
+          (c .before .before .before .before .before .before)),
+      paints (c .before .before .before .before .before .before),
+    )
 
 same-length-2 : tie.Need-same-length-2
 same-length-2 c = search needs
 
 returns-4 : tie.Need-returns-4
 returns-4 c =
-    rw (is-one (c .before .before .before .before .before .before .before .before .before .before), is-styled (c .before .before .before .before .before .before .before .before))
-    (ap (λ (o : Outcome). outcomeNumber o) (sym (ap (λ (a : PaintAnswer). paintOutcome a) (c .enum-told .given .1)) ∙ says (c .before .before .before .before)), paints (c .before .before .before .before))
+    let back-8 = c .before .before .before .before .before .before .before .before in
+    let back-10 = c .before .before .before .before .before .before .before .before .before .before in
+    rw (is-one back-10, is-styled back-8) (
+      ap (λ (o : Outcome). outcomeNumber o)
+          (sym (ap (λ (a : PaintAnswer). paintOutcome a) (c .enum-told .given .1)) ∙ says (c .before .before .before .before)),
+      paints
+          (c .before .before .before .before),
+    )
 
 pub paint-figure-spec : {M : Type 1} → statement M
 paint-figure-spec =

@@ -9,10 +9,10 @@ use Rattle.refusal.specs.Refusal.{number, orElse}
 use Rattle.refusal.proofs.Checks.{refusal-found}
 use Rattle.figure.specs.declared.Figure.{Figure}
 use Rattle.figure.specs.Calls.{figureCheck}
-use Rattle.points.specs.declared.PointsAnswer.{PointsAnswer}
-use Rattle.points.specs.Points.{pointsOutcome, pointsCall, listAfter}
-use Rattle.record_numbers.specs.RecordNumbers.{isFigure, figureOf}
-use Rattle.record_numbers.proofs.Records.{figure-length}
+use Rattle.figure_points.specs.declared.PointsAnswer.{PointsAnswer}
+use Rattle.figure_points.specs.Points.{pointsOutcome, pointsCall, listAfter}
+use Rattle.host_records.specs.RecordNumbers.{isFigure, figureOf}
+use Rattle.host_records.proofs.Records.{figure-length}
 use Rattle.host_answers.specs.HostAnswers.{noRecord}
 use Rattle.host_answers.proofs.Telling.{tells-as, tells-refused, tells-refusal}
 use Rattle.host_points.specs.Points.{pointsRoom}
@@ -24,24 +24,42 @@ use Rattle.host_points.proofs.points.Tie as tie
 is-one : (c : tie.Else1) → isFigure (c .before .before .args .figure .now) ≡ true
 is-one c = sym (c .before .is-figure .ensures) ∙ not-false _ (c .if1 .left)
 
+abbrev start-or-else : tie.After-or-else → tie.Start
+start-or-else c = c .before .before .before .before .before .before
+
 -- the check made is the definition's
-checked : (c : tie.After-or-else) → c .or-else .result ≡ pointsRoom (c .before .before .before .before .before .before .args .figure .now) (length (c .before .before .before .before .before .before .args .out .now))
+checked : (c : tie.After-or-else) → c .or-else .result ≡ pointsRoom (start-or-else c .args .figure .now)
+    (length (start-or-else c .args .out .now))
 checked c =
+    let at-figure-of = c .before .before .before .figure-of in
     c .or-else .ensures
-    ∙ ap₂ orElse (c .before .before .check .ensures ∙ ap (λ (f : Figure). figureCheck f) (c .before .before .before .figure-of .ensures)) (c .before .check-room .ensures)
+    ∙ ap₂ orElse (c .before .before .check .ensures ∙ ap (λ (f : Figure). figureCheck f) (at-figure-of .ensures))
+    (c .before .check-room .ensures)
+
+abbrev start-points : tie.After-points → tie.Start
+start-points c = c .before .before .before .before .before .before .before .before .before .before
 
 -- what the call says, and the list after it
-says : (c : tie.After-points) → pointsOutcome (c .points .result) ≡ pointsCall (figureOf (c .before .before .before .before .before .before .before .before .before .before .args .figure .now)) (c .before .before .before .before .before .before .before .before .before .before .args .list .now)
-says c = c .points .ensures .0 ∙ ap (λ (f : Figure). pointsCall f (c .before .before .before .before .before .before .before .before .before .before .args .list .now)) (c .before .before .before .before .before .before .before .figure-of .ensures)
+says : (c : tie.After-points) → pointsOutcome (c .points .result) ≡ pointsCall (figureOf (start-points c .args .figure .now))
+    (start-points c .args .list .now)
+says c =
+    let at-figure-of = c .before .before .before .before .before .before .before .figure-of in
+    let a = c .before .before .before .before .before .before .before .before .before .before .args in
+    c .points .ensures .0 ∙ ap (λ (f : Figure). pointsCall f (a .list .now)) (at-figure-of .ensures)
 
-lists : (c : tie.After-points) → c .points .last .1 .0 ≡ listAfter (figureOf (c .before .before .before .before .before .before .before .before .before .before .args .figure .now)) (c .before .before .before .before .before .before .before .before .before .before .args .list .now)
-lists c = c .points .ensures .1 ∙ ap (λ (f : Figure). listAfter f (c .before .before .before .before .before .before .before .before .before .before .args .list .now)) (c .before .before .before .before .before .before .before .figure-of .ensures)
+lists : (c : tie.After-points) → c .points .last .1 .0 ≡ listAfter (figureOf (start-points c .args .figure .now))
+    (start-points c .args .list .now)
+lists c =
+    let at-figure-of = c .before .before .before .before .before .before .before .figure-of in
+    let a = c .before .before .before .before .before .before .before .before .before .before .args in
+    c .points .ensures .1 ∙ ap (λ (f : Figure). listAfter f (a .list .now)) (at-figure-of .ensures)
 
 is-figure-requires : tie.Need-is-figure-requires
 is-figure-requires c κs = search needs
 
 returns : tie.Need-returns
-returns c = rw (sym (c .before .is-figure .ensures) ∙ not-true _ (c .if1 .taken)) (tells-refused noRecord (c .before .before .args .out .now), refl)
+returns c =
+    rw (sym (c .before .is-figure .ensures) ∙ not-true _ (c .if1 .taken)) (tells-refused noRecord (c .before .before .args .out .now), refl)
 
 figure-of-requires : tie.Need-figure-of-requires
 figure-of-requires c κs = figure-length (c .before .before .args .figure .now) (is-one c)
@@ -71,8 +89,11 @@ returns-2 : tie.Need-returns-2
 returns-2 c =
     let told = c .before .before in
     let entry = told .before .before .before .before .before .before .before .before in
-    rw (is-one (told .before .before .before .before .before .before), sym (checked (told .before .before)) ∙ told .enum-told2 .given .1)
-    (tells-refusal (entry .args .out .now) refl (c .number .ensures ∙ ap number (refusal-found (c .before .refusal .ensures) (told .enum-told2 .given .1))), refl)
+    rw (is-one (told .before .before .before .before .before .before), sym (checked (told .before .before)) ∙ told .enum-told2 .given .1) (
+      tells-refusal (entry .args .out .now) refl
+          (c .number .ensures ∙ ap number (refusal-found (c .before .refusal .ensures) (told .enum-told2 .given .1))),
+      refl,
+    )
 
 points-requires : tie.Need-points-requires
 points-requires c κs = search needs
@@ -94,8 +115,16 @@ same-length c = search needs
 
 returns-3 : tie.Need-returns-3
 returns-3 c =
-    rw (is-one (c .before .before .before .before .before .before .before .before .before .before .before .before .before), sym (checked (c .before .before .before .before .before .before .before .before .before)) ∙ c .before .before .before .before .before .before .before .enum-told .given .1)
-    (tells-refusal (c .before .before .before .before .before .before .before .before .before .before .before .before .before .before .before .args .out .now) (sym (ap (λ (a : PointsAnswer). pointsOutcome a) (c .before .before .refusal2 .given .1)) ∙ says (c .before .before .before .before .before)) (c .number2 .ensures), lists (c .before .before .before .before .before))
+    let early = c .before .before .before .before .before .before .before .before in
+    let at-enum-told = c .before .before .before .before .before .before .before .enum-told in
+    let back-9 = c .before .before .before .before .before .before .before .before .before in
+    let back-13 = c .before .before .before .before .before .before .before .before .before .before .before .before .before in
+    let args = early .before .before .before .before .before .before .before .args in
+    rw (is-one back-13, sym (checked back-9) ∙ at-enum-told .given .1) (
+      tells-refusal (args .out .now) (sym (ap (λ (a : PointsAnswer). pointsOutcome a) (c .before .before .refusal2 .given .1)) ∙ says
+          (c .before .before .before .before .before)) (c .number2 .ensures),
+      lists (c .before .before .before .before .before),
+    )
 
 same-length-2 : tie.Need-same-length-2
 same-length-2 c = search needs
@@ -105,8 +134,17 @@ same-length-3 c = search needs
 
 returns-4 : tie.Need-returns-4
 returns-4 c =
-    rw (is-one (c .before .before .before .before .before .before .before .before .before .before .before .before .before .before .before), sym (checked (c .before .before .before .before .before .before .before .before .before .before .before)) ∙ c .before .before .before .before .before .before .before .before .before .enum-told .given .1)
-    (tells-as (sym (ap (λ (a : PointsAnswer). pointsOutcome a) (c .before .before .before .before .n .given .1)) ∙ says (c .before .before .before .before .before .before .before)) (c .before .put-count .ensures), lists (c .before .before .before .before .before .before .before))
+    let early = c .before .before .before .before .before .before .before .before in
+    let at-n = c .before .before .before .before .n in
+    let at-enum-told = c .before .before .before .before .before .before .before .before .before .enum-told in
+    let back-11 = c .before .before .before .before .before .before .before .before .before .before .before in
+    let back-15 = early .before .before .before .before .before .before .before in
+    rw (is-one back-15, sym (checked back-11) ∙ at-enum-told .given .1) (
+      tells-as (sym (ap (λ (a : PointsAnswer). pointsOutcome a) (at-n .given .1)) ∙ says
+          (c .before .before .before .before .before .before .before)) (c .before .put-count .ensures),
+      lists
+          (c .before .before .before .before .before .before .before),
+    )
 
 pub points-spec : {M : Type 1} → statement M
 points-spec =

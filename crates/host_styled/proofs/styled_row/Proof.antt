@@ -9,8 +9,8 @@ use mir.Facts.{toZ-ofZ}
 use Rattle.styled.specs.declared.StyledRowAnswer.{StyledRowAnswer}
 use Rattle.styled.specs.Calls.{styledRowOutcome}
 use Rattle.styled.specs.Calls.{styledRowCall}
-use Rattle.record_numbers.specs.RecordNumbers.{isFigure, isStyle, figureOf, styleOf}
-use Rattle.record_numbers.proofs.Records.{figure-length, style-length}
+use Rattle.host_records.specs.RecordNumbers.{isFigure, isStyle, figureOf, styleOf}
+use Rattle.host_records.proofs.Records.{figure-length, style-length}
 use Rattle.host_answers.specs.HostAnswers.{noRecord}
 use Rattle.host_answers.proofs.Telling.{tells-as, tells-refused, tells-refusal, tells-nothing}
 use borrow.Author.Needs.{needs}
@@ -24,23 +24,31 @@ is-one c = sym (c .before .is-figure .ensures) ∙ not-false _ (c .if1 .left)
 is-styled : (c : tie.Else2) → isStyle (c .before .before .before .before .args .style .now) ≡ true
 is-styled c = sym (c .before .is-style .ensures) ∙ not-false _ (c .if2 .left)
 
+abbrev start-styled-row : tie.After-styled-row → tie.Start
+start-styled-row c = c .before .before .before .before .before .before .before
+
 -- what the call says
-says : (c : tie.After-styled-row) → styledRowOutcome (c .styled-row .result) ≡ styledRowCall (figureOf (c .before .before .before .before .before .before .before .args .figure .now)) (styleOf (c .before .before .before .before .before .before .before .args .style .now)) (c .before .before .before .before .before .before .before .args .y)
+says : (c : tie.After-styled-row) → styledRowOutcome (c .styled-row .result) ≡ styledRowCall
+    (figureOf (start-styled-row c .args .figure .now)) (styleOf (start-styled-row c .args .style .now)) (start-styled-row c .args .y)
 says c =
     let fits : SFits w32 (c .before .before .before .before .before .before .before .args .y) = search needs in
-    c .styled-row .ensures ∙ (λ i. styledRowCall (c .before .before .figure-of .ensures i) (c .before .style-of .ensures i) (toZ-ofZ fits i))
+    c .styled-row .ensures ∙ (λ i. styledRowCall (c .before .before .figure-of .ensures i) (c .before .style-of .ensures i)
+    (toZ-ofZ fits i))
 
 is-figure-requires : tie.Need-is-figure-requires
 is-figure-requires c κs = search needs
 
 returns : tie.Need-returns
-returns c = rw (sym (c .before .is-figure .ensures) ∙ not-true _ (c .if1 .taken)) (tells-refused noRecord (c .before .before .args .out .now))
+returns c =
+    rw (sym (c .before .is-figure .ensures) ∙ not-true _ (c .if1 .taken)) (tells-refused noRecord (c .before .before .args .out .now))
 
 is-style-requires : tie.Need-is-style-requires
 is-style-requires c κs = search needs
 
 returns-2 : tie.Need-returns-2
-returns-2 c = rw (is-one (c .before .before), sym (c .before .is-style .ensures) ∙ not-true _ (c .if2 .taken)) (tells-refused noRecord (c .before .before .before .before .args .out .now))
+returns-2 c =
+    let a = c .before .before .before .before .args in
+    rw (is-one (c .before .before), sym (c .before .is-style .ensures) ∙ not-true _ (c .if2 .taken)) (tells-refused noRecord (a .out .now))
 
 figure-of-requires : tie.Need-figure-of-requires
 figure-of-requires c κs = figure-length (c .before .before .before .before .args .figure .now) (is-one (c .before .before))
@@ -68,21 +76,30 @@ put-styled-row-requires c κs = search needs
 
 returns-3 : tie.Need-returns-3
 returns-3 c =
-    rw (is-one (c .before .before .before .before .before .before .before .before .before), is-styled (c .before .before .before .before .before .before .before))
-    (tells-refusal (c .before .before .before .before .before .before .before .before .before .before .before .args .out .now) (sym (ap (λ (a : StyledRowAnswer). styledRowOutcome a) (c .before .before .refusal .given .1)) ∙ says (c .before .before .before .before)) (c .number .ensures))
+    let back-9 = c .before .before .before .before .before .before .before .before .before in
+    let args = c .before .before .before .before .before .before .before .before .before .before .before .args in
+    rw (is-one back-9, is-styled (c .before .before .before .before .before .before .before))
+    (tells-refusal (args .out .now) (sym (ap (λ (a : StyledRowAnswer). styledRowOutcome a) (c .before .before .refusal .given .1)) ∙ says
+    (c .before .before .before .before)) (c .number .ensures))
 
 returns-4 : tie.Need-returns-4
 returns-4 c =
+    let args = c .before .before .before .before .before .before .before .before .before .args in
     rw (is-one (c .before .before .before .before .before .before .before), is-styled (c .before .before .before .before .before))
-    (tells-as (sym (ap (λ (a : StyledRowAnswer). styledRowOutcome a) (c .enum-told .given .1)) ∙ says (c .before .before)) (tells-nothing (c .before .before .before .before .before .before .before .before .before .args .out .now)))
+    (tells-as (sym (ap (λ (a : StyledRowAnswer). styledRowOutcome a) (c .enum-told .given .1)) ∙ says (c .before .before))
+    (tells-nothing (args .out .now)))
 
 same-length : tie.Need-same-length
 same-length c = search needs
 
 returns-5 : tie.Need-returns-5
 returns-5 c =
-    rw (is-one (c .before .before .before .before .before .before .before .before .before .before .before), is-styled (c .before .before .before .before .before .before .before .before .before))
-    (tells-as (sym (ap (λ (a : StyledRowAnswer). styledRowOutcome a) (c .before .before .before .before .row .given .1)) ∙ says (c .before .before .before .before .before .before)) (c .before .put-styled-row .ensures))
+    let at-row = c .before .before .before .before .row in
+    let back-9 = c .before .before .before .before .before .before .before .before .before in
+    let back-11 = c .before .before .before .before .before .before .before .before .before .before .before in
+    rw (is-one back-11, is-styled back-9)
+    (tells-as (sym (ap (λ (a : StyledRowAnswer). styledRowOutcome a) (at-row .given .1)) ∙ says
+    (c .before .before .before .before .before .before)) (c .before .put-styled-row .ensures))
 
 pub styled-row-spec : {M : Type 1} → statement M
 styled-row-spec =

@@ -49,7 +49,8 @@ returns c =
     let a = first .before .before .before .before .before .args in
     let r = a .b .rectangle in
     let k = a .b .corners in
-    let plain = first .put-from .ensures ∙ ap (sets (replicate 13 (pos 0)) 0) (first .before .before .before .before .plain-numbers .ensures) in
+    let plain = first .put-from .ensures ∙ ap (sets (replicate 13 (pos 0)) 0)
+    (first .before .before .before .before .plain-numbers .ensures) in
     let radii = first .before .before .before .radii-numbers .ensures in
     tells-put (pos (a .kind))
     (r .«top_left» .x ∷ r .«top_left» .y ∷ pos (r .size .width) ∷ pos (r .size .height) ∷ pos (k .«top_left» .width)

@@ -23,8 +23,10 @@ same-length c = search needs
 
 returns : tie.Need-returns
 returns c =
-    (tells-put (pos (c .before .before .before .before .before .args .n)) ([]) _ (toZ w32 (ofZ w32 (c .before .before .before .before .held .result)) ∷ [])
-    (λ i. held-read (c .before .before .before .before .before .args .n) (c .before .before .before .before .held .ensures) i ∷ []) _ _ (c .before .put-numbers .ensures .0) (c .before .put-numbers .ensures .1))
+    let at-held = c .before .before .before .before .held in
+    let a = c .before .before .before .before .before .args in
+    (tells-put (pos (a .n)) ([]) _ (toZ w32 (ofZ w32 (at-held .result)) ∷ [])
+    (λ i. held-read (a .n) (at-held .ensures) i ∷ []) _ _ (c .before .put-numbers .ensures .0) (c .before .put-numbers .ensures .1))
 
 pub put-count-spec : {M : Type 1} → statement M
 put-count-spec =

@@ -21,10 +21,11 @@ same-length c = search needs
 
 returns : tie.Need-returns
 returns c =
+    let at-plain-numbers = c .before .before .before .before .plain-numbers in
     let a = c .before .before .before .before .before .args in
     let r = a .rectangle in
     tells-put (pos (a .kind)) (r .«top_left» .x ∷ r .«top_left» .y ∷ pos (r .size .width) ∷ pos (r .size .height) ∷ [])
-    _ _ (c .before .before .before .before .plain-numbers .ensures) _ _ (c .before .put-numbers .ensures .0) (c .before .put-numbers .ensures .1)
+    _ _ (at-plain-numbers .ensures) _ _ (c .before .put-numbers .ensures .0) (c .before .put-numbers .ensures .1)
 
 pub put-plain-spec : {M : Type 1} → statement M
 put-plain-spec =

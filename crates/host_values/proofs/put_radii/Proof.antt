@@ -21,11 +21,12 @@ same-length c = search needs
 
 returns : tie.Need-returns
 returns c =
+    let at-radii-numbers = c .before .before .before .before .radii-numbers in
     let k = c .before .before .before .before .before .args .corners in
     tells-put (pos (k .«top_left» .width))
     (pos (k .«top_left» .height) ∷ pos (k .«top_right» .width) ∷ pos (k .«top_right» .height) ∷ pos (k .«bottom_right» .width)
     ∷ pos (k .«bottom_right» .height) ∷ pos (k .«bottom_left» .width) ∷ pos (k .«bottom_left» .height) ∷ [])
-    _ _ (c .before .before .before .before .radii-numbers .ensures) _ _ (c .before .put-numbers .ensures .0) (c .before .put-numbers .ensures .1)
+    _ _ (at-radii-numbers .ensures) _ _ (c .before .put-numbers .ensures .0) (c .before .put-numbers .ensures .1)
 
 pub put-radii-spec : {M : Type 1} → statement M
 put-radii-spec =

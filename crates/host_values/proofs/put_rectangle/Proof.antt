@@ -26,9 +26,15 @@ same-length c = search needs
 
 returns : tie.Need-returns
 returns c =
+    let at-held2 = c .before .before .before .before .before .held2 in
+    let at-held = c .before .before .before .before .before .before .held in
     let r = c .before .before .before .before .before .before .before .before .before .args .rectangle in
-    (tells-put (r .«top_left» .x) (r .«top_left» .y ∷ pos (r .size .width) ∷ pos (r .size .height) ∷ []) _ (toZ w32 (ofZ w32 (r .«top_left» .x)) ∷ toZ w32 (ofZ w32 (r .«top_left» .y)) ∷ toZ w32 (ofZ w32 (c .before .before .before .before .before .before .held .result)) ∷ toZ w32 (ofZ w32 (c .before .before .before .before .before .held2 .result)) ∷ [])
-    (λ i. read-held (r .«top_left» .x) (search needs) i ∷ read-held (r .«top_left» .y) (search needs) i ∷ held-read (r .size .width) (c .before .before .before .before .before .before .held .ensures) i ∷ held-read (r .size .height) (c .before .before .before .before .before .held2 .ensures) i ∷ []) _ _ (c .before .put-numbers .ensures .0) (c .before .put-numbers .ensures .1))
+    (tells-put (r .«top_left» .x) (r .«top_left» .y ∷ pos (r .size .width) ∷ pos (r .size .height) ∷ []) _
+    (toZ w32 (ofZ w32 (r .«top_left» .x)) ∷ toZ w32 (ofZ w32 (r .«top_left» .y)) ∷ toZ w32 (ofZ w32 (at-held .result)) ∷ toZ w32
+    (ofZ w32 (at-held2 .result)) ∷ [])
+    (λ i. read-held (r .«top_left» .x) (search needs) i ∷ read-held (r .«top_left» .y) (search needs) i ∷ held-read (r .size .width)
+    (at-held .ensures) i ∷ held-read (r .size .height) (at-held2 .ensures) i ∷ []) _ _ (c .before .put-numbers .ensures .0)
+    (c .before .put-numbers .ensures .1))
 
 pub put-rectangle-spec : {M : Type 1} → statement M
 put-rectangle-spec =

@@ -20,9 +20,14 @@ same-length c = search needs
 returns : tie.Need-returns
 returns c =
     let row = c .before .before .before .before .before .before .before .before .before .before .before .args .row in
-    tells-put (row .y) (row .«stroke_left» .start ∷ row .«stroke_left» .end ∷ row .fill .start ∷ row .fill .end ∷ row .«stroke_right» .start ∷ row .«stroke_right» .end ∷ []) _
-    (toZ w32 (ofZ w32 (row .y)) ∷ toZ w32 (ofZ w32 (row .«stroke_left» .start)) ∷ toZ w32 (ofZ w32 (row .«stroke_left» .end)) ∷ toZ w32 (ofZ w32 (row .fill .start)) ∷ toZ w32 (ofZ w32 (row .fill .end)) ∷ toZ w32 (ofZ w32 (row .«stroke_right» .start)) ∷ toZ w32 (ofZ w32 (row .«stroke_right» .end)) ∷ [])
-    (λ i. read-held (row .y) (search needs) i ∷ read-held (row .«stroke_left» .start) (search needs) i ∷ read-held (row .«stroke_left» .end) (search needs) i ∷ read-held (row .fill .start) (search needs) i ∷ read-held (row .fill .end) (search needs) i ∷ read-held (row .«stroke_right» .start) (search needs) i ∷ read-held (row .«stroke_right» .end) (search needs) i ∷ [])
+    tells-put (row .y) (row .«stroke_left» .start ∷ row .«stroke_left» .end ∷ row .fill .start ∷ row .fill .end ∷ row .«stroke_right» .start
+    ∷ row .«stroke_right» .end ∷ []) _
+    (toZ w32 (ofZ w32 (row .y)) ∷ toZ w32 (ofZ w32 (row .«stroke_left» .start)) ∷ toZ w32 (ofZ w32 (row .«stroke_left» .end)) ∷ toZ w32
+    (ofZ w32 (row .fill .start)) ∷ toZ w32 (ofZ w32 (row .fill .end)) ∷ toZ w32 (ofZ w32 (row .«stroke_right» .start)) ∷ toZ w32
+    (ofZ w32 (row .«stroke_right» .end)) ∷ [])
+    (λ i. read-held (row .y) (search needs) i ∷ read-held (row .«stroke_left» .start) (search needs) i ∷ read-held (row .«stroke_left» .end)
+    (search needs) i ∷ read-held (row .fill .start) (search needs) i ∷ read-held (row .fill .end) (search needs) i ∷ read-held
+    (row .«stroke_right» .start) (search needs) i ∷ read-held (row .«stroke_right» .end) (search needs) i ∷ [])
     _ _ (c .before .put-numbers .ensures .0) (c .before .put-numbers .ensures .1)
 
 pub put-styled-row-spec : {M : Type 1} → statement M

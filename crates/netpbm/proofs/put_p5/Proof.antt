@@ -2,7 +2,7 @@
 -- Assumes nothing.
 use native.Mathlib.Omega.{arith}
 use borrow.Author.Needs.{needs}
-use Rattle.text.proofs.Written.{wrote-then}
+use Rattle.netpbm_text.proofs.Written.{wrote-then}
 use Rattle.netpbm.proofs.File.{length-p5}
 use Rattle.netpbm.proofs.put_p5.Statement.{statement}
 use Rattle.netpbm.proofs.put_p5.Tie as tie

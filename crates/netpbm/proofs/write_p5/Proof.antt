@@ -12,7 +12,7 @@ use lib.ListN.{length}
 use Rattle.refusal.specs.Refusal.{refused, orElse, answered}
 use Rattle.refusal.specs.Refusal.{roomCheck}
 use Rattle.netpbm.specs.Netpbm.{writeCheck}
-use Rattle.p5_header.proofs.Header.{length-header-u32}
+use Rattle.netpbm_header.proofs.Header.{length-header-u32}
 use Rattle.netpbm.proofs.File.{length-p5, write-passed-room}
 use Rattle.netpbm.proofs.write_p5.Statement.{statement}
 use Rattle.netpbm.proofs.write_p5.Tie as tie
@@ -23,7 +23,8 @@ entry c = c .before .before .before .before .before .before .before .before
 
 -- the check made is the definition's
 checked : (c : tie.After-or-else2)
-    → c .or-else2 .result ≡ writeCheck (entry c .args .width) (entry c .args .height) (entry c .args .canvas .now) (entry c .args .file .now)
+    → c .or-else2 .result ≡ writeCheck (entry c .args .width) (entry c .args .height) (entry c .args .canvas .now)
+    (entry c .args .file .now)
 unfolding writeCheck
 checked c =
     let a = entry c .args in

@@ -12,15 +12,26 @@ use Rattle.paint.proofs.Painted.{whole-is-painted}
 use Rattle.paint.proofs.paint_figure.Statement.{statement}
 use Rattle.paint.proofs.paint_figure.Tie as tie
 
+abbrev start-or-else2 : tie.After-or-else2 → tie.Start
+start-or-else2 c = c .before .before .before .before .before .before
+
 -- the check made is the definition's
-checked : (c : tie.After-or-else2) → c .or-else2 .result ≡ paintCheck (c .before .before .before .before .before .before .args .figure) (c .before .before .before .before .before .before .args .style) (c .before .before .before .before .before .before .args .width) (c .before .before .before .before .before .before .args .height) (c .before .before .before .before .before .before .args .canvas .now)
+checked : (c : tie.After-or-else2) → c .or-else2 .result ≡ paintCheck (start-or-else2 c .args .figure) (start-or-else2 c .args .style)
+    (start-or-else2 c .args .width) (start-or-else2 c .args .height) (start-or-else2 c .args .canvas .now)
 unfolding paintCheck
 checked c =
+    let at-check2 = c .before .before .before .check2 in
+    let at-check = c .before .before .before .before .check in
     c .or-else2 .ensures
-    ∙ ap₂ orElse (c .before .or-else .ensures ∙ ap₂ orElse (c .before .before .before .before .check .ensures) (c .before .before .before .check2 .ensures)) (c .before .before .check-length .ensures)
+    ∙ ap₂ orElse (c .before .or-else .ensures ∙ ap₂ orElse (at-check .ensures) (at-check2 .ensures))
+    (c .before .before .check-length .ensures)
+
+abbrev start-enum-told : tie.After-enum-told → tie.Start
+start-enum-told c = c .before .before .before .before .before .before .before .before
 
 -- once it has passed
-passed : (c : tie.After-enum-told) → PaintPassed (c .before .before .before .before .before .before .before .before .args .figure) (c .before .before .before .before .before .before .before .before .args .style) (c .before .before .before .before .before .before .before .before .args .width) (c .before .before .before .before .before .before .before .before .args .height) (c .before .before .before .before .before .before .before .before .args .canvas .now)
+passed : (c : tie.After-enum-told) → PaintPassed (start-enum-told c .args .figure) (start-enum-told c .args .style)
+    (start-enum-told c .args .width) (start-enum-told c .args .height) (start-enum-told c .args .canvas .now)
 passed c = paint-passed _ _ _ _ _ (sym (checked (c .before .before)) ∙ c .enum-told .given .1)
 
 check-requires : tie.Need-check-requires
@@ -68,8 +79,11 @@ returns-2 : tie.Need-returns-2
 returns-2 c =
     let a = c .before .before .before .before .before .before .before .before .before .before .before .before .args in
     let p = passed (c .before .before .before .before) in
-    rw (sym (checked (c .before .before .before .before .before .before)) ∙ c .before .before .before .before .enum-told .given .1)
-    (refl, c .before .before .paint-whole .ensures ∙ whole-is-painted (a .figure) (a .style) (a .width) (a .height) (a .canvas .now) (p .size))
+    rw (sym (checked (c .before .before .before .before .before .before)) ∙ c .before .before .before .before .enum-told .given .1) (
+      refl,
+      c .before .before .paint-whole .ensures ∙ whole-is-painted (a .figure) (a .style) (a .width) (a .height) (a .canvas .now)
+          (p .size),
+    )
 
 pub paint-figure-spec : {M : Type 1} → statement M
 paint-figure-spec =

@@ -1,4 +1,4 @@
--- `paint_boxes::paint_box` meets its contract: an even box stands for the same areas, and its rows are all that are asked for.
+-- `paint_boxes::paint_box` meets its contract: a symmetric box stands for the same areas, and its rows are all that are asked for.
 -- Assumes nothing.
 use borrow.Author.Needs.{needs}
 use mathlib.Core.Path.{sym, ap, subst, _∙_}
@@ -6,19 +6,19 @@ use lib.IntN.{ℤ}
 use mir.Facts.{toZ-ofZ}
 use mir.Syntax.{w32}
 use mir.Val.{toZ, ofZ}
-use Rattle.even_box.specs.declared.Evenness.the-variants.{Even}
-use Rattle.shape_row.specs.StyledRow.{boxStyledRow}
-use Rattle.styled_box.specs.Ready.{strokeBox, fillBox}
+use Rattle.styled_scan.specs.declared.symmetric_box.Symmetry.the-variants.{Symmetric}
+use Rattle.styled_row.specs.StyledRow.{boxStyledRow}
+use Rattle.styled_scan.specs.ReadyBox.{strokeBox, fillBox}
 use Rattle.paint_rows.specs.Rows.{rowsBy}
-use Rattle.paint_boxes.specs.Whole.{WholeEven}
+use Rattle.paint_boxes.specs.Whole.{WholeSymmetric}
 use Rattle.paint_boxes.proofs.paint_box.Statement.{statement}
 use Rattle.paint_boxes.proofs.paint_box.Tie as tie
 
-whole-even-box-requires : tie.Need-whole-even-box-requires
-whole-even-box-requires c κs = search needs
+whole-symmetric-box-requires : tie.Need-whole-symmetric-box-requires
+whole-symmetric-box-requires c κs = search needs
 
-enum-known-even : tie.Need-enum-known-even
-enum-known-even c = search needs
+enum-known-symmetric : tie.Need-enum-known-symmetric
+enum-known-symmetric c = search needs
 
 enum-told : tie.Need-enum-told
 enum-told c = search needs
@@ -41,19 +41,19 @@ returns c =
     ∙ ap (λ (z : ℤ). rowsBy (boxStyledRow (strokeBox (a .b)) (fillBox (a .b))) (a .style) (a .size .width) (a .size .height) z
     (a .count) (a .canvas .now)) (toZ-ofZ (entry .pre .1 .1 .1 .0 .fits))
 
--- as an even box
+-- as a symmetric box
 abbrev entry-of : tie.After-known-told → tie.Start
 entry-of c = c .before .before .before .before .before
 
 whole : (c : tie.After-known-told)
-    → WholeEven (entry-of c .args .b) (toZ w32 (ofZ w32 (entry-of c .args .y))) (entry-of c .args .count)
-    (Even (c .before .even .given .0 .0))
+    → WholeSymmetric (entry-of c .args .b) (toZ w32 (ofZ w32 (entry-of c .args .y))) (entry-of c .args .count)
+    (Symmetric (c .before .symmetric .given .0 .0))
 whole c =
-    subst (WholeEven (entry-of c .args .b) (toZ w32 (ofZ w32 (entry-of c .args .y))) (entry-of c .args .count))
-    (c .before .even .given .1) (c .before .before .before .whole-even-box .ensures)
+    subst (WholeSymmetric (entry-of c .args .b) (toZ w32 (ofZ w32 (entry-of c .args .y))) (entry-of c .args .count))
+    (c .before .symmetric .given .1) (c .before .before .before .whole-symmetric-box .ensures)
 
-paint-even-box-requires : tie.Need-paint-even-box-requires
-paint-even-box-requires c κs =
+paint-symmetric-box-requires : tie.Need-paint-symmetric-box-requires
+paint-symmetric-box-requires c κs =
     let pre = entry-of (c .before) .pre in
     (pre .0, (pre .1 .0, whole (c .before) .0 .2))
 
@@ -69,7 +69,7 @@ returns-2 c =
     let stroke = sym (is .0 .0) in
     let fill = sym (is .0 .1) in
     let y-is = sym (toZ-ofZ (entry .pre .1 .1 .1 .0 .fits)) ∙ is .1 in
-    c .before .before .paint-even-box .ensures
+    c .before .before .paint-symmetric-box .ensures
     ∙ (λ i. rowsBy (boxStyledRow (stroke i) (fill i)) (a .style) (a .size .width) (a .size .height)
     (stroke i .rectangle .«top_left» .y) (stroke i .rectangle .size .height) (a .canvas .now))
     ∙ (λ i. rowsBy (boxStyledRow (strokeBox (a .b)) (fillBox (a .b))) (a .style) (a .size .width) (a .size .height) (sym y-is i)
@@ -79,12 +79,12 @@ pub paint-box-spec : {M : Type 1} → statement M
 paint-box-spec =
     tie.close
     (tie.spec
-    whole-even-box-requires
-    enum-known-even
+    whole-symmetric-box-requires
+    enum-known-symmetric
     enum-told
     paint-box-rows-requires
     same-length
     returns
-    paint-even-box-requires
+    paint-symmetric-box-requires
     same-length-2
     returns-2)

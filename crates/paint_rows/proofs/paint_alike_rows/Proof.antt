@@ -1,4 +1,5 @@
--- `paint_rows::paint_alike_rows` meets its contract. The invariant: the rows that are left, painted on the canvas as it is now, make the whole.
+-- `paint_rows::paint_alike_rows` meets its contract. The invariant: the rows that are left, painted on the canvas as it is now, make the
+-- whole.
 -- Assumes nothing.
 use native.Mathlib.Omega.{arith}
 use Rattle.signed.proofs.Laws.{int, add-law}
@@ -29,7 +30,8 @@ abbrev μ-loop : tie.MeasureT-loop
 abbrev entry : tie.After-add Inv-loop μ-loop → tie.Start Inv-loop μ-loop
 entry c = c .before .before .before .before .before
 
-row-is : (c : tie.After-add Inv-loop μ-loop) → c .add .result ≡ toZ w32 (ofZ w32 (entry c .args .y)) +ℤ pos (c .before .before .before .loop .dy)
+row-is : (c : tie.After-add Inv-loop μ-loop) → c .add .result ≡ toZ w32 (ofZ w32 (entry c .args .y)) +ℤ pos
+    (c .before .before .before .loop .dy)
 row-is c =
     let near = entry c .pre .1 .1 .0 in
     let fits = near .fits in
@@ -60,7 +62,9 @@ add-requires : tie.Need-add-requires Inv-loop μ-loop
 add-requires c κs = omega (arith, int)
 
 paint-row-on-requires : tie.Need-paint-row-on-requires Inv-loop μ-loop
-paint-row-on-requires c κs = (c .before .before .before .before .loop .inv .size, (entry (c .before) .pre .1 .0, rw (toZ-ofZ (c .before .add .ensures .fits)) (row-near (c .before))))
+paint-row-on-requires c κs =
+    let at-loop = c .before .before .before .before .loop in
+    (at-loop .inv .size, (entry (c .before) .pre .1 .0, rw (toZ-ofZ (c .before .add .ensures .fits)) (row-near (c .before))))
 
 add-dy : tie.Need-add-dy Inv-loop μ-loop
 add-dy c = omega (arith, int)
@@ -70,15 +74,18 @@ loop-less c = omega (arith, int)
 
 loop-again : tie.Need-loop-again Inv-loop μ-loop
 loop-again c =
+    let at-loop-test = c .before .before .before .before .before .before .loop-test in
+    let at-loop = c .before .before .before .before .before .before .before .loop in
     let at = c .before .before .before .before in
     let a = entry at .args in
     let call = c .before .before .paint-row-on in
-    let before = c .before .before .before .before .before .before .before .loop .canvas in
+    let before = at-loop .canvas in
     let same : length (call .last .0) ≡ length before = search needs in
-    rows-turn _ _ _ _ _ _ _ (c .before .before .before .before .before .before .before .loop .dy) before (call .last .0) (c .before .before .before .before .before .before .loop-test .taken) same
+    rows-turn _ _ _ _ _ _ _ (at-loop .dy) before (call .last .0) (at-loop-test .taken) same
     (call .ensures
-    ∙ ap (λ (z : ℤ). paintBy (λ _. a .row) (a .style) (a .size .width) (a .size .height) z before) (toZ-ofZ (at .add .ensures .fits) ∙ row-is at))
-    (c .before .before .before .before .before .before .before .loop .inv)
+    ∙ ap (λ (z : ℤ). paintBy (λ _. a .row) (a .style) (a .size .width) (a .size .height) z before)
+    (toZ-ofZ (at .add .ensures .fits) ∙ row-is at))
+    (at-loop .inv)
 
 same-length : tie.Need-same-length Inv-loop μ-loop
 same-length c = omega (arith, int)
@@ -87,8 +94,10 @@ returns : tie.Need-returns Inv-loop μ-loop
 returns c =
     let start = c .before .before .before in
     let a = start .args in
-    rows-end (λ _. a .row) (a .style) (a .size .width) (a .size .height) (toZ w32 (ofZ w32 (a .y))) (a .count) (a .canvas .now) (c .before .loop .dy) (c .before .loop .canvas) (c .loop-test .left) (c .before .loop .inv)
-    ∙ ap (λ (z : ℤ). rowsBy (λ _. a .row) (a .style) (a .size .width) (a .size .height) z (a .count) (a .canvas .now)) (toZ-ofZ (start .pre .1 .1 .0 .fits))
+    rows-end (λ _. a .row) (a .style) (a .size .width) (a .size .height) (toZ w32 (ofZ w32 (a .y))) (a .count) (a .canvas .now)
+    (c .before .loop .dy) (c .before .loop .canvas) (c .loop-test .left) (c .before .loop .inv)
+    ∙ ap (λ (z : ℤ). rowsBy (λ _. a .row) (a .style) (a .size .width) (a .size .height) z (a .count) (a .canvas .now))
+    (toZ-ofZ (start .pre .1 .1 .0 .fits))
 
 pub paint-alike-rows-spec : {M : Type 1} → statement M
 paint-alike-rows-spec =

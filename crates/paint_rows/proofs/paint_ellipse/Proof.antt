@@ -1,4 +1,5 @@
--- `paint_rows::paint_ellipse` meets its contract. The invariant: the rows between those that are done, painted on the canvas as it is now, make
+-- `paint_rows::paint_ellipse` meets its contract. The invariant: the rows between those that are done, painted on the canvas as it is now,
+-- make
 -- the whole.
 -- Assumes nothing.
 use native.Mathlib.Omega.{arith}
@@ -24,7 +25,8 @@ use Rattle.paint_rows.proofs.paint_ellipse.Tie as tie
 
 abbrev Inv-loop : tie.InvT-loop
 Inv-loop canvas₀ size ellipse style y count pairs hints₀ turns dy₀ canvas hints dy =
-    RowsBetween (ellipseStyledRow (ellipse .area) (ellipse .sides)) style (size .width) (size .height) (toZ w32 y) count pairs canvas₀ dy canvas
+    RowsBetween (ellipseStyledRow (ellipse .area) (ellipse .sides)) style (size .width) (size .height)
+    (toZ w32 y) count pairs canvas₀ dy canvas
 
 abbrev μ-loop : tie.MeasureT-loop
 μ-loop canvas₀ size ellipse style y count pairs hints₀ turns dy₀ canvas hints dy = turns - dy
@@ -130,7 +132,14 @@ paint-twice-requires : tie.Need-paint-twice-requires Inv-loop μ-loop
 paint-twice-requires c κs =
     let at = c .before .before in (
       at .before .before .before .before .before .loop .inv .size,
-      (entry at .pre .1 .0, (rw (toZ-ofZ (at .before .before .add .ensures .fits)) (row-near at), rw (toZ-ofZ (at .add2 .ensures .fits)) (mirror-near at))),
+      (
+        entry at .pre .1 .0,
+        (
+          rw (toZ-ofZ (at .before .before .add .ensures .fits)) (row-near at),
+          rw (toZ-ofZ (at .add2 .ensures .fits))
+              (mirror-near at),
+        ),
+      ),
     )
 
 add-dy : tie.Need-add-dy Inv-loop μ-loop
@@ -151,10 +160,12 @@ loop-again c =
     let row-y = toZ-ofZ (at .before .before .add .ensures .fits) ∙ row-is at in
     let mirrored-y = toZ-ofZ (at .add2 .ensures .fits) ∙ mirror-is at in
     let same : length (call .last .0) ≡ length (loop .canvas) = search needs in
-    between-turn rowAt _ _ _ _ _ _ _ (done at) (loop .canvas) (at .before .before .before .before .loop-test .taken) (pairs .ensures .half) (loop .inv) row (call .last .0) same
+    between-turn rowAt _ _ _ _ _ _ _ (done at) (loop .canvas) (at .before .before .before .before .loop-test .taken) (pairs .ensures .half)
+    (loop .inv) row (call .last .0) same
     (c .before .before .before .before .before .row .ensures ∙ ap rowAt row-y)
     (alike at)
-    (call .ensures ∙ (λ i. twiceBy row (a .style) (a .size .width) (a .size .height) (row-y i) (mirrored-y i) (ltb (done at) (pairs .result)) (loop .canvas)))
+    (call .ensures ∙ (λ i. twiceBy row (a .style) (a .size .width) (a .size .height) (row-y i) (mirrored-y i)
+    (ltb (done at) (pairs .result)) (loop .canvas)))
 
 same-length : tie.Need-same-length Inv-loop μ-loop
 same-length c = search needs
@@ -165,8 +176,11 @@ returns c =
     let a = start .args in
     let loop = c .before .loop in
     let rowAt = ellipseStyledRow (a .ellipse .area) (a .ellipse .sides) in
-    between-end rowAt (a .style) (a .size .width) (a .size .height) (toZ w32 (ofZ w32 (a .y))) (a .count) (c .before .before .mirrored-pairs .result) (a .canvas .now) (loop .dy) (loop .canvas) (c .loop-test .left) (c .before .before .mirrored-pairs .ensures .half) (loop .inv)
-    ∙ ap (λ (z : ℤ). rowsBy rowAt (a .style) (a .size .width) (a .size .height) z (a .count) (a .canvas .now)) (toZ-ofZ (start .pre .1 .1 .1 .0 .fits))
+    between-end rowAt (a .style) (a .size .width) (a .size .height) (toZ w32 (ofZ w32 (a .y))) (a .count)
+    (c .before .before .mirrored-pairs .result) (a .canvas .now) (loop .dy) (loop .canvas) (c .loop-test .left)
+    (c .before .before .mirrored-pairs .ensures .half) (loop .inv)
+    ∙ ap (λ (z : ℤ). rowsBy rowAt (a .style) (a .size .width) (a .size .height) z (a .count) (a .canvas .now))
+    (toZ-ofZ (start .pre .1 .1 .1 .0 .fits))
 
 pub paint-ellipse-spec : {M : Type 1} → statement M
 paint-ellipse-spec =

@@ -18,11 +18,13 @@ abbrev entry : tie.After-paint-row-on → tie.Start
 entry c = c .before .before .before
 
 once-is : (c : tie.After-paint-row-on) → c .paint-row-on .last .0
-    ≡ paintBy (λ _. entry c .args .row) (entry c .args .style) (entry c .args .size .width) (entry c .args .size .height) (entry c .args .y) (entry c .args .canvas .now)
+    ≡ paintBy (λ _. entry c .args .row) (entry c .args .style) (entry c .args .size .width) (entry c .args .size .height) (entry c .args .y)
+    (entry c .args .canvas .now)
 once-is c =
     let a = entry c .args in
     c .paint-row-on .ensures
-    ∙ ap (λ (z : ℤ). paintBy (λ _. a .row) (a .style) (a .size .width) (a .size .height) z (a .canvas .now)) (toZ-ofZ (entry c .pre .1 .1 .0 .fits))
+    ∙ ap (λ (z : ℤ). paintBy (λ _. a .row) (a .style) (a .size .width) (a .size .height) z (a .canvas .now))
+    (toZ-ofZ (entry c .pre .1 .1 .0 .fits))
 
 paint-row-on-requires : tie.Need-paint-row-on-requires
 paint-row-on-requires c κs =
@@ -38,7 +40,8 @@ returns c =
     let after = c .before .before .before in
     let a = entry after .args in
     once-is after
-    ∙ ap (λ (t : Bool). twiceBy (a .row) (a .style) (a .size .width) (a .size .height) (a .y) (a .other) t (a .canvas .now)) (sym (not-true (a .twice) (c .if1 .taken)))
+    ∙ ap (λ (t : Bool). twiceBy (a .row) (a .style) (a .size .width) (a .size .height) (a .y) (a .other) t (a .canvas .now))
+    (sym (not-true (a .twice) (c .if1 .taken)))
 
 paint-row-on-requires-2 : tie.Need-paint-row-on-requires-2
 paint-row-on-requires-2 c κs =
@@ -53,12 +56,15 @@ same-length-2 c = search needs
 
 returns-2 : tie.Need-returns-2
 returns-2 c =
+    let at-if1 = c .before .before .before .before .if1 in
     let after = c .before .before .before .before .before .before .before in
     let a = entry after .args in
     c .before .before .paint-row-on2 .ensures
-    ∙ ap (λ (z : ℤ). paintBy (λ _. a .row) (a .style) (a .size .width) (a .size .height) z (after .paint-row-on .last .0)) (toZ-ofZ (entry after .pre .1 .1 .1 .fits))
+    ∙ ap (λ (z : ℤ). paintBy (λ _. a .row) (a .style) (a .size .width) (a .size .height) z (after .paint-row-on .last .0))
+    (toZ-ofZ (entry after .pre .1 .1 .1 .fits))
     ∙ ap (paintBy (λ _. a .row) (a .style) (a .size .width) (a .size .height) (a .other)) (once-is after)
-    ∙ ap (λ (t : Bool). twiceBy (a .row) (a .style) (a .size .width) (a .size .height) (a .y) (a .other) t (a .canvas .now)) (sym (not-false (a .twice) (c .before .before .before .before .if1 .left)))
+    ∙ ap (λ (t : Bool). twiceBy (a .row) (a .style) (a .size .width) (a .size .height) (a .y) (a .other) t (a .canvas .now))
+    (sym (not-false (a .twice) (at-if1 .left)))
 
 pub paint-twice-spec : {M : Type 1} → statement M
 paint-twice-spec =

@@ -4,7 +4,7 @@ use lib.IntN.{pos}
 use mir.Syntax.{w32}
 use mir.Val.{toZ, ofZ}
 use Rattle.signed.proofs.Laws.{int, add-law}
-use Rattle.range.proofs.Fields.{range-by-fields}
+use Rattle.geometry_range.proofs.Fields.{range-by-fields}
 use borrow.Author.Needs.{needs}
 use native.Mathlib.Omega.{arith}
 use Rattle.rounded_rectangle.proofs.run_between.Statement.{statement}

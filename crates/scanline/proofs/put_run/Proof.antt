@@ -32,7 +32,9 @@ loop-holds c = (
   omega arith,
   omega arith,
   record {
-    whole = ap (λ (ps : List Point). sets (c .args .list .now) (c .args .at) (entries ps)) (run-points-all (toZ w32 (ofZ w32 (c .args .y))) (toZ w32 (ofZ w32 (c .args .start))) (c .args .n));
+    whole =
+        ap (λ (ps : List Point). sets (c .args .list .now) (c .args .at) (entries ps))
+        (run-points-all (toZ w32 (ofZ w32 (c .args .y))) (toZ w32 (ofZ w32 (c .args .start))) (c .args .n));
     long = refl;
   },
 )
@@ -86,7 +88,8 @@ returns c =
     let still = c .before .loop .inv .2 in (
       omega arith,
       sym (still .whole ∙ ap (sets _ _) (run-points-none _ _ _ (omega arith)))
-          ∙ (λ i. sets (entry .args .list .now) (entry .args .at) (entries (runPoints (toZ-ofZ (entry .fits .y) i) (toZ-ofZ (entry .fits .start) i) (entry .args .n)))),
+          ∙ (λ i. sets (entry .args .list .now) (entry .args .at)
+          (entries (runPoints (toZ-ofZ (entry .fits .y) i) (toZ-ofZ (entry .fits .start) i) (entry .args .n)))),
     )
 
 pub put-run-spec : {M : Type 1} → statement M

@@ -10,15 +10,16 @@ use Rattle.signed.specs.Signed.{floor0}
 use Rattle.book.specs.Book.{add as Call·add, paint as Call·paint}
 use Rattle.drawing.specs.Drawing.{styledFigure}
 use Rattle.sheet.proofs.Records.{add-takes-no-canvas}
-use Rattle.record_numbers.specs.RecordNumbers.{numberAt}
-use Rattle.record_numbers.proofs.Walks.{read-back}
-use Rattle.call_numbers.specs.CallNumbers.{callKindAt, callLayerAt, paintKind, callOf}
+use Rattle.host_records.specs.RecordNumbers.{numberAt}
+use Rattle.host_records.proofs.Walks.{read-back}
+use Rattle.sheet_calls.specs.CallNumbers.{callKindAt, callLayerAt, paintKind, callOf}
 use borrow.Author.Needs.{needs}
 use Rattle.sheet_calls.proofs.make_call.Statement.{statement}
 use Rattle.sheet_calls.proofs.make_call.Tie as tie
 
 -- whether a row is painted
-by-kind : (c : tie.After-if12) {t : Bool} → leZ paintKind (toZ w32 (ofZ w32 (numberAt (c .before .before .args .numbers .now) callKindAt))) ≡ t
+by-kind : (c : tie.After-if12) {t : Bool} → leZ paintKind (toZ w32 (ofZ w32 (numberAt (c .before .before .args .numbers .now) callKindAt)))
+    ≡ t
     → leZ paintKind (numberAt (c .before .before .args .numbers .now) callKindAt) ≡ t
 by-kind c test = sym (ap (leZ paintKind) (read-back (c .before .before .args .numbers .now) callKindAt (c .if12 .given))) ∙ test
 
@@ -29,10 +30,16 @@ paints c =
     rw (by-kind (c .before .before .before) (c .before .before .if1 .taken))
     (ap Call·paint (sym (c .floor0 .ensures ∙ ap (λ (z : ℤ). floor0 z) (read-back numbers callLayerAt (c .before .floor0-arg .given)))))
 
-adds : (c : tie.After-style-of) → callOf (c .before .before .before .before .before .before .before .args .numbers .now) ≡ Call·add (styledFigure (c .before .before .figure-of .result) (c .style-of .result))
+abbrev start-style-of : tie.After-style-of → tie.Start
+start-style-of c = c .before .before .before .before .before .before .before
+
+adds : (c : tie.After-style-of) → callOf (start-style-of c .args .numbers .now) ≡ Call·add
+    (styledFigure (c .before .before .figure-of .result) (c .style-of .result))
 unfolding callOf
 adds c =
-    rw (by-kind (c .before .before .before .before .before) (c .before .before .before .before .if1 .left)) (ap Call·add (sym (ap₂ styledFigure (c .before .before .figure-of .ensures) (c .style-of .ensures))))
+    let at-if1 = c .before .before .before .before .if1 in
+    rw (by-kind (c .before .before .before .before .before) (at-if1 .left))
+    (ap Call·add (sym (ap₂ styledFigure (c .before .before .figure-of .ensures) (c .style-of .ensures))))
 
 shared-slice-copy-out-if1 : tie.Need-shared-slice-copy-out-if1
 shared-slice-copy-out-if1 c = search needs

@@ -7,7 +7,7 @@ use borrow.Author.Needs.{needs}
 use lib.ListN.{length, length-set}
 use Rattle.geometry.specs.Limits.{maxLayers}
 use Rattle.sheet.proofs.Places.{sixteen-places}
-use Rattle.call_numbers.proofs.Walks.{call-part-length}
+use Rattle.sheet_calls.proofs.Walks.{call-part-length}
 use Rattle.sheet_calls.proofs.Runs.{CallsLeft, all-left, one-less-left, called-part, none-left}
 use Rattle.sheet_calls.proofs.make_calls.Statement.{statement}
 use Rattle.sheet_calls.proofs.make_calls.Tie as tie
@@ -76,7 +76,8 @@ loop-again c =
       omega arith,
       simp length-set (inv .1),
       called .make-call .kept .1 .1 .0 ∙ inv .2,
-      one-less-left (a .numbers .now) (a .count) (a .sheet) (a .canvas .now) (a .answers .now) (walk .loop .j) (walk .loop .current) (walk .loop .canvas)
+      one-less-left (a .numbers .now) (a .count) (a .sheet) (a .canvas .now) (a .answers .now) (walk .loop .j) (walk .loop .current)
+          (walk .loop .canvas)
           (walk .loop .answers) (inv .3) (called .before .before .before .loop-test .taken) (called .make-call .result) _
           (called-part (a .numbers .now) (walk .loop .j) (called .make-call .ensures)) (c .number-of .result) (c .number-of .ensures),
     )

@@ -13,7 +13,7 @@ use Rattle.refusal.specs.declared.Refusal.{Refusal}
 use Rattle.refusal.specs.Refusal.{number, orElse as firstOf, roomCheck}
 use Rattle.refusal.proofs.Checks.{passed-first, passed-next, passed-above, refusal-found}
 use Rattle.canvas_size.specs.CanvasSize.{canvasSizeCheck, canvasLengthCheck}
-use Rattle.call_numbers.specs.CallNumbers.{callCount, callsOf}
+use Rattle.sheet_calls.specs.CallNumbers.{callCount, callsOf}
 use Rattle.sheet_calls.specs.SheetCalls.{refusedBy, lentCheck}
 use Rattle.sheet_calls.proofs.Runs.{run-from, run-refused, run-not-calls, run-accepted}
 use Rattle.sheet_calls.proofs.run_calls.Statement.{statement}
@@ -25,7 +25,8 @@ start c = c .before .before .before .before .before .before .before .before .bef
 
 checked : (c : tie.After-or-else2)
     → c .or-else2 .result
-    ≡ lentCheck (start c .args .width) (start c .args .height) (start c .args .calls .now) (length (start c .args .canvas .now)) (length (start c .args .answers .now))
+    ≡ lentCheck (start c .args .width) (start c .args .height) (start c .args .calls .now) (length (start c .args .canvas .now))
+    (length (start c .args .answers .now))
 checked c =
     c .or-else2 .ensures
     ∙ ap₂ firstOf
@@ -38,12 +39,14 @@ abbrev entry : tie.After-enum-told → tie.Start
 entry c = start (c .before .before)
 
 passed : (c : tie.After-enum-told)
-    → lentCheck (entry c .args .width) (entry c .args .height) (entry c .args .calls .now) (length (entry c .args .canvas .now)) (length (entry c .args .answers .now))
+    → lentCheck (entry c .args .width) (entry c .args .height) (entry c .args .calls .now) (length (entry c .args .canvas .now))
+    (length (entry c .args .answers .now))
     ≡ Passed
 passed c = sym (checked (c .before .before)) ∙ c .enum-told .given .1
 
 sizes-passed : (c : tie.After-enum-told)
-    → firstOf (canvasSizeCheck (entry c .args .width) (entry c .args .height)) (canvasLengthCheck (entry c .args .width) (entry c .args .height) (length (entry c .args .canvas .now)))
+    → firstOf (canvasSizeCheck (entry c .args .width) (entry c .args .height))
+    (canvasLengthCheck (entry c .args .width) (entry c .args .height) (length (entry c .args .canvas .now)))
     ≡ Passed
 sizes-passed c =
     let a = entry c .args in
@@ -91,7 +94,8 @@ returns c =
     let a = start check .args in
     let told = c .before .enum-told2 .given .1 in (
       ap (λ (r : Refusal). refusedBy (number r)) (refusal-found (c .refusal .ensures) told)
-          ∙ sym (run-refused (a .width) (a .height) (a .calls .now) (length (a .canvas .now)) (length (a .answers .now)) _ (sym (checked check) ∙ told)),
+          ∙ sym (run-refused (a .width) (a .height) (a .calls .now) (length (a .canvas .now)) (length (a .answers .now)) _
+          (sym (checked check) ∙ told)),
       record { sheet = check .before .before .before .before .before .before .«open» .ensures .1; kept-canvas = refl; kept-answers = refl },
     )
 
@@ -105,7 +109,11 @@ returns-2 c =
     let a = entry told .args in
     let none = sym (c .before .encodes-calls .ensures) ∙ not-true _ (c .if1 .taken) in (
       sym (run-not-calls (a .width) (a .height) (a .calls .now) (length (a .canvas .now)) (length (a .answers .now)) (passed told) none),
-      record { sheet = told .before .before .before .before .before .before .before .before .«open» .ensures .1; kept-canvas = refl; kept-answers = refl },
+      record {
+        sheet = told .before .before .before .before .before .before .before .before .«open» .ensures .1;
+        kept-canvas = refl;
+        kept-answers = refl;
+      },
     )
 
 make-calls-requires : tie.Need-make-calls-requires
@@ -122,12 +130,16 @@ returns-3 c =
     let made = c .before .before .before .before in
     let told = made .before .before .before .before .before in
     let a = entry told .args in
-    let calls = sym (made .before .before .before .before .encodes-calls .ensures) ∙ not-false _ (made .before .before .before .if1 .left) in
+    let calls = sym (made .before .before .before .before .encodes-calls .ensures) ∙ not-false _
+    (made .before .before .before .if1 .left) in
     let opened = told .before .before .before .before .before .before .before .before in
-    let size = passed-first (canvasSizeCheck (a .width) (a .height)) (canvasLengthCheck (a .width) (a .height) (length (a .canvas .now))) (sizes-passed told) in
-    let long = passed-next (canvasSizeCheck (a .width) (a .height)) (canvasLengthCheck (a .width) (a .height) (length (a .canvas .now))) (sizes-passed told) in (
+    let size = passed-first (canvasSizeCheck (a .width) (a .height)) (canvasLengthCheck (a .width) (a .height) (length (a .canvas .now)))
+    (sizes-passed told) in
+    let long = passed-next (canvasSizeCheck (a .width) (a .height)) (canvasLengthCheck (a .width) (a .height) (length (a .canvas .now)))
+    (sizes-passed told) in (
       sym (run-accepted (a .width) (a .height) (a .calls .now) (length (a .canvas .now)) (length (a .answers .now)) (passed told) calls),
-      run-from (a .width) (a .height) (a .canvas .now) (a .answers .now) (callsOf (a .calls .now)) size long (opened .«open» .result .sheet) (opened .«open» .ensures .1)
+      run-from (a .width) (a .height) (a .canvas .now) (a .answers .now) (callsOf (a .calls .now)) size long (opened .«open» .result .sheet)
+          (opened .«open» .ensures .1)
           (made .make-calls .ensures .1 .1) (made .make-calls .ensures .0) (made .make-calls .ensures .1 .0),
     )
 

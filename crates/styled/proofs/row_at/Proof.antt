@@ -4,8 +4,8 @@ use borrow.Author.Needs.{needs}
 use mathlib.Core.Path.{_≡_, ap, subst, _∙_}
 use lib.IntN.{ℤ}
 use mir.Facts.{toZ-ofZ}
-use Rattle.straight_row.specs.declared.StraightRow.{StraightRow}
-use Rattle.straight_row.specs.StraightRow.{Told}
+use Rattle.styled_straight.specs.declared.StraightRow.{StraightRow}
+use Rattle.styled_straight.specs.StraightRow.{Told}
 use Rattle.styled.specs.Styled.{styledRow}
 use Rattle.styled.proofs.row_at.Statement.{statement}
 use Rattle.styled.proofs.row_at.Tie as tie

@@ -13,10 +13,10 @@ use Rattle.signed.specs.Signed.{Near}
 use Rattle.signed.proofs.Laws.{int, positive-of-opposite, negative-of-opposite}
 use Rattle.rectangle.specs.Rectangle.{offset as Rectangle·offset}
 use Rattle.ellipse_styled.specs.EllipseStyled.{ellipseStyledRow}
-use Rattle.box_rules.specs.BoxRules.{confined, confinedW3c, offsetBox}
+use Rattle.shape.specs.BoxRules.{confined, confinedW3c, offsetBox}
 use Rattle.figure.specs.declared.Figure.{Figure}
 use Rattle.figure.specs.Bounds.{wideOffset, OwnFigure}
-use Rattle.shape_row.specs.StyledRow.{boxStyledRow, styledRowOfShapes}
+use Rattle.styled_row.specs.StyledRow.{boxStyledRow, styledRowOfShapes}
 use Rattle.style.specs.Style.{outsideStrokeWidth, insideStrokeWidth}
 use Rattle.style.proofs.StrokeWidths.{outside-within-stroke, inside-within-stroke}
 use Rattle.styled.specs.Styled.{styledRow}

@@ -11,7 +11,7 @@ use Rattle.figure.specs.declared.Figure.the-variants.{CrateBox, W3cBox}
 use Rattle.figure.specs.Bounds.{wideOffset}
 use Rattle.style.proofs.StrokeWidths.{outside-within-stroke, inside-within-stroke}
 use Rattle.styled.specs.Styled.{styledRow}
-use Rattle.straight_row.specs.StraightRow.{Told}
+use Rattle.styled_straight.specs.StraightRow.{Told}
 use Rattle.styled.proofs.Told.{IsBox, own-box, figure-told}
 use Rattle.styled.proofs.straight_row_of.Statement.{statement}
 use Rattle.styled.proofs.straight_row_of.Tie as tie
@@ -54,9 +54,13 @@ straight-row-requires c κs =
     let near = entry .pre .1 .1 in
     (own-box _ _ (is-box c) (entry .pre .0), (widths (c .before), rw (toZ-ofZ (near .fits)) near))
 
+abbrev start-straight-row : tie.After-straight-row → tie.Start
+start-straight-row c = c .before .before .before .before
+
 -- what is told of the box, of the figure
 straight-told : (c : tie.After-straight-row)
-    → Told (c .straight-row .result) (styledRow (c .before .before .before .before .args .figure) (c .before .before .before .before .args .style) (c .before .before .before .before .args .y))
+    → Told (c .straight-row .result) (styledRow (start-straight-row c .args .figure) (start-straight-row c .args .style)
+    (start-straight-row c .args .y))
 straight-told c =
     let entry = c .before .before .before .before in
     subst (λ (z : ℤ). Told (c .straight-row .result) (styledRow (entry .args .figure) (entry .args .style) z))

@@ -1,4 +1,5 @@
--- `styled::styled_bounding_box` meets its contract: passed checks bound the rectangle and the outside width, and a refusal is the checks' own.
+-- `styled::styled_bounding_box` meets its contract: passed checks bound the rectangle and the outside width, and a refusal is the checks'
+-- own.
 -- Assumes nothing.
 use mathlib.Core.Path.{_≡_, sym, ap, ap₂, subst, _∙_}
 use lib.IntN.{pos}
@@ -13,15 +14,19 @@ use Rattle.figure.specs.Calls.{figureCheck}
 use Rattle.figure.proofs.Within.{figure-passed}
 use Rattle.style.specs.Style.{styleCheck}
 use Rattle.style.proofs.StrokeWidths.{outside-passed}
-use Rattle.areas.proofs.Bounds.{own-rectangle-bounded}
+use Rattle.styled.proofs.Bounds.{own-rectangle-bounded}
 use borrow.Author.Needs.{needs}
 use native.Mathlib.Omega.{arith}
 use Rattle.signed.proofs.Laws.{int}
 use Rattle.styled.proofs.styled_bounding_box.Statement.{statement}
 use Rattle.styled.proofs.styled_bounding_box.Tie as tie
 
+abbrev start-or-else : tie.After-or-else → tie.Start
+start-or-else c = c .before .before .before
+
 -- the check made is the definition's
-checked : (c : tie.After-or-else) → c .or-else .result ≡ orElse (figureCheck (c .before .before .before .args .figure)) (styleCheck (c .before .before .before .args .style))
+checked : (c : tie.After-or-else) → c .or-else .result ≡ orElse (figureCheck (start-or-else c .args .figure))
+    (styleCheck (start-or-else c .args .style))
 checked c = c .or-else .ensures ∙ ap₂ orElse (c .before .before .check .ensures) (c .before .check2 .ensures)
 
 check-requires : tie.Need-check-requires
@@ -54,7 +59,12 @@ from-u32-requires : tie.Need-from-u32-requires
 from-u32-requires c κs =
     let entry = c .before .before .before .before .before .before in
     let passed = sym (checked (c .before .before .before)) ∙ c .before .enum-told .given .1 in
-    omega (arith, c .outside-stroke-width .ensures, outside-passed (entry .args .style) (passed-next (figureCheck (entry .args .figure)) _ passed))
+    omega (
+      arith,
+      c .outside-stroke-width .ensures,
+      outside-passed (entry .args .style)
+          (passed-next (figureCheck (entry .args .figure)) _ passed),
+    )
 
 own-rectangle-requires : tie.Need-own-rectangle-requires
 own-rectangle-requires c κs = search needs
@@ -65,15 +75,24 @@ offset-requires c κs =
     let passed = sym (checked (c .before .before .before .before .before)) ∙ c .before .before .before .enum-told .given .1 in
     let f = entry .args .figure in
     let is = c .before .from-u32 .ensures .is in
-    let own = own-rectangle-bounded f (figure-passed f (passed-first (figureCheck f) (styleCheck (entry .args .style)) passed)) in
-    (subst Bounded (sym (c .own-rectangle .ensures)) own, omega (arith, int, c .before .before .outside-stroke-width .ensures, outside-passed (entry .args .style) (passed-next (figureCheck f) _ passed)))
+    let own = own-rectangle-bounded f (figure-passed f (passed-first (figureCheck f) (styleCheck (entry .args .style)) passed)) in (
+      subst Bounded (sym (c .own-rectangle .ensures)) own,
+      omega (
+        arith,
+        int,
+        c .before .before .outside-stroke-width .ensures,
+        outside-passed (entry .args .style)
+            (passed-next (figureCheck f) _ passed),
+      ),
+    )
 
 returns-2 : tie.Need-returns-2
 returns-2 c =
     let wide = c .before .before .from-u32 .ensures in
     let by = toZ-ofZ (wide .fits) ∙ wide .is ∙ ap pos (c .before .before .before .outside-stroke-width .ensures) in
     rw (sym (checked (c .before .before .before .before .before .before)) ∙ c .before .before .before .before .enum-told .given .1)
-    (ap (λ (r : Rectangle). answered (rectangleValues r)) (c .offset .ensures ∙ (λ i. Rectangle·offset (c .before .own-rectangle .ensures i) (by i))))
+    (ap (λ (r : Rectangle). answered (rectangleValues r))
+    (c .offset .ensures ∙ (λ i. Rectangle·offset (c .before .own-rectangle .ensures i) (by i))))
 
 pub styled-bounding-box-spec : {M : Type 1} → statement M
 styled-bounding-box-spec =

@@ -20,13 +20,20 @@ use Rattle.styled.specs.Calls.{styledRowValues}
 use Rattle.styled.proofs.styled_row.Statement.{statement}
 use Rattle.styled.proofs.styled_row.Tie as tie
 
+abbrev start-or-else2 : tie.After-or-else2 → tie.Start
+start-or-else2 c = c .before .before .before .before .before
+
 -- the check made is the definition's
 checked : (c : tie.After-or-else2)
-    → c .or-else2 .result ≡ orElse (orElse (figureCheck (c .before .before .before .before .before .args .figure)) (askedCheck (c .before .before .before .before .before .args .y))) (styleCheck (c .before .before .before .before .before .args .style))
+    → c .or-else2 .result ≡ orElse (orElse (figureCheck (start-or-else2 c .args .figure)) (askedCheck (start-or-else2 c .args .y)))
+    (styleCheck (start-or-else2 c .args .style))
 checked c =
+    let at-check-row = c .before .before .before .check-row in
+    let at-check = c .before .before .before .before .check in
+    let at-fits = c .before .before .before .before .before .fits in
     c .or-else2 .ensures
     ∙ ap₂ orElse
-    (c .before .before .or-else .ensures ∙ ap₂ orElse (c .before .before .before .before .check .ensures) (c .before .before .before .check-row .ensures ∙ ap askedCheck (toZ-ofZ (c .before .before .before .before .before .fits .y))))
+    (c .before .before .or-else .ensures ∙ ap₂ orElse (at-check .ensures) (at-check-row .ensures ∙ ap askedCheck (toZ-ofZ (at-fits .y))))
     (c .before .check2 .ensures)
 
 check-requires : tie.Need-check-requires
@@ -69,10 +76,13 @@ row-at-requires c κs =
     let near = asked-passed (entry .args .y) (passed-next (figureCheck f) _ given) in
     (figure-passed f (passed-first (figureCheck f) (askedCheck (entry .args .y)) given), (omega arith, omega (arith, int)))
 
+abbrev start-row-at : tie.After-row-at → tie.Start
+start-row-at c = c .before .before .before .before .before .before .before .before
+
 -- the runs found are those of the styled row
 runs-are : (c : tie.After-row-at)
     → c .row-at .result
-    ≡ styledRow (c .before .before .before .before .before .before .before .before .args .figure) (c .before .before .before .before .before .before .before .before .args .style) (c .before .before .before .before .before .before .before .before .args .y)
+    ≡ styledRow (start-row-at c .args .figure) (start-row-at c .args .style) (start-row-at c .args .y)
 runs-are c =
     let entry = c .before .before .before .before .before .before .before .before in
     c .row-at .ensures ∙ ap (styledRow (entry .args .figure) (entry .args .style)) (toZ-ofZ (entry .fits .y))
@@ -93,10 +103,11 @@ returns-2 c =
 
 returns-3 : tie.Need-returns-3
 returns-3 c =
+    let at-runs = c .before .before .before .before .runs in
     let found = c .before .before .before .before .before .before in
     let entry = found .before .before .before .before .before .before .before .before in
     rw (sym (checked (found .before .before .before)) ∙ found .before .enum-told .given .1)
-    (ap₂ (λ (z : ℤ) (r : StyledRow). answered (styledRowValues z r)) (toZ-ofZ (entry .fits .y)) (sym (c .before .before .before .before .runs .given .1) ∙ runs-are found))
+    (ap₂ (λ (z : ℤ) (r : StyledRow). answered (styledRowValues z r)) (toZ-ofZ (entry .fits .y)) (sym (at-runs .given .1) ∙ runs-are found))
 
 pub styled-row-spec : {M : Type 1} → statement M
 styled-row-spec =

@@ -20,7 +20,8 @@ returns c =
     let a = c .before .before .before .args in
     let x-fits : SFits w32 (a .x) = search needs in
     let y-fits : SFits w32 (a .y) = search needs in
-    tells-as (λ i. ellipseWithCenterSaid (toZ-ofZ x-fits i) (toZ-ofZ y-fits i) (a .width) (a .height)) (c .before .ellipse-with-center .ensures)
+    tells-as (λ i. ellipseWithCenterSaid (toZ-ofZ x-fits i) (toZ-ofZ y-fits i) (a .width) (a .height))
+    (c .before .ellipse-with-center .ensures)
 
 pub wunqaber-ellipse-with-center-spec : {M : Type 1} → statement M
 wunqaber-ellipse-with-center-spec =

@@ -1,8 +1,8 @@
 -- `corner_radii::CornerRadii::confine` meets its contract: the callees' equations chain to the definition.
 -- Assumes nothing.
 use mathlib.Core.Path.{ap, _∙_}
-use Rattle.edge.specs.declared.Edge.{Edge}
-use Rattle.edge.specs.Edge.{mostOver}
+use Rattle.corner.specs.declared.edge.Edge.{Edge}
+use Rattle.corner.specs.Edge.{mostOver}
 use Rattle.corner_radii.specs.CornerRadii.{reduced, confine}
 use borrow.Author.Needs.{needs}
 use Rattle.corner_radii.proofs.CornerRadii.confine.Statement.{statement}

@@ -2,8 +2,8 @@
 -- edge, and that edge overlaps where some edge does.
 -- Assumes nothing.
 use mathlib.Core.Path.{sym, ap, _∙_}
-use Rattle.edge.specs.declared.Edge.{Edge}
-use Rattle.edge.specs.Edge.{tightest}
+use Rattle.corner.specs.declared.edge.Edge.{Edge}
+use Rattle.corner.specs.Edge.{tightest}
 use Rattle.corner_radii.specs.CornerRadii.{reduced}
 use Rattle.corner_radii.proofs.W3cRule.{w3c-by-tightest}
 use borrow.Author.Needs.{needs}

@@ -16,10 +16,14 @@ offset-corner-requires-2 : tie.Need-offset-corner-requires-2
 offset-corner-requires-2 c κs = (c .before .pre .0 .«top_right», rw (toZ-ofZ (c .before .fits .k)) (c .before .pre .1))
 
 offset-corner-requires-3 : tie.Need-offset-corner-requires-3
-offset-corner-requires-3 c κs = (c .before .before .pre .0 .«bottom_right», rw (toZ-ofZ (c .before .before .fits .k)) (c .before .before .pre .1))
+offset-corner-requires-3 c κs =
+    (c .before .before .pre .0 .«bottom_right», rw (toZ-ofZ (c .before .before .fits .k)) (c .before .before .pre .1))
 
 offset-corner-requires-4 : tie.Need-offset-corner-requires-4
-offset-corner-requires-4 c κs = (c .before .before .before .pre .0 .«bottom_left», rw (toZ-ofZ (c .before .before .before .fits .k)) (c .before .before .before .pre .1))
+offset-corner-requires-4 c κs =
+    let at-pre = c .before .before .before .pre in
+    let at-fits = c .before .before .before .fits in
+    (at-pre .0 .«bottom_left», rw (toZ-ofZ (at-fits .k)) (at-pre .1))
 
 returns : tie.Need-returns
 unfolding offset

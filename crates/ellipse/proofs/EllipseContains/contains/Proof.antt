@@ -23,7 +23,14 @@ add-result c = search needs
 returns : tie.Need-returns
 unfolding belowThreshold
 returns c =
-    rw (c .before .times2 .ensures .0, c .before .before .distance-square2 .ensures .0, c .before .before .before .times .ensures .0, c .before .before .before .before .distance-square .ensures .0)
+    let at-times = c .before .before .before .times in
+    let at-distance-square = c .before .before .before .before .distance-square in
+    rw (
+      c .before .times2 .ensures .0,
+      c .before .before .distance-square2 .ensures .0,
+      at-times .ensures .0,
+      at-distance-square .ensures .0,
+    )
 
 pub contains-spec : {M : Type 1} → statement M
 contains-spec =

@@ -39,11 +39,13 @@ times-requires c κs = search needs
 returns-2 : tie.Need-returns-2
 unfolding containsOf
 returns-2 c =
+    let at-side-square = c .before .before .before .side-square in
+    let at-wide = c .before .before .before .before .wide in
     let unequal = ne-eqb _ _ (c .before .before .before .before .before .if1 .left) in
-    let a = c .before .before .before .side-square .ensures .0 ∙ ap₂ _*_ (c .before .before .before .before .wide .ensures) (c .before .before .before .before .wide .ensures) in
+    let a = at-side-square .ensures .0 ∙ ap₂ _*_ (at-wide .ensures) (at-wide .ensures) in
     let b = c .before .side-square2 .ensures .0 ∙ ap₂ _*_ (c .before .before .wide2 .ensures) (c .before .before .wide2 .ensures) in (
       contains-by-fields (rw unequal b) (rw unequal a) (rw unequal (c .times .ensures .0 ∙ ap₂ _*_ a b)),
-      record { x-weight = c .before .side-square2 .ensures .1; y-weight = c .before .before .before .side-square .ensures .1 },
+      record { x-weight = c .before .side-square2 .ensures .1; y-weight = at-side-square .ensures .1 },
     )
 
 pub new-spec : {M : Type 1} → statement M

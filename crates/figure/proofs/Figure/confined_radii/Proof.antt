@@ -27,7 +27,9 @@ returns c =
     (refused-early refused (c .refusal .ensures) (c .before .enum-told2 .given .1))
 
 shape-requires : tie.Need-shape-requires
-shape-requires c κs = own-figure-bounded (c .before .before .before .args .self) (figure-passed (c .before .before .before .args .self) (sym (c .before .before .check .ensures) ∙ c .enum-told .given .1))
+shape-requires c κs =
+    let a = c .before .before .before .args in
+    own-figure-bounded (a .self) (figure-passed (a .self) (sym (c .before .before .check .ensures) ∙ c .enum-told .given .1))
 
 enum-known-b : tie.Need-enum-known-b
 enum-known-b c = search needs
@@ -36,10 +38,21 @@ enum-told-3 : tie.Need-enum-told-3
 enum-told-3 c = search needs
 
 returns-2 : tie.Need-returns-2
-returns-2 c = rw (sym (c .before .before .before .before .before .check .ensures) ∙ c .before .before .before .enum-told .given .1) (no-corners (c .before .before .before .before .before .before .args .self) _ (sym (c .before .before .shape .ensures .0) ∙ c .enum-told3 .given .1))
+returns-2 c =
+    let at-enum-told = c .before .before .before .enum-told in
+    let at-check = c .before .before .before .before .before .check in
+    let a = c .before .before .before .before .before .before .args in
+    rw (sym (at-check .ensures) ∙ at-enum-told .given .1)
+    (no-corners (a .self) _ (sym (c .before .before .shape .ensures .0) ∙ c .enum-told3 .given .1))
 
 returns-3 : tie.Need-returns-3
-returns-3 c = rw (sym (c .before .before .before .before .before .before .before .check .ensures) ∙ c .before .before .before .before .before .enum-told .given .1) (shape-corners (c .before .before .before .before .before .before .before .before .args .self) _ (sym (c .before .before .before .before .shape .ensures .0) ∙ c .before .before .b .given .1))
+returns-3 c =
+    let at-shape = c .before .before .before .before .shape in
+    let at-enum-told = c .before .before .before .before .before .enum-told in
+    let at-check = c .before .before .before .before .before .before .before .check in
+    let a = c .before .before .before .before .before .before .before .before .args in
+    rw (sym (at-check .ensures) ∙ at-enum-told .given .1)
+    (shape-corners (a .self) _ (sym (at-shape .ensures .0) ∙ c .before .before .b .given .1))
 
 pub confined-radii-spec : {M : Type 1} → statement M
 confined-radii-spec =

@@ -16,8 +16,12 @@ use native.Mathlib.Omega.{arith}
 use Rattle.figure.proofs.Figure.contains.Statement.{statement}
 use Rattle.figure.proofs.Figure.contains.Tie as tie
 
+abbrev start-or-else : tie.After-or-else → tie.Start
+start-or-else c = c .before .before .before
+
 -- the check made is the definition's
-checked : (c : tie.After-or-else) → c .or-else .result ≡ orElse (figureCheck (c .before .before .before .args .self)) (pointCheck (c .before .before .before .args .point))
+checked : (c : tie.After-or-else) → c .or-else .result ≡ orElse (figureCheck (start-or-else c .args .self))
+    (pointCheck (start-or-else c .args .point))
 checked c = c .or-else .ensures ∙ ap₂ orElse (c .before .before .check .ensures) (c .before .check-point .ensures)
 
 check-requires : tie.Need-check-requires
@@ -47,18 +51,24 @@ shape-requires : tie.Need-shape-requires
 shape-requires c κs =
     let entry = c .before .before .before .before .before in
     let f = entry .args .self in
-    own-figure-bounded f (figure-passed f (passed-first (figureCheck f) (pointCheck (entry .args .point)) (sym (checked (c .before .before)) ∙ c .enum-told .given .1)))
+    own-figure-bounded f (figure-passed f
+    (passed-first (figureCheck f) (pointCheck (entry .args .point)) (sym (checked (c .before .before)) ∙ c .enum-told .given .1)))
 
 contains-requires : tie.Need-contains-requires
 contains-requires c κs =
-    let entry = c .before .before .before .before .before .before in
-    (c .shape .ensures .1, point-wider (omega arith) (point-passed (entry .args .point) (passed-next (figureCheck (entry .args .self)) _ (sym (checked (c .before .before .before)) ∙ c .before .enum-told .given .1))))
+    let entry = c .before .before .before .before .before .before in (
+      c .shape .ensures .1,
+      point-wider (omega arith)
+          (point-passed (entry .args .point) (passed-next (figureCheck (entry .args .self)) _
+          (sym (checked (c .before .before .before)) ∙ c .before .enum-told .given .1))),
+    )
 
 returns-2 : tie.Need-returns-2
 returns-2 c =
     let entry = c .before .before .before .before .before .before .before in
     rw (sym (checked (c .before .before .before .before)) ∙ c .before .before .enum-told .given .1)
-    (ap (λ (b : Bool). answered (flag b ∷ [])) (c .contains .ensures ∙ ap (λ (s : Shape). containsShape s (entry .args .point)) (c .before .shape .ensures .0)))
+    (ap (λ (b : Bool). answered (flag b ∷ []))
+    (c .contains .ensures ∙ ap (λ (s : Shape). containsShape s (entry .args .point)) (c .before .shape .ensures .0)))
 
 pub contains-spec : {M : Type 1} → statement M
 contains-spec =

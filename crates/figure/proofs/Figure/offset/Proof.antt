@@ -16,9 +16,16 @@ use Rattle.signed.proofs.Laws.{int}
 use Rattle.figure.proofs.Figure.offset.Statement.{statement}
 use Rattle.figure.proofs.Figure.offset.Tie as tie
 
+abbrev start-or-else : tie.After-or-else → tie.Start
+start-or-else c = c .before .before .before
+
 -- the check made is the definition's
-checked : (c : tie.After-or-else) → c .or-else .result ≡ orElse (figureCheck (c .before .before .before .args .self)) (offsetCheck (c .before .before .before .args .k))
-checked c = c .or-else .ensures ∙ ap₂ orElse (c .before .before .check .ensures) (c .before .check-offset .ensures ∙ ap offsetCheck (toZ-ofZ (c .before .before .before .fits .k)))
+checked : (c : tie.After-or-else) → c .or-else .result ≡ orElse (figureCheck (start-or-else c .args .self))
+    (offsetCheck (start-or-else c .args .k))
+checked c =
+    let at-fits = c .before .before .before .fits in
+    c .or-else .ensures ∙ ap₂ orElse (c .before .before .check .ensures)
+    (c .before .check-offset .ensures ∙ ap offsetCheck (toZ-ofZ (at-fits .k)))
 
 check-requires : tie.Need-check-requires
 check-requires c κs = search needs
@@ -47,14 +54,18 @@ offset-by-requires : tie.Need-offset-by-requires
 offset-by-requires c κs =
     let entry = c .before .before .before .before .before in
     let told = sym (checked (c .before .before)) ∙ c .enum-told .given .1 in
-    let near = offset-passed (entry .args .k) (passed-next (figureCheck (entry .args .self)) _ told) in
-    (figure-passed (entry .args .self) (passed-first (figureCheck (entry .args .self)) (offsetCheck (entry .args .k)) told), omega (arith, int))
+    let near = offset-passed (entry .args .k) (passed-next (figureCheck (entry .args .self)) _ told) in (
+      figure-passed (entry .args .self) (passed-first (figureCheck (entry .args .self)) (offsetCheck (entry .args .k)) told),
+      omega
+          (arith, int),
+    )
 
 returns-2 : tie.Need-returns-2
 returns-2 c =
     let entry = c .before .before .before .before .before .before in
     rw (sym (checked (c .before .before .before)) ∙ c .before .enum-told .given .1)
-    (ap (λ (f : Figure). answered (figureValues f)) (c .offset-by .ensures .0 ∙ ap (Figure·offset (entry .args .self)) (toZ-ofZ (entry .fits .k))))
+    (ap (λ (f : Figure). answered (figureValues f))
+    (c .offset-by .ensures .0 ∙ ap (Figure·offset (entry .args .self)) (toZ-ofZ (entry .fits .k))))
 
 pub offset-spec : {M : Type 1} → statement M
 offset-spec =

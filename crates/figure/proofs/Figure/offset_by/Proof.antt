@@ -48,7 +48,8 @@ returns c =
     let r = c .before .before .self .given .0 .0 in
     let is = c .offset .ensures ∙ ap (Rectangle·offset r) (toZ-ofZ (entry .fits .k)) in (
       rw (c .before .before .self .given .1) (ap Ellipse is),
-      subst AreaRectangle (sym is) (offset-area r (entry .args .k) (subst OwnFigure (c .before .before .self .given .1) (entry .pre .0)) (entry .pre .1)),
+      subst AreaRectangle (sym is) (offset-area r (entry .args .k) (subst OwnFigure (c .before .before .self .given .1) (entry .pre .0))
+          (entry .pre .1)),
     )
 
 returns-2 : tie.Need-returns-2
@@ -57,7 +58,8 @@ returns-2 c =
     let b = c .before .before .self2 .given .0 .0 in
     let is = c .offset-box .ensures ∙ ap (offsetBox b) (toZ-ofZ (entry .fits .k)) in (
       rw (c .before .before .self2 .given .1) (ap CrateBox is),
-      subst AreaBox (sym is) (offset-box-bounded b (entry .args .k) (subst OwnFigure (c .before .before .self2 .given .1) (entry .pre .0)) (entry .pre .1)),
+      subst AreaBox (sym is) (offset-box-bounded b (entry .args .k) (subst OwnFigure (c .before .before .self2 .given .1) (entry .pre .0))
+          (entry .pre .1)),
     )
 
 returns-3 : tie.Need-returns-3

@@ -17,9 +17,16 @@ use Rattle.signed.proofs.Laws.{int}
 use Rattle.figure.proofs.Figure.row.Statement.{statement}
 use Rattle.figure.proofs.Figure.row.Tie as tie
 
+abbrev start-or-else : tie.After-or-else → tie.Start
+start-or-else c = c .before .before .before
+
 -- the check made is the definition's
-checked : (c : tie.After-or-else) → c .or-else .result ≡ orElse (figureCheck (c .before .before .before .args .self)) (askedCheck (c .before .before .before .args .y))
-checked c = c .or-else .ensures ∙ ap₂ orElse (c .before .before .check .ensures) (c .before .check-row .ensures ∙ ap askedCheck (toZ-ofZ (c .before .before .before .fits .y)))
+checked : (c : tie.After-or-else) → c .or-else .result ≡ orElse (figureCheck (start-or-else c .args .self))
+    (askedCheck (start-or-else c .args .y))
+checked c =
+    let at-fits = c .before .before .before .fits in
+    c .or-else .ensures ∙ ap₂ orElse (c .before .before .check .ensures)
+    (c .before .check-row .ensures ∙ ap askedCheck (toZ-ofZ (at-fits .y)))
 
 check-requires : tie.Need-check-requires
 check-requires c κs = search needs
@@ -48,16 +55,21 @@ shape-requires : tie.Need-shape-requires
 shape-requires c κs =
     let entry = c .before .before .before .before .before in
     let f = entry .args .self in
-    own-figure-bounded f (figure-passed f (passed-first (figureCheck f) (askedCheck (entry .args .y)) (sym (checked (c .before .before)) ∙ c .enum-told .given .1)))
+    own-figure-bounded f (figure-passed f
+    (passed-first (figureCheck f) (askedCheck (entry .args .y)) (sym (checked (c .before .before)) ∙ c .enum-told .given .1)))
 
 row-requires : tie.Need-row-requires
 row-requires c κs =
     let entry = c .before .before .before .before .before .before in
-    let near = asked-passed (entry .args .y) (passed-next (figureCheck (entry .args .self)) _ (sym (checked (c .before .before .before)) ∙ c .before .enum-told .given .1)) in
+    let near = asked-passed (entry .args .y)
+    (passed-next (figureCheck (entry .args .self)) _ (sym (checked (c .before .before .before)) ∙ c .before .enum-told .given .1)) in
     (c .shape .ensures .1, omega (arith, int))
 
+abbrev start-row : tie.After-row → tie.Start
+start-row c = c .before .before .before .before .before .before .before
+
 -- the run found is the shape's
-run-is : (c : tie.After-row) → c .row .result ≡ row (c .before .before .before .before .before .before .before .args .self) (c .before .before .before .before .before .before .before .args .y)
+run-is : (c : tie.After-row) → c .row .result ≡ row (start-row c .args .self) (start-row c .args .y)
 run-is c =
     let entry = c .before .before .before .before .before .before .before in
     c .row .ensures .0 ∙ (λ i. rowOfShape (c .before .shape .ensures .0 i) (toZ-ofZ (entry .fits .y) i))

@@ -27,16 +27,19 @@ returns : tie.Need-returns
 returns c = (rw (c .before .self .given .1), subst BoundedFigure (c .before .self .given .1) (c .before .before .before .pre))
 
 returns-2 : tie.Need-returns-2
-returns-2 c = (
-  rw (c .before .before .self2 .given .1) (ap RoundedBox (c .confined .ensures)),
-  subst AreaBox (sym (c .confined .ensures)) (confined-bounded _ (subst BoundedFigure (c .before .before .self2 .given .1) (c .before .before .before .before .pre))),
-)
+returns-2 c =
+    let at-pre = c .before .before .before .before .pre in (
+      rw (c .before .before .self2 .given .1) (ap RoundedBox (c .confined .ensures)),
+      subst AreaBox (sym (c .confined .ensures)) (confined-bounded _ (subst BoundedFigure (c .before .before .self2 .given .1) (at-pre))),
+    )
 
 returns-3 : tie.Need-returns-3
-returns-3 c = (
-  rw (c .before .before .self3 .given .1) (ap RoundedBox (c .confined-w3c .ensures)),
-  subst AreaBox (sym (c .confined-w3c .ensures)) (confined-w3c-bounded _ (subst BoundedFigure (c .before .before .self3 .given .1) (c .before .before .before .before .pre))),
-)
+returns-3 c =
+    let at-pre = c .before .before .before .before .pre in (
+      rw (c .before .before .self3 .given .1) (ap RoundedBox (c .confined-w3c .ensures)),
+      subst AreaBox (sym (c .confined-w3c .ensures))
+          (confined-w3c-bounded _ (subst BoundedFigure (c .before .before .self3 .given .1) (at-pre))),
+    )
 
 pub shape-spec : {M : Type 1} → statement M
 shape-spec =

@@ -17,11 +17,16 @@ use Rattle.signed.proofs.Laws.{int}
 use Rattle.rectangle.proofs.Rectangle.offset.Statement.{statement}
 use Rattle.rectangle.proofs.Rectangle.offset.Tie as tie
 
+abbrev start-or-else : tie.After-or-else → tie.Start
+start-or-else c = c .before .before .before
+
 -- the check made is the definition's
-checked : (c : tie.After-or-else) → c .or-else .result ≡ orElse (rectangleCheck (c .before .before .before .args .self)) (offsetCheck (c .before .before .before .args .k))
+checked : (c : tie.After-or-else) → c .or-else .result ≡ orElse (rectangleCheck (start-or-else c .args .self))
+    (offsetCheck (start-or-else c .args .k))
 checked c =
+    let at-fits = c .before .before .before .fits in
     c .or-else .ensures
-    ∙ ap₂ orElse (c .before .before .check .ensures) (c .before .check-offset .ensures ∙ ap offsetCheck (toZ-ofZ (c .before .before .before .fits .k)))
+    ∙ ap₂ orElse (c .before .before .check .ensures) (c .before .check-offset .ensures ∙ ap offsetCheck (toZ-ofZ (at-fits .k)))
 
 check-requires : tie.Need-check-requires
 check-requires c κs = search needs
@@ -57,7 +62,8 @@ returns-2 : tie.Need-returns-2
 returns-2 c =
     let entry = c .before .before .before .before .before .before in
     rw (sym (checked (c .before .before .before)) ∙ c .before .enum-told .given .1)
-    (ap (λ (r : Rectangle). answered (rectangleValues r)) (c .offset .ensures ∙ ap (offsetRectangle (entry .args .self)) (toZ-ofZ (entry .fits .k))))
+    (ap (λ (r : Rectangle). answered (rectangleValues r))
+    (c .offset .ensures ∙ ap (offsetRectangle (entry .args .self)) (toZ-ofZ (entry .fits .k))))
 
 pub offset-spec : {M : Type 1} → statement M
 offset-spec =

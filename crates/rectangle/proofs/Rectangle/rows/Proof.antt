@@ -1,7 +1,7 @@
 -- `rectangle::Rectangle::rows` meets its contract: a passed check bounds the rectangle, and a refusal is the check's own.
 -- Assumes nothing.
 use mathlib.Core.Path.{sym, ap, _∙_}
-use Rattle.range.specs.declared.Range.{Range}
+use Rattle.geometry_range.specs.declared.Range.{Range}
 use Rattle.refusal.specs.Refusal.{refused, answered}
 use Rattle.rectangle.specs.Calls.{rangeValues}
 use Rattle.rectangle.proofs.Checks.{rectangle-bounded}

@@ -14,8 +14,12 @@ use native.Mathlib.Omega.{arith}
 use Rattle.rectangle.proofs.Rectangle.with_center.Statement.{statement}
 use Rattle.rectangle.proofs.Rectangle.with_center.Tie as tie
 
+abbrev start-or-else : tie.After-or-else → tie.Start
+start-or-else c = c .before .before .before
+
 -- the check made
-checked : (c : tie.After-or-else) → c .or-else .result ≡ orElse (sizeCheck (c .before .before .before .args .size)) (centerCheck (c .before .before .before .args .center))
+checked : (c : tie.After-or-else) → c .or-else .result ≡ orElse (sizeCheck (start-or-else c .args .size))
+    (centerCheck (start-or-else c .args .center))
 checked c = c .or-else .ensures ∙ ap₂ orElse (c .before .before .check-size .ensures) (c .before .check-center .ensures)
 
 check-size-requires : tie.Need-check-size-requires
@@ -40,7 +44,8 @@ refusal-requires c κs = search needs
 returns : tie.Need-returns
 returns c =
     let entry = c .before .before .before .before .before .before in
-    rw (with-center-refused (entry .args .center) (entry .args .size) _ (sym (checked (c .before .before .before)) ∙ c .before .enum-told2 .given .1))
+    rw (with-center-refused (entry .args .center) (entry .args .size) _
+    (sym (checked (c .before .before .before)) ∙ c .before .enum-told2 .given .1))
     (refused-early refused (c .refusal .ensures) (c .before .enum-told2 .given .1))
 
 with-center-requires : tie.Need-with-center-requires

@@ -1,6 +1,6 @@
 -- `rectangle::bounded::columns` meets its contract: the callee's ends are the definition's.
 -- Assumes nothing.
-use Rattle.range.proofs.Fields.{range-by-fields}
+use Rattle.geometry_range.proofs.Fields.{range-by-fields}
 use Rattle.rectangle.proofs.bounded.columns.Statement.{statement}
 use Rattle.rectangle.proofs.bounded.columns.Tie as tie
 

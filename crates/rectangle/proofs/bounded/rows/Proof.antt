@@ -1,6 +1,6 @@
 -- `rectangle::bounded::rows` meets its contract: the callee's ends are the definition's.
 -- Assumes nothing.
-use Rattle.range.proofs.Fields.{range-by-fields}
+use Rattle.geometry_range.proofs.Fields.{range-by-fields}
 use Rattle.rectangle.proofs.bounded.rows.Statement.{statement}
 use Rattle.rectangle.proofs.bounded.rows.Tie as tie
 

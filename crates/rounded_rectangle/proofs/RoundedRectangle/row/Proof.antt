@@ -17,12 +17,17 @@ use Rattle.signed.proofs.Laws.{int}
 use Rattle.rounded_rectangle.proofs.RoundedRectangle.row.Statement.{statement}
 use Rattle.rounded_rectangle.proofs.RoundedRectangle.row.Tie as tie
 
+abbrev start-corners : tie.After-corners → tie.Start
+start-corners c = c .before .before .before .before .before .before .before .before .before
+
 -- where the asked row stands
 row-place : (c : tie.After-corners) →
-    Placed (c .before .before .before .before .before .before .before .before .before .args .self .rectangle .«top_left» .y) (c .before .before .before .before .before .before .before .before .before .args .self .rectangle .size .height) (c .before .before .before .before .before .before .before .before .before .args .y) (At (c .before .before .dy .given .0 .0))
+    Placed (start-corners c .args .self .rectangle .«top_left» .y) (start-corners c .args .self .rectangle .size .height)
+    (start-corners c .args .y) (At (c .before .before .dy .given .0 .0))
 row-place c =
+    let at-place-of = c .before .before .before .before .place-of in
     let entry = c .before .before .before .before .before .before .before .before .before in
-    placed-told _ _ _ (entry .pre .0 .at .y .fits) (entry .pre .1 .fits) (c .before .before .before .before .place-of .ensures) (c .before .before .dy .given .1)
+    placed-told _ _ _ (entry .pre .0 .at .y .fits) (entry .pre .1 .fits) (at-place-of .ensures) (c .before .before .dy .given .1)
 
 place-of-requires : tie.Need-place-of-requires
 place-of-requires c κs = omega (arith, int)
@@ -36,7 +41,8 @@ enum-told c = search needs
 returns : tie.Need-returns
 returns c =
     let entry = c .before .before .before .before .before .before .before in (
-      row-out _ _ (placed-told _ _ _ (entry .pre .0 .at .y .fits) (entry .pre .1 .fits) (c .before .before .place-of .ensures) (c .enum-told .given .1)),
+      row-out _ _ (placed-told _ _ _ (entry .pre .0 .at .y .fits) (entry .pre .1 .fits) (c .before .before .place-of .ensures)
+          (c .enum-told .given .1)),
       tt,
     )
 
@@ -45,7 +51,8 @@ new-requires c κs = search needs
 
 insets-requires : tie.Need-insets-requires
 insets-requires c κs =
-    (c .new .ensures .2, subst (λ (s : Size). c .before .before .before .dy .given .0 .0 < s .height) (sym (c .new .ensures .0)) (row-place (c .before) .1))
+    let at-dy = c .before .before .before .dy in
+    (c .new .ensures .2, subst (λ (s : Size). at-dy .given .0 .0 < s .height) (sym (c .new .ensures .0)) (row-place (c .before) .1))
 
 run-between-requires : tie.Need-run-between-requires
 run-between-requires c κs =
@@ -56,18 +63,25 @@ run-between-requires c κs =
       rw (toZ-ofZ (near .fits)) near,
       (
         omega arith,
-        (subst (λ (s : Size). c .before .insets .result .left ≤ s .width) is (c .before .insets .ensures .1), subst (λ (s : Size). c .before .insets .result .right ≤ s .width) is (c .before .insets .ensures .2)),
+        (
+          subst (λ (s : Size). c .before .insets .result .left ≤ s .width) is (c .before .insets .ensures .1),
+          subst
+              (λ (s : Size). c .before .insets .result .right ≤ s .width) is (c .before .insets .ensures .2),
+        ),
       ),
     )
 
 returns-2 : tie.Need-returns-2
 returns-2 c =
+    let at-new = c .before .before .before .new in
+    let at-dy = c .before .before .before .before .before .before .dy in
     let entry = c .before .before .before .before .before .before .before .before .before .before .before .before .before in
     let b = entry .args .self in
     let run =
     c .run-between .ensures
     ∙ (λ i. runBetween (toZ-ofZ (entry .pre .0 .at .x .fits) i) (b .rectangle .size .width) (c .before .before .insets .ensures .0 i))
-    ∙ (λ i. runBetween (b .rectangle .«top_left» .x) (b .rectangle .size .width) (rowInsets (c .before .before .before .new .ensures .1 i) (c .before .before .before .new .ensures .0 i .width) (c .before .before .before .new .ensures .0 i .height) (c .before .before .before .before .before .before .dy .given .0 .0))) in (
+    ∙ (λ i. runBetween (b .rectangle .«top_left» .x) (b .rectangle .size .width)
+    (rowInsets (at-new .ensures .1 i) (at-new .ensures .0 i .width) (at-new .ensures .0 i .height) (at-dy .given .0 .0))) in (
       ap Run run ∙ row-placed _ _ _ (row-place (c .before .before .before .before)),
       subst (EndsWithin (b .rectangle .«top_left» .x) (b .rectangle .size .width)) (sym run)
           (between-within (b .rectangle .«top_left» .x) (b .rectangle .size .width) _ (side-inset-le _ _ _ _ _) (side-inset-le _ _ _ _ _)),

@@ -20,12 +20,13 @@ new-requires-4 c κs = search needs
 
 returns : tie.Need-returns
 returns c =
+    let at-new = c .before .before .before .new in
     let entry = c .before .before .before .before in (
       refl,
-      corner-radii-by-fields (c .before .before .before .new .ensures .0) (c .before .before .new2 .ensures .0) (c .before .new3 .ensures .0) (c .new4 .ensures .0),
+      corner-radii-by-fields (at-new .ensures .0) (c .before .before .new2 .ensures .0) (c .before .new3 .ensures .0) (c .new4 .ensures .0),
       record {
         size = entry .pre .0;
-        «top_left» = c .before .before .before .new .ensures .1;
+        «top_left» = at-new .ensures .1;
         «top_right» = c .before .before .new2 .ensures .1;
         «bottom_right» = c .before .new3 .ensures .1;
         «bottom_left» = c .new4 .ensures .1;

@@ -2,7 +2,7 @@
 -- Assumes nothing.
 use mathlib.Core.Path.{subst}
 use Rattle.shape.specs.Bounds.{BoundedShape}
-use Rattle.box_rules.proofs.Within.{area-bounded, area-box-bounded}
+use Rattle.shape.proofs.Within.{area-bounded, area-box-bounded}
 use borrow.Author.Needs.{needs}
 use Rattle.shape.proofs.Shape.contains.Statement.{statement}
 use Rattle.shape.proofs.Shape.contains.Tie as tie
@@ -11,13 +11,16 @@ enum-known-self : tie.Need-enum-known-self
 enum-known-self c = search needs
 
 contains-requires : tie.Need-contains-requires
-contains-requires c κs = (area-bounded _ (subst BoundedShape (c .before .self .given .1) (c .before .before .before .pre .0)), c .before .before .before .pre .1)
+contains-requires c κs =
+    (area-bounded _ (subst BoundedShape (c .before .self .given .1) (c .before .before .before .pre .0)), c .before .before .before .pre .1)
 
 enum-known-self-2 : tie.Need-enum-known-self-2
 enum-known-self-2 c = search needs
 
 contains-requires-2 : tie.Need-contains-requires-2
-contains-requires-2 c κs = (area-box-bounded _ (subst BoundedShape (c .before .self2 .given .1) (c .before .before .before .pre .0)), c .before .before .before .pre .1)
+contains-requires-2 c κs =
+    let at-pre = c .before .before .before .pre in
+    (area-box-bounded _ (subst BoundedShape (c .before .self2 .given .1) (at-pre .0)), at-pre .1)
 
 returns : tie.Need-returns
 returns c = rw (c .before .before .self .given .1) (c .contains .ensures)

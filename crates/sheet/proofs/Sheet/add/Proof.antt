@@ -16,7 +16,7 @@ use Rattle.refusal.proofs.Checks.{passed-first, refusal-found}
 use Rattle.book.specs.Book.{add as Call·add}
 use Rattle.drawing.specs.declared.StrokeRows.{StrokeRows}
 use Rattle.drawing.specs.Drawing.{StyledFigure, styledFigure, styledCheck}
-use Rattle.layers.proofs.LayerRules.{checked-figure, checked-stroke}
+use Rattle.sheet_layers.proofs.LayerRules.{checked-figure, checked-stroke}
 use Rattle.sheet.proofs.Places.{sixteen-places}
 use Rattle.sheet.proofs.Answers.{added-room}
 use Rattle.sheet.specs.Sheet.{sheetAnswer, withLayer, carriedOutSheet}
@@ -111,7 +111,8 @@ returns-2 c =
     let area = c .before .before .before .stroke-rows .ensures in
     let first = toZ-ofZ (area .1 .0 .fits) ∙ ap (λ (r : StrokeRows). r .first) (area .0) in (
       sym (passed told),
-      ap (λ (z : ℤ). withLayer (a .self) (a .self .count + 1) (a .self .count) (record { figure = a .figure; style = a .style; «next_row» = z })) first
+      ap (λ (z : ℤ). withLayer (a .self) (a .self .count + 1) (a .self .count)
+          (record { figure = a .figure; style = a .style; «next_row» = z })) first
           ∙ sym (added-record (a .self) (sixteen (entry told)) [] (item (entry told)) (passed told)),
     )
 

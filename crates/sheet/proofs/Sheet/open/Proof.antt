@@ -5,16 +5,25 @@ use mathlib.Core.Path.{_≡_, sym, ap, _∙_}
 use lib.ListN.{replicate}
 use Rattle.refusal.proofs.Checks.{refusal-found}
 use Rattle.refusal.specs.declared.Checked.the-variants.{Refused}
-use Rattle.layers.specs.declared.Layer.{Layer}
+use Rattle.sheet_layers.specs.declared.Layer.{Layer}
 use Rattle.sheet.specs.declared.Sheet.{Sheet}
 use Rattle.sheet.specs.Sheet.{openedSheet}
 use Rattle.sheet.proofs.Sheet.open.Statement.{statement}
 use Rattle.sheet.proofs.Sheet.open.Tie as tie
 
 made : (c : tie.After-blank)
-    → _≡_ {A = Sheet} (record { width = c .before .args .width; height = c .before .args .height; count = 0; layers = replicate 16 (c .blank .result) })
+    → _≡_ {A =
+    Sheet} (record {
+      width = c .before .args .width;
+      height = c .before .args .height;
+      count = 0;
+      layers = replicate 16
+          (c .blank .result);
+    })
     (openedSheet (c .before .args .width) (c .before .args .height))
-made c = ap (λ (l : Layer). record { width = c .before .args .width; height = c .before .args .height; count = 0; layers = replicate 16 l }) (c .blank .ensures)
+made c =
+    ap (λ (l : Layer). record { width = c .before .args .width; height = c .before .args .height; count = 0; layers = replicate 16 l })
+    (c .blank .ensures)
 
 blank-requires : tie.Need-blank-requires
 blank-requires c κs = search needs

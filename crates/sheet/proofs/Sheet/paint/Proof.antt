@@ -17,9 +17,9 @@ use Rattle.refusal.specs.declared.Checked.the-variants.{Passed, Refused}
 use Rattle.book.specs.Book.{paint as Call·paint}
 use Rattle.book.specs.Sheet.{paintRow}
 use Rattle.drawing.specs.Drawing.{styledFigure, drawing}
-use Rattle.layers.specs.declared.Layer.{Layer}
-use Rattle.layers.specs.Layers.{blankLayer}
-use Rattle.layers.proofs.LayerRules.{LayerWithin}
+use Rattle.sheet_layers.specs.declared.Layer.{Layer}
+use Rattle.sheet_layers.specs.Layers.{blankLayer}
+use Rattle.sheet_layers.proofs.LayerRules.{LayerWithin}
 use Rattle.sheet.specs.declared.Sheet.{Sheet}
 use Rattle.sheet.specs.Sheet.{sheetAnswer, withLayer, carriedOutSheet}
 use Rattle.sheet.specs.Asked.{askedAnswer, askedRefusal, NextRow}
@@ -32,9 +32,13 @@ use Rattle.sheet.proofs.Sheet.paint.Tie as tie
 sixteen : (c : tie.Start) → length (c .args .self .layers) ≡ 16
 sixteen c = sixteen-places (c .args .self .layers) (c .good .0 .1 .1 .1 .1 .1 .0 .1 .0 .1)
 
+abbrev start-asked-row : tie.After-asked-row → tie.Start
+start-asked-row c = c .before .before .before
+
 -- the check made is the answer
 checked : (c : tie.After-asked-row)
-    → askedAnswer (c .asked-row .result) ≡ sheetAnswer (c .before .before .before .args .self) (c .before .before .before .args .canvas .now) (Call·paint (c .before .before .before .args .layer))
+    → askedAnswer (c .asked-row .result) ≡ sheetAnswer (start-asked-row c .args .self) (start-asked-row c .args .canvas .now)
+    (Call·paint (start-asked-row c .args .layer))
 checked c = c .asked-row .ensures .0 (c .before .before .before .args .canvas .now) refl
 
 -- ---- accepted
@@ -50,12 +54,16 @@ layer c = getD (sheet c .layers) (entry c .args .layer) blankLayer
 passed : (c : tie.After-asked) → sheetAnswer (sheet c) (entry c .args .canvas .now) (Call·paint (entry c .args .layer)) ≡ Passed
 passed c = sym (checked (c .before .before)) ∙ ap askedAnswer (c .asked .given .1)
 
-told : (c : tie.After-asked) → PaintAccepted (sheet c .width) (sheet c .height) (sheet c .count) (sheet c .layers) (sixteen (entry c)) (entry c .args .layer) (entry c .args .canvas .now)
-told c = painted-accepted (sheet c .width) (sheet c .height) (sheet c .count) (sheet c .layers) (sixteen (entry c)) (entry c .args .layer) (entry c .args .canvas .now) (passed c)
+told : (c : tie.After-asked) → PaintAccepted (sheet c .width) (sheet c .height) (sheet c .count) (sheet c .layers) (sixteen (entry c))
+    (entry c .args .layer) (entry c .args .canvas .now)
+told c =
+    painted-accepted (sheet c .width) (sheet c .height) (sheet c .count) (sheet c .layers) (sixteen (entry c)) (entry c .args .layer)
+    (entry c .args .canvas .now) (passed c)
 
 within : (c : tie.After-asked) → LayerWithin (layer c)
 within c =
-    kept-layer (sheet c .width) (sheet c .height) (sheet c .count) (sheet c .layers) (sixteen (entry c)) (told c .rules) (entry c .args .layer) (told c .within)
+    kept-layer (sheet c .width) (sheet c .height) (sheet c .count) (sheet c .layers) (sixteen (entry c)) (told c .rules)
+    (entry c .args .layer) (told c .within)
 
 has-place : (c : tie.After-asked) → entry c .args .layer < 16
 has-place c =
@@ -63,7 +71,8 @@ has-place c =
     omega (arith, told c .within)
 
 narrow : (c : tie.After-asked) → sheet c .width ≤ wideSide
-narrow c = omega (arith, kept-width (sheet c .width) (sheet c .height) (sheet c .count) (sheet c .layers) (sixteen (entry c)) (told c .rules))
+narrow c =
+    omega (arith, kept-width (sheet c .width) (sheet c .height) (sheet c .count) (sheet c .layers) (sixteen (entry c)) (told c .rules))
 
 -- the sheet with another next row for the layer, and the canvas with the layer's row at y
 abbrev put : tie.After-asked → ℤ → Sheet

@@ -18,11 +18,11 @@ use Rattle.refusal.proofs.Checks.{refusal-found}
 use Rattle.canvas_size.specs.CanvasSize.{canvasLengthCheck}
 use Rattle.book.specs.Sheet.{keepsRules}
 use Rattle.drawing.specs.Drawing.{drawing}
-use Rattle.layers.specs.declared.Layer.{Layer}
-use Rattle.layer_rows.specs.declared.LayerRows.{LayerRows}
-use Rattle.layer_rows.specs.LayerRows.{someRowsOwe}
-use Rattle.layers.specs.Layers.{blankLayer, layersOf, layerRows}
-use Rattle.layer_rows.proofs.RowTests.{noRows, RowsFit, le-held}
+use Rattle.sheet_layers.specs.declared.Layer.{Layer}
+use Rattle.sheet_layers.specs.declared.rows.LayerRows.{LayerRows}
+use Rattle.sheet_layers.specs.LayerRows.{someRowsOwe}
+use Rattle.sheet_layers.specs.Layers.{blankLayer, layersOf, layerRows}
+use Rattle.sheet_layers.proofs.RowTests.{noRows, RowsFit, le-held}
 use Rattle.sheet.proofs.Places.{kept-few, kept-layer}
 use Rattle.sheet.proofs.Answers.{paint-broken, paint-length, paint-no-layer, paint-finished, paint-owed, paint-free, rows-at, rows-before}
 use Rattle.sheet.proofs.checks.asked_row.Statement.{statement}
@@ -35,15 +35,22 @@ sixteen c = omega arith
 abbrev start : tie.Else1 → tie.Start
 start c = c .before .before .before .before
 
-rules : (c : tie.Else1) → keepsRules drawing (start c .args .size .width) (start c .args .size .height) (layersOf (start c .args .count) (start c .args .places)) ≡ true
+rules : (c : tie.Else1) → keepsRules drawing (start c .args .size .width) (start c .args .size .height)
+    (layersOf (start c .args .count) (start c .args .places)) ≡ true
 rules c = sym (c .before .before .before .test-rules .ensures .0) ∙ not-false _ (c .if1 .left)
 
 few : (c : tie.Else1) → start c .args .count ≤ 16
-few c = kept-few (start c .args .size .width) (start c .args .size .height) (start c .args .count) (start c .args .places) (sixteen (c .before .before .before .before)) (rules c)
+few c =
+    kept-few (start c .args .size .width) (start c .args .size .height) (start c .args .count) (start c .args .places)
+    (sixteen (c .before .before .before .before)) (rules c)
+
+abbrev start-enum-told : tie.After-enum-told → tie.Start
+start-enum-told c = c .before .before .before .before .before .before .before
 
 -- the canvas has its length
-size : (c : tie.After-enum-told) (canvas : List ℕ) → length canvas ≡ c .before .before .before .before .before .before .before .args .bytes
-    → canvasLengthCheck (start (c .before .before .before) .args .size .width) (start (c .before .before .before) .args .size .height) (length canvas) ≡ Passed
+size : (c : tie.After-enum-told) (canvas : List ℕ) → length canvas ≡ start-enum-told c .args .bytes
+    → canvasLengthCheck (start (c .before .before .before) .args .size .width) (start (c .before .before .before) .args .size .height)
+    (length canvas) ≡ Passed
 size c canvas long =
     let a = start (c .before .before .before) .args in
     ap (canvasLengthCheck (a .size .width) (a .size .height)) long ∙ sym (c .before .before .check-length .ensures) ∙ c .enum-told .given .1
@@ -73,7 +80,8 @@ own-is c =
 own-fits : (c : tie.After-own) → RowsFit (own c)
 own-fits c =
     let a = start (kept c) .args in
-    let within = kept-layer (a .size .width) (a .size .height) (a .count) (a .places) (sixteen (kept c .before .before .before .before)) (rules (kept c))
+    let within = kept-layer (a .size .width) (a .size .height) (a .count) (a .places) (sixteen (kept c .before .before .before .before))
+    (rules (kept c))
     (kept c .before .before .before .before .args .layer) (c .before .if2 .left) in
     subst RowsFit (sym (own-is c)) (within .rows)
 
@@ -131,7 +139,8 @@ returns-2 c =
     let entry = kept .before .before .before .before in
     let a = entry .args in
     let told = c .before .enum-told2 .given .1 in (
-      λ canvas long. ap Refused (refusal-found (c .refusal .ensures) told) ∙ sym (paint-length (a .size .width) (a .size .height) (a .count) (a .places) (sixteen entry) (a .layer) canvas
+      λ canvas long. ap Refused (refusal-found (c .refusal .ensures) told) ∙ sym
+          (paint-length (a .size .width) (a .size .height) (a .count) (a .places) (sixteen entry) (a .layer) canvas
           (rules kept) _
           (ap (canvasLengthCheck (a .size .width) (a .size .height)) long ∙ sym (c .before .before .before .check-length .ensures) ∙ told)),
       tt,

@@ -5,7 +5,7 @@ use mathlib.Core.Bool.{false≢true}
 use native.Mathlib.Omega.{arith}
 use borrow.Author.Needs.{needs}
 use lib.ListN.{length}
-use Rattle.layers.proofs.LayerRules.{not-kept}
+use Rattle.sheet_layers.proofs.LayerRules.{not-kept}
 use Rattle.sheet.proofs.Places.{broken-size, broken-count, kept-by-layers}
 use Rattle.sheet.proofs.checks.test_rules.Statement.{statement}
 use Rattle.sheet.proofs.checks.test_rules.Tie as tie

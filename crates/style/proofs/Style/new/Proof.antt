@@ -10,7 +10,12 @@ default-alignment-requires c κs = search needs
 returns : tie.Need-returns
 returns c =
     let entry = c .before .args in
-    λ i. record { stroke = entry .stroke; fill = entry .fill; «stroke_width» = entry .stroke-width; alignment = c .default-alignment .ensures i }
+    λ i. record {
+      stroke = entry .stroke;
+      fill = entry .fill;
+      «stroke_width» = entry .stroke-width;
+      alignment = c .default-alignment .ensures i;
+    }
 
 pub new-spec : {M : Type 1} → statement M
 new-spec = tie.close (tie.spec default-alignment-requires returns)

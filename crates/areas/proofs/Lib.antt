@@ -1,3 +1,0 @@
--- The rectangle of a figure that passed its check is bounded.
--- Assumes nothing.
-pub mod Bounds

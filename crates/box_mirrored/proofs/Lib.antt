@@ -1,0 +1,3 @@
+-- `Symmetric`: rows whose two sides are alike, and rows with straight sides.
+pub mod Symmetric
+pub mod Mirrored

@@ -1,2 +1,0 @@
--- `Even`: rows whose two sides are alike, and rows with straight sides.
-pub mod Even

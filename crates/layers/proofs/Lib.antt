@@ -1,3 +1,0 @@
--- The rules of layers by their rows.
--- Assumes nothing.
-pub mod LayerRules

@@ -1,0 +1,34 @@
+-- `netpbm_header::header_length` meets its contract by the law of a header's length. Each number has at most ten digits, so the sum fits.
+-- Assumes nothing.
+use native.Mathlib.Omega.{arith}
+use borrow.Author.Needs.{needs}
+use Rattle.netpbm_text.proofs.Decimal.{length-decimal-u32}
+use Rattle.netpbm_header.proofs.Header.{length-header}
+use Rattle.netpbm_header.proofs.header_length.Statement.{statement}
+use Rattle.netpbm_header.proofs.header_length.Tie as tie
+
+number-length-requires : tie.Need-number-length-requires
+number-length-requires c κs = search needs
+
+add-result : tie.Need-add-result
+add-result c =
+    let size = c .before .args .size in
+    omega (arith, length-decimal-u32 (size .width) (omega arith))
+
+number-length-requires-2 : tie.Need-number-length-requires-2
+number-length-requires-2 c κs = search needs
+
+add-result-2 : tie.Need-add-result-2
+add-result-2 c =
+    let size = c .before .before .args .size in
+    omega (arith, length-decimal-u32 (size .width) (omega arith), length-decimal-u32 (size .height) (omega arith))
+
+returns : tie.Need-returns
+returns c =
+    let size = c .before .before .args .size in
+    omega (arith, length-header (size .width) (size .height))
+
+pub header-length-spec : {M : Type 1} → statement M
+header-length-spec =
+    tie.close
+    (tie.spec number-length-requires add-result number-length-requires-2 add-result-2 returns)

@@ -1,2 +1,0 @@
--- `Straight`: rows that no corner touches are alike.
-pub mod Straight
