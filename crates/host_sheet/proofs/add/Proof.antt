@@ -219,20 +219,26 @@ same-length-5 c = simp length-set (search needs)
 returns-5 : tie.Need-returns-5
 unfolding addTold addNumbers
 returns-5 c =
-    let early = c .before .before .before .before .before .before .before .before in
-    let back-9 = c .before .before .before .before .before .before .before .before .before in
-    let back-16 = early .before .before .before .before .before .before .before .before in
-    let back-18 = early .before .before .before .before .before .before .before .before .before .before in
-    let back-20 = early .before .before .before .before .before .before .before .before .before .before .before .before in
-    let half-a = early .before .before .before .before .before .before .before in
-    let a = half-a .before .before .before .before .before .before .before .before .args in
-    rw (is-one back-20, is-a-figure back-18, is-a-style back-16, is-accepted back-9) (
+    let early = c .before .before .before .before .before .before .before .before .before .before .before .before in
+    rw (
+      is-one (early .before .before .before .before .before .before .before .before),
+      is-a-figure (early .before .before .before .before .before .before),
+      is-a-style (early .before .before .before .before),
+      is-accepted (c .before .before .before .before .before .before .before .before .before),
+    ) (
       refl,
       ap₂ (λ (l : List ℤ) (z : ℤ). set l 2 z)
           (c .before .before .put-layer .ensures
-          ∙ ap₂ (λ (k : ℕ) (z : ℤ). layerPut (a .sheet .now) k (a .figure .now) (a .style .now) z) (count-is back-9)
-          (toZ-ofZ (search needs) ∙ ap₂ (λ (s : Sheet) (k : ℕ). nextRow s k) (carried back-9) (count-is back-9)))
-          (toZ-ofZ (c .from-u32 .ensures .fits) ∙ c .from-u32 .ensures .is ∙ ap (λ (s : Sheet). pos (s .count)) (carried back-9)),
+          ∙ ap₂ (λ (k : ℕ) (z : ℤ). layerPut
+          (early .before .before .before .before .before .before .before .before .before .before .before .args .sheet .now) k
+          (early .before .before .before .before .before .before .before .before .before .before .before .args .figure .now)
+          (early .before .before .before .before .before .before .before .before .before .before .before .args .style .now) z)
+          (count-is (c .before .before .before .before .before .before .before .before .before))
+          (toZ-ofZ (search needs) ∙ ap₂ (λ (s : Sheet) (k : ℕ). nextRow s k)
+          (carried (c .before .before .before .before .before .before .before .before .before))
+          (count-is (c .before .before .before .before .before .before .before .before .before))))
+          (toZ-ofZ (c .from-u32 .ensures .fits) ∙ c .from-u32 .ensures .is
+          ∙ ap (λ (s : Sheet). pos (s .count)) (carried (c .before .before .before .before .before .before .before .before .before))),
     )
 
 pub add-spec : {M : Type 1} → statement M
