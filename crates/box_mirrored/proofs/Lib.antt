@@ -1,3 +1,3 @@
--- `Symmetric`: rows whose two sides are alike, and rows with straight sides.
-pub mod Symmetric
-pub mod Mirrored
+-- `Sides`: rows whose two sides are alike, and rows with straight sides; `MirroredFill`: the fill of such a row.
+pub mod Sides
+pub mod MirroredFill

@@ -1,4 +1,4 @@
--- The fill of a row whose contained columns are one run, as far from either edge: proofs/Mirrored.antt equates it with `rowFill`.
+-- The fill of a row whose contained columns are one run, as far from either edge: proofs/MirroredFill.antt equates it with `rowFill`.
 -- Assumes nothing.
 use mathlib.Core.Bool.{cond}
 use Prim.Native.Nat.{ℕ, _-_, min, max}

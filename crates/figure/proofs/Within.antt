@@ -15,6 +15,7 @@ use Rattle.refusal.specs.Refusal.{orElse, refused, answered, unless}
 use Rattle.refusal.proofs.Checks.{passed-first, passed-next}
 use Rattle.rectangle.specs.Calls.{rectangleValues}
 use Rattle.geometry.specs.Checks.{sizeCheck, positionCheck}
+use Rattle.rectangle.specs.Bounds.{Bounded}
 use Rattle.rectangle.specs.Rectangle.{withCenter}
 use Rattle.rounded_rectangle.specs.declared.RoundedRectangle.{RoundedRectangle}
 use Rattle.shape.proofs.Within.{own-box-passed, own-rectangle-passed}
@@ -22,7 +23,7 @@ pub use Rattle.shape.proofs.Within.{point-wider, size-wider, own-area, own-box-
 use Rattle.figure.specs.declared.Figure.{Figure}
 use Rattle.figure.specs.declared.Figure.the-variants.{Ellipse, CrateBox, W3cBox}
 use Rattle.shape.specs.declared.Shape.the-variants as shape-of
-use Rattle.figure.specs.Figure.{confined, confinedW3c, shape}
+use Rattle.figure.specs.Figure.{ownRectangle, confined, confinedW3c, shape}
 use Rattle.figure.specs.Bounds.{OwnFigure, BoundedFigure}
 use Rattle.figure.specs.Calls.{sidesCheck, cornersCheck, placeCheck, figureCheck, radiiValues, figureValues, confinedValues}
 
@@ -53,6 +54,12 @@ pub own-figure-bounded : (f : Figure) → OwnFigure f → BoundedFigure f
 own-figure-bounded (Ellipse r) o = own-area r o
 own-figure-bounded (CrateBox b) o = own-box-bounded b o
 own-figure-bounded (W3cBox b) o = own-box-bounded b o
+
+-- its rectangle is bounded
+pub own-rectangle-bounded : (f : Figure) → OwnFigure f → Bounded (ownRectangle f)
+own-rectangle-bounded (Ellipse r) own = area-bounded r (own-area r own)
+own-rectangle-bounded (CrateBox b) own = area-bounded (b .rectangle) (own-area (b .rectangle) (own .rectangle))
+own-rectangle-bounded (W3cBox b) own = area-bounded (b .rectangle) (own-area (b .rectangle) (own .rectangle))
 
 -- ---- confined radii by the shape
 pub no-corners : (f : Figure) (r : Rectangle) → shape f ≡ shape-of.Ellipse r → answered [] ≡ answered (confinedValues f)

@@ -10,7 +10,6 @@ use Rattle.scanline.specs.declared.Row.{Row}
 use Rattle.scanline.specs.Points.{pointsFrom}
 use Rattle.ellipse.specs.Ellipse.{contains as Ellipse·contains}
 use Rattle.ellipse_rows.specs.EllipsePoints.{row as Ellipse·row}
-use Rattle.rounded_rectangle.specs.declared.RoundedRectangle.{RoundedRectangle}
 use Rattle.rounded_rectangle.specs.RoundedRectangle.{contains as RoundedRectangle·contains, row as RoundedRectangle·row}
 use Rattle.shape.specs.declared.Shape.{Shape}
 use Rattle.shape.specs.declared.Shape.the-variants as shape-of

@@ -1,6 +1,3 @@
--- A list of calls as the loop makes them, and demand 3 at its end (`Runs`).
--- Assumes nothing.
--- The part of a list that is lent for a call.
--- Assumes nothing.
+-- `Runs`: a list of calls as the loop makes them, and demand 3 at its end; `Walks`: the part of a list that is lent for a call.
 pub mod Runs
 pub mod Walks

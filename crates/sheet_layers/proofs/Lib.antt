@@ -1,6 +1,3 @@
--- The rules of layers by their rows.
--- Assumes nothing.
--- The tests of rows as the code makes them.
--- Assumes nothing.
+-- `LayerRules`: the rules of layers by their rows; `RowTests`: the tests of rows as the code makes them.
 pub mod LayerRules
 pub mod RowTests

@@ -20,11 +20,11 @@ use Rattle.box_columns.specs.Columns.{covered, leftOut}
 use Rattle.box_columns.proofs.Searches.{by-order}
 use Rattle.box_columns.proofs.Skips.{covered-le}
 use Rattle.box_mirrored.specs.Sides.{Between}
-use Rattle.box_mirrored.proofs.Symmetric.{between-upper, between-lower, covered-none}
+use Rattle.box_mirrored.proofs.Sides.{between-upper, between-lower, covered-none}
 use Rattle.box_fill.specs.BoxFill.{fillRun}
 use Rattle.box_fill.proofs.Rows.{fill-off-rows, fill-relative}
 use Rattle.box_mirrored.specs.MirroredFill.{fillBetween}
-use Rattle.box_mirrored.proofs.Mirrored.{fill-between}
+use Rattle.box_mirrored.proofs.MirroredFill.{fill-between}
 use Rattle.ellipse_styled.specs.EllipseStyled.{aroundFill, styledBy}
 use Rattle.styled_row.specs.StyledRow.{boxStyledRow}
 use Rattle.styled_scan.specs.ReadyBox.{Alike}

@@ -27,11 +27,11 @@ use Rattle.rounded_rectangle.specs.Quadrants.{left, top, width, height}
 use Rattle.rounded_rectangle.specs.Relative.{rowInsets, runBetween}
 use Rattle.rounded_rectangle.proofs.Rows.{row-placed, side-straight}
 use Rattle.box_mirrored.specs.Sides.{Straight}
-use Rattle.box_mirrored.proofs.Symmetric.{between-straight}
+use Rattle.box_mirrored.proofs.Sides.{between-straight}
 use Rattle.box_fill.specs.BoxFill.{fillRun}
 use Rattle.box_fill.proofs.Rows.{fill-relative}
 use Rattle.box_mirrored.specs.MirroredFill.{fillBetween}
-use Rattle.box_mirrored.proofs.Mirrored.{fill-between}
+use Rattle.box_mirrored.proofs.MirroredFill.{fill-between}
 use Rattle.ellipse_styled.specs.EllipseStyled.{aroundFill, styledBy}
 use Rattle.styled_row.specs.StyledRow.{boxStyledRow}
 use Rattle.styled_straight.specs.declared.Reaches.{Reaches}

@@ -6,7 +6,7 @@ use Prim.Native.Nat.{_*_, _-_, _≤_, max}
 use native.Mathlib.Omega.{arith}
 use Rattle.rounded_rectangle.specs.Relative.{radii}
 use Rattle.box_columns.specs.Columns.{covered, leftOut}
-use Rattle.box_mirrored.proofs.Symmetric.{alike-equal, between-upper, between-lower, cover-small}
+use Rattle.box_mirrored.proofs.Sides.{alike-equal, between-upper, between-lower, cover-small}
 use borrow.Author.Needs.{needs}
 use Rattle.box_mirrored.proofs.mirrored_skip.Statement.{statement}
 use Rattle.box_mirrored.proofs.mirrored_skip.Tie as tie

@@ -2,7 +2,7 @@
 -- Assumes nothing.
 use borrow.Author.Needs.{needs}
 use Rattle.rounded_rectangle.specs.Relative.{radii}
-use Rattle.box_mirrored.proofs.Symmetric.{alike-equal, insets-alike, side-wide}
+use Rattle.box_mirrored.proofs.Sides.{alike-equal, insets-alike, side-wide}
 use Rattle.box_mirrored.proofs.row_insets.Statement.{statement}
 use Rattle.box_mirrored.proofs.row_insets.Tie as tie
 

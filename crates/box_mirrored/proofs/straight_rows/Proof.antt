@@ -5,7 +5,7 @@ use mathlib.Core.Path.{ap, subst, _∙_}
 use Prim.Native.Nat.{ℕ, _≤_, _<_, max}
 use native.Mathlib.Omega.{arith}
 use Rattle.rounded_rectangle.specs.Relative.{radii}
-use Rattle.box_mirrored.proofs.Symmetric.{straight-counted}
+use Rattle.box_mirrored.proofs.Sides.{straight-counted}
 use borrow.Author.Needs.{needs}
 use Rattle.box_mirrored.proofs.straight_rows.Statement.{statement}
 use Rattle.box_mirrored.proofs.straight_rows.Tie as tie

@@ -11,10 +11,9 @@ use Rattle.rectangle.specs.Bounds.{Bounded}
 use Rattle.rectangle.specs.Rectangle.{offset as Rectangle·offset}
 use Rattle.refusal.proofs.Checks.{passed-first, passed-next, refused-early}
 use Rattle.figure.specs.Calls.{figureCheck}
-use Rattle.figure.proofs.Within.{figure-passed}
+use Rattle.figure.proofs.Within.{figure-passed, own-rectangle-bounded}
 use Rattle.style.specs.Style.{styleCheck}
 use Rattle.style.proofs.StrokeWidths.{outside-passed}
-use Rattle.styled.proofs.Bounds.{own-rectangle-bounded}
 use borrow.Author.Needs.{needs}
 use native.Mathlib.Omega.{arith}
 use Rattle.signed.proofs.Laws.{int}

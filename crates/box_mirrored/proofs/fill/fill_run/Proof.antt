@@ -15,7 +15,7 @@ use Rattle.box_mirrored.specs.Sides.{Between, Mirrored}
 use Rattle.box_fill.specs.BoxFill.{fillRun}
 use Rattle.box_fill.specs.Relative.{boxOf, rowFill}
 use Rattle.box_mirrored.specs.MirroredFill.{fillBetween}
-use Rattle.box_mirrored.proofs.Mirrored.{fill-between}
+use Rattle.box_mirrored.proofs.MirroredFill.{fill-between}
 use Rattle.box_fill.proofs.Rows.{fill-off-rows, fill-relative}
 use borrow.Author.Needs.{needs}
 use native.Mathlib.Omega.{arith}

@@ -8,7 +8,7 @@ use borrow.Author.Needs.{needs}
 use Rattle.geometry_range.proofs.Fields.{range-by-fields}
 use Rattle.box_fill.specs.Relative.{placeIn}
 use Rattle.box_fill.proofs.Rows.{place-read}
-use Rattle.box_mirrored.proofs.Mirrored.{between-some, between-none, first-small, end-small}
+use Rattle.box_mirrored.proofs.MirroredFill.{between-some, between-none, first-small, end-small}
 use Rattle.box_mirrored.proofs.fill.filled_between.Statement.{statement}
 use Rattle.box_mirrored.proofs.fill.filled_between.Tie as tie
 

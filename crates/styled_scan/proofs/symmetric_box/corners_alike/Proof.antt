@@ -1,6 +1,6 @@
 -- `styled_scan::symmetric_box::corners_alike` meets its contract: a box each of whose corners is like the top-left one has four alike.
 -- Assumes nothing.
-use Rattle.box_mirrored.proofs.Symmetric.{alike-equal}
+use Rattle.box_mirrored.proofs.Sides.{alike-equal}
 use borrow.Author.Needs.{needs}
 use mathlib.Core.Path.{_≡_, sym}
 use mathlib.Core.Bool.{false≢true}

@@ -17,7 +17,7 @@ use Rattle.rounded_rectangle.proofs.SideInsets.{side-by-upper, side-straight}
 use Rattle.box_columns.proofs.Searches.{by-order}
 use Rattle.rounded_rectangle.specs.RoundedRectangle.{row as RoundedRectangle·row}
 use Rattle.rounded_rectangle.proofs.Rows.{row-placed, between-within, side-inset-le}
-use Rattle.box_mirrored.proofs.Symmetric.{side-wide}
+use Rattle.box_mirrored.proofs.Sides.{side-wide}
 use Rattle.box_fill.specs.BoxFill.{fillRun}
 use Rattle.ellipse_styled.specs.EllipseStyled.{aroundFill, styledBy}
 use Rattle.figure.proofs.Within.{area-bounded}
