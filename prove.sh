@@ -50,6 +50,6 @@ trap 'rm -rf "$work"' EXIT
     done
 }
 status=$(cat "$work/status")
-# What was not proved, in the prover's words.
-[ "$status" = 0 ] || grep -v '^[a-z]* .*: proved$\|^library \|^logic\|^rt: ' "$work/log" | head -n 40 >&2
+# What was not proved, in the prover's words; target/log has all of it.
+[ "$status" = 0 ] || grep ': error' "$work/log" | cut -c 1-400 | head -n 20 >&2
 exit "$status"

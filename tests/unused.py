@@ -3,8 +3,8 @@
 
 - libraries in crates.txt that a crate does not use: no file names anything of them, and no value can have a type of theirs;
 - names in `use` lines that the file does not have;
-- public functions that no other file calls;
-- laws that no proof cites.
+- public functions that no other file calls: a function by its path, a method by its name, whatever type it is called on;
+- laws that no proof cites: no other file has the law's name and names its module, and its own file does not use it.
 """
 import os
 import re
@@ -15,7 +15,8 @@ ROOT = os.path.join(os.path.dirname(os.path.abspath(__file__)), '..')
 # Laws that no proof needs: each says to a reader that a definition means what it should.
 FOR_READERS = {
     'checked-drawings', 'own-drawings',  # the checked drawings of the scope, and our own
-    'sheet-rules-kept', 'host-demand3', 'add-told-seven', 'paint-told-seven', 'sheet-comes-to-the-same',  # README, 'What is proved'
+    'sheet-rules-kept', 'host-demand3', 'sheet-comes-to-the-same',  # README, 'What is proved'
+    'add-told-seven', 'paint-told-seven',  # docs/ARCHITECTURE.md, 'Where the demands are stated'
     'most-over-largest',  # the crate rule's edge is one whose radii overlap most
     'confine-fitting-stay', 'w3c-confine-twice',  # radii that fit stay, under either rule
     'w3c-within-box',  # under the W3C's rule no corner is larger than the box
@@ -59,8 +60,9 @@ def sources(ending, mark):
 def has(source, name):
     """Whether a text has a name; of an operator, `_` at its arguments' places, whether it has each part."""
     if name.startswith('_') or name.endswith('_'):
-        return all(part in source for part in name.split('_') if part)
-    return re.search(r"(?<![\w·'-])«?%s»?(?![\w·'-])" % re.escape(name), source) is not None
+        parts = [part for part in name.split('_') if part]
+        return name in source or all(re.search(r'(?<![^\s(){}])%s(?![^\s(){};,])' % re.escape(part), source) for part in parts)
+    return re.search(r"(?<![\w·'+<≤-])«?%s»?(?![\w·'-])" % re.escape(name), source) is not None
 
 
 def unused_libraries(code, logic):
@@ -113,28 +115,41 @@ def unused_imports(files):
 
 
 def unused_functions(code):
-    files = {short: source for name in code for short, source in code[name].items()}
-    for short, source in files.items():
-        for function in re.findall(r'(?m)^ *pub fn (\w+)', source):
-            call = re.compile(r'(?:::|\.)%s\b' % function)
-            if not any(call.search(text) for other, text in files.items() if other != short):
+    files = {short: (name, source) for name in code for short, source in code[name].items()}
+    for short, (name, source) in files.items():
+        module = os.path.basename(short)[:-3]
+        inner = '' if module in ('lib', 'main') else module + '::'
+        for indent, function in re.findall(r'(?m)^( *)pub fn (\w+)', source):
+            if indent:  # a method
+                here = there = re.compile(r'(?:::|\.)%s\b' % function)
+            else:
+                here = re.compile(r'(?<!\w)(?:crate::%s|%s)%s\b' % (inner, inner or 'crate::', function))
+                there = re.compile(r'(?<!\w)%s::%s%s\b' % (name, inner, function))
+            if not any((here if other == name else there).search(text) for file, (other, text) in files.items() if file != short):
                 yield f'{short}: no other file calls {function}'
 
 
 def unused_laws(code, logic):
     files = {short: source for kind in (code, logic) for name in kind for short, source in kind[name].items()}
     words = {short: set(re.findall(r'[^\s(){}\[\];,.:]+', source)) for short, source in files.items()}
+    known = set()
     for short, source in files.items():
         if '/proofs/' not in short or short.endswith(('/Proof.antt', '/Lib.antt') + EXAMPLES):
             continue
+        _, crate, _, module = short[:-5].replace(os.sep, '.').split('.', 3)
+        path = re.compile(r'Rattle.%s(?:·proofs)?\.proofs\.%s(?![\w.·-]*[\w·-])' % (crate, re.escape(module)))
+        citing = [other for other, text in files.items() if other != short and path.search(text.replace('.{', ' {'))]
         for indent, law in re.findall(r'(?m)^( *)(?:(?:abbrev|unfoldable|pub) )*([^\s(){}\[\];,.:]+) : ', source):
-            if law in FOR_READERS or any(law in words[other] for other in files if other != short):
+            known.add(law)
+            if law in FOR_READERS or any(law in words[other] for other in citing):
                 continue
             # in its own file: anywhere but at the head of its type and of its equations
             name = r"(?<![\w·«-])%s(?![\w'-])" % re.escape(law)
             head = re.compile(r'%s(?:(?:abbrev|unfoldable|pub) )*%s.* [:=](?: |$)' % (indent, name))
             if not any(len(re.findall(name, line)) > (1 if head.match(line) else 0) for line in source.split('\n')):
                 yield f'{short}: no proof cites {law}'
+    for law in FOR_READERS - known:
+        yield f'tests/unused.py: there is no law {law}'
 
 
 def main():

@@ -22,9 +22,9 @@ pub record Between (c : CornerRadii) (s : Size) (dy k : ℕ) : Type 0 where
   pub inside : (dx : ℕ) → k ≤ dx → dx + k < s .width → containedFromLeft c s dy dx ≡ true
 
 -- so many columns of row dy are left out on either side; or nothing is said
-abbrev pub Mirrored : CornerRadii → Size → ℕ → Place → Type 0
-Mirrored c s dy (At k) = Between c s dy k
-Mirrored c s dy Nowhere = Unit {0}
+abbrev pub MirroredSides : CornerRadii → Size → ℕ → Place → Type 0
+MirroredSides c s dy (At k) = Between c s dy k
+MirroredSides c s dy Nowhere = Unit {0}
 
 -- row dy of a box has straight sides: it lies below the upper corners and above the lower ones
 pub record Straight (c : CornerRadii) (s : Size) (dy : ℕ) : Type 0 where

@@ -16,7 +16,7 @@ ghost use mathlib.Core.Path.{_≡_};
 ghost use mathlib.Core.Bool.{true};
 ghost use Prim.Native.Nat.{_<_, _≤_};
 ghost use Rattle.rounded_rectangle.specs.Relative.{ReadyBox, radii, rowInsets};
-ghost use Rattle.box_mirrored.specs.Sides.{alike, Mirrored, StraightFor};
+ghost use Rattle.box_mirrored.specs.Sides.{alike, MirroredSides, StraightFor};
 
 // Whether two corners are alike.
 pub fn are_alike(a: Size, b: Size) -> bool
@@ -37,7 +37,7 @@ pub fn are_alike(a: Size, b: Size) -> bool
 pub fn mirrored_skip(b: RoundedRectangleContains, dy: u32, hint: u32) -> Place
     requires { ⌜ ReadyBox b ⌝ }
     requires { ⌜ dy < b .size .height ⌝ }
-    ensures { λ r. ⌜ Mirrored (radii b) (b .size) dy r ⌝ }
+    ensures { λ r. ⌜ MirroredSides (radii b) (b .size) dy r ⌝ }
 {
     let size = b.size;
     let below = size.height - 1 - dy;

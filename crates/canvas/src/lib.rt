@@ -84,7 +84,7 @@ fn merged(runs: StyledRuns, style: Style, width: u32) -> StyledRuns
 }
 
 // Overpaints a row by a styled row.
-pub fn paint_row(row: &mut [u8], scanline: StyledRuns, style: Style)
+fn paint_row(row: &mut [u8], scanline: StyledRuns, style: Style)
     requires { ⌜ length (now row) ≤ wideSide ⌝ }
     ensures { λ _. ⌜ now (row .exit) ≡ overpaintRuns style scanline (now (row .entry)) ⌝ }
 {

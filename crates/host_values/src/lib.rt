@@ -17,7 +17,8 @@ ghost use Rattle.rectangle.specs.Calls.{rectangleValues};
 ghost use Rattle.figure.specs.Calls.{flag, scanlineValues, radiiValues, figureValues};
 ghost use Rattle.styled.specs.Calls.{styledScanlineValues};
 
-// How many numbers a box has before its radii, and its radii have.
+// How many numbers a figure has before its radii, and how many its radii have (specs of `host_records`,
+// which is not needed here for anything else).
 const PLAIN_LENGTH: usize = 5;
 
 const RADII_LENGTH: usize = 8;

@@ -1,7 +1,7 @@
 -- Which rows of a figure the code paints: those that the canvas has.
 -- Assumes nothing.
-use Prim.Native.Nat.{ℕ, _+_, _-_, min}
-use lib.IntN.{ℤ, pos, _+ℤ_, _-ℤ_}
+use Prim.Native.Nat.{ℕ, _-_, min}
+use lib.IntN.{pos, _+ℤ_, _-ℤ_}
 use Rattle.signed.specs.Signed.{floor0}
 use Rattle.drawing.specs.declared.StrokeRows.{StrokeRows}
 

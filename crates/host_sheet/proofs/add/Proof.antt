@@ -20,7 +20,7 @@ use Rattle.sheet.proofs.Records.{added-record}
 use Rattle.drawing.specs.Drawing.{styledFigure}
 use Rattle.host_records.specs.RecordNumbers.{isFigure, isStyle, figureOf, styleOf}
 use Rattle.host_records.proofs.Records.{figure-length, style-length}
-use Rattle.host_sheet_record.specs.SheetRecord.{isSheet, sheetOf, layerPut}
+use Rattle.host_sheet_record.specs.SheetRecord.{countAt, isSheet, sheetOf, layerPut}
 use Rattle.host_sheet_record.proofs.Parts.{sheet-length, sixteen}
 use Rattle.host_sheet.specs.Sheets.{nextRow, addOf, addTold, addNumbers}
 use Rattle.host_sheet.proofs.Accepted.{added-place, added-count}
@@ -227,7 +227,7 @@ returns-5 c =
       is-accepted (c .before .before .before .before .before .before .before .before .before),
     ) (
       refl,
-      ap₂ (λ (l : List ℤ) (z : ℤ). set l 2 z)
+      ap₂ (λ (l : List ℤ) (z : ℤ). set l countAt z)
           (c .before .before .put-layer .ensures
           ∙ ap₂ (λ (k : ℕ) (z : ℤ). layerPut
           (early .before .before .before .before .before .before .before .before .before .before .before .args .sheet .now) k

@@ -1,6 +1,5 @@
 -- `host_sheet_place::rows_above` meets its contract: by whether the figure has a height.
 -- Assumes nothing.
-use Prim.Native.Nat.{_-_}
 use native.Mathlib.Omega.{arith}
 use borrow.Author.Needs.{needs}
 use borrow.Author.Tests.{eq-eqb, ne-eqb}

@@ -11,7 +11,7 @@ use Rattle.scanline.specs.declared.Place.the-variants.{At}
 use Rattle.scanline.specs.Places.{Placed}
 use Rattle.scanline.proofs.Placed.{placed-told}
 use Rattle.rounded_rectangle.specs.Relative.{radii}
-use Rattle.box_mirrored.specs.Sides.{Between, Mirrored}
+use Rattle.box_mirrored.specs.Sides.{Between, MirroredSides}
 use Rattle.box_fill.specs.BoxFill.{fillRun}
 use Rattle.box_fill.specs.Relative.{boxOf, rowFill}
 use Rattle.box_mirrored.specs.MirroredFill.{fillBetween}
@@ -107,7 +107,7 @@ between c =
     let at-mirrored-skip = c .before .before .before .mirrored-skip in
     let at-dy = c .before .before .before .before .before .dy in
     let a = c .before .before .before .before .before .before .before .before .before .before .before .args in
-    subst (Mirrored (radii (a .b)) (a .b .size) (at-dy .given .0 .0)) (c .before .k .given .1) (at-mirrored-skip .ensures)
+    subst (MirroredSides (radii (a .b)) (a .b .size) (at-dy .given .0 .0)) (c .before .k .given .1) (at-mirrored-skip .ensures)
 
 filled-between-requires : tie.Need-filled-between-requires
 filled-between-requires c κs =
