@@ -70,7 +70,7 @@ typedef struct {
     } layers[16];
 } wunqaber_sheet;
 
-/* 20 numbers: a call in a list of them (crates/sheet_calls/specs/CallNumbers.antt). To add it has a figure and
+/* 20 numbers: a call in a list of them (crates/sheet_call_numbers/specs/CallNumbers.antt). To add it has a figure and
  * a style; to paint it has a layer, counted from 0, and the numbers behind that are not looked at. Nor are the
  * last two of any call. wunqaber_make_add and wunqaber_make_paint fill it. */
 enum { WUNQABER_CALL_ADD = 0, WUNQABER_CALL_PAINT = 1 };
@@ -184,7 +184,7 @@ uint32_t wunqaber_sheet_add(int32_t *sheet, size_t sheet_length,
 uint32_t wunqaber_sheet_paint(int32_t *sheet, size_t sheet_length, uint32_t layer,
                               uint8_t *canvas, size_t canvas_length);
 
-/* A list of add and paint calls, 20 numbers each (crates/sheet_calls/specs/CallNumbers.antt), run from
+/* A list of add and paint calls, 20 numbers each (crates/sheet_call_numbers/specs/CallNumbers.antt), run from
  * a sheet just opened; the answer of each, 0 for accepted. Refused by 6, 8, 13; 100 for no list of calls. */
 uint32_t wunqaber_run_calls(uint32_t width, uint32_t height, const int32_t *calls, size_t calls_length,
                             uint8_t *canvas, size_t canvas_length,

@@ -23,6 +23,7 @@ FOR_READERS = {
     'rows-all-inside',  # the first row decides for all rows of an ellipse
     'length-decimal-least',  # every number has a digit
     'overpaint-pixel',  # a canvas byte after a styled row, by the runs that have it
+    'length-header-most',  # a file takes at most 17 bytes more than its canvas
     'file-after-passed',  # the file stands first in its buffer, and the bytes past it stay
 }
 
@@ -132,13 +133,14 @@ def unused_functions(code):
 def unused_laws(code, logic):
     files = {short: source for kind in (code, logic) for name in kind for short, source in kind[name].items()}
     words = {short: set(re.findall(r'[^\s(){}\[\];,.:]+', source)) for short, source in files.items()}
+    named = {short: source.replace('.{', ' {') for short, source in files.items() if 'Rattle·' in source}
     known = set()
     for short, source in files.items():
         if '/proofs/' not in short or short.endswith(('/Proof.antt', '/Lib.antt') + EXAMPLES):
             continue
         _, crate, _, module = short[:-5].replace(os.sep, '.').split('.', 3)
         path = re.compile(r'Rattle.%s(?:·proofs)?\.proofs\.%s(?![\w.·-]*[\w·-])' % (crate, re.escape(module)))
-        citing = [other for other, text in files.items() if other != short and path.search(text.replace('.{', ' {'))]
+        citing = [other for other, text in named.items() if other != short and path.search(text)]
         for indent, law in re.findall(r'(?m)^( *)(?:(?:abbrev|unfoldable|pub) )*([^\s(){}\[\];,.:]+) : ', source):
             known.add(law)
             if law in FOR_READERS or any(law in words[other] for other in citing):

@@ -4,9 +4,9 @@
 // leaves out are skipped first, and the test begins where the ellipse does. That column is contained
 // but where corners overlap; there the walk goes on. Columns are counted from the left edge, and for
 // the last one from the right edge.
+use corner_quadrant::EllipseQuadrant;
 use geometry::Size;
 use rounded_rectangle::RoundedRectangleContains;
-use rounded_rectangle::ellipse_quadrant::EllipseQuadrant;
 use scanline::Place;
 ghost use mathlib.Core.Path.{_≡_};
 ghost use mathlib.Core.Bool.{true};

@@ -1,3 +1,2 @@
--- `Sides`: rows whose two sides are alike, and rows with straight sides; `MirroredFill`: the fill of such a row.
+-- `Sides`: rows whose two sides are alike, and rows with straight sides.
 pub mod Sides
-pub mod MirroredFill

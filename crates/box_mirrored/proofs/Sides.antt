@@ -17,7 +17,7 @@ use Rattle.scanline.proofs.Find.{found-at}
 use Rattle.ellipse.specs.Relative.{gap, containsOf}
 use Rattle.ellipse_search.proofs.Search.{columns-rise}
 use Rattle.corner_radii.specs.declared.CornerRadii.{CornerRadii}
-use Rattle.rounded_rectangle.proofs.Within.{and-first, and-second}
+use Rattle.corner_quadrant.proofs.Within.{and-first, and-second}
 use Rattle.rounded_rectangle.specs.Relative.{insideCorner, inQuadrant, sideInset, rowInsets}
 use Rattle.rounded_rectangle.proofs.Contains.{decided-top-left, decided-top-right, decided-bottom-left, decided-bottom-right, decided-straight}
 use Rattle.box_columns.specs.Columns.{covered, placeElse, leftOut, containedFromLeft}

@@ -4,14 +4,11 @@
 use box_columns::covered;
 use box_columns::difference;
 use box_columns::left_out;
+use corner_quadrant::side_inset;
 use geometry::Size;
 use rounded_rectangle::Insets;
 use rounded_rectangle::RoundedRectangleContains;
-use rounded_rectangle::ellipse_quadrant::side_inset;
 use scanline::Place;
-
-pub mod fill;
-
 ghost use mathlib.Core.Path.{_≡_};
 ghost use mathlib.Core.Bool.{true};
 ghost use Prim.Native.Nat.{_<_, _≤_};

@@ -7,9 +7,6 @@ use geometry_range::Range;
 use scanline::StyledRuns;
 use style::Paint;
 use style::Style;
-
-pub mod row;
-
 ghost use mathlib.Core.Path.{_≡_};
 ghost use mathlib.Core.Bool.{true};
 ghost use mathlib.Core.List.{List};

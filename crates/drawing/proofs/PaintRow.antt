@@ -1,4 +1,4 @@
--- What a figure's row makes of a canvas is what its styled row does; the laws of `canvas::row` on that are passed on.
+-- What a figure's row makes of a canvas is what its styled row does; the laws of `canvas_row` on that are passed on.
 -- Assumes nothing.
 use mathlib.Core.Path.{_≡_, refl, ap, _∙_}
 use mathlib.Core.Bool.{cond}
@@ -13,7 +13,7 @@ use Rattle.book.specs.Canvas.{canvasRow, putRow}
 use Rattle.book.specs.Sheet.{withRow, paintRow}
 use Rattle.styled.specs.Styled.{styledRow}
 use Rattle.canvas.specs.Canvas.{overpaint}
-pub use Rattle.canvas.proofs.PaintBy.{paint-by-row, paint-by-lacking, paint-by-above, paint-by-below, paint-by-runs}
+pub use Rattle.canvas_row.proofs.PaintBy.{paint-by-row, paint-by-lacking, paint-by-above, paint-by-below, paint-by-runs}
 use Rattle.drawing.specs.Drawing.{styledFigure, overpaintBy, paintBy, drawing}
 
 module _ (rowAt : ℤ → StyledRow) (style : Style) (W H : ℕ) (canvas : List ℕ) where

@@ -16,7 +16,7 @@ use Rattle.style.specs.Style.{styleCheck}
 use Rattle.styled.specs.Styled.{styledRow}
 use Rattle.book.specs.Book.{Drawing}
 use Rattle.canvas.specs.Canvas.{overpaint}
-pub use Rattle.canvas.specs.CanvasRow.{paintBy}
+pub use Rattle.canvas_row.specs.CanvasRow.{paintBy}
 use Rattle.canvas.proofs.Overpaint.{overpaint-length}
 use Rattle.drawing.specs.Rows.{strokeRows}
 

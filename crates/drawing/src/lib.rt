@@ -1,7 +1,7 @@
 // What a canvas call has to know of a figure with its style: whether the two are within limits, which
 // rows it has, and one of its rows painted on a canvas. The one-call painting and the sheet stand on
 // this; `specs/Drawing.antt` puts it into the book of demand 3.
-pub use canvas::row::paint_row_on;
+pub use canvas_row::paint_row_on;
 use canvas_size::CanvasSize;
 use figure::Figure;
 use rectangle::Rectangle;

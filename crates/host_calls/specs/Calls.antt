@@ -5,7 +5,7 @@ use Prim.Native.Nat.{ℕ}
 use lib.IntN.{ℤ}
 use lib.ListN.{length}
 use Rattle.sheet.specs.declared.Sheet.{Sheet}
-use Rattle.sheet_calls.specs.CallNumbers.{callsOf}
+use Rattle.sheet_call_numbers.specs.CallNumbers.{callsOf}
 use Rattle.sheet_calls.specs.SheetCalls.{RunSays, allRan, notCalls, refusedBy, runAnswer, RunLeaves}
 use Rattle.host_answers.specs.HostAnswers.{noRecord}
 

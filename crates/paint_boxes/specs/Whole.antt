@@ -3,10 +3,10 @@
 use mathlib.Core.Path.{_≡_}
 use Prim.Native.Nat.{ℕ}
 use lib.IntN.{ℤ}
-use Rattle.styled_scan.specs.declared.styled_box.StyledBox.{StyledBox}
-use Rattle.styled_scan.specs.declared.symmetric_box.Symmetry.{Symmetry}
-use Rattle.styled_scan.specs.declared.symmetric_box.Symmetry.the-variants.{Symmetric, Asymmetric}
-use Rattle.styled_scan.specs.SymmetricBox.{SymmetricOf}
+use Rattle.styled_box.specs.declared.StyledBox.{StyledBox}
+use Rattle.styled_symmetric.specs.declared.Symmetry.{Symmetry}
+use Rattle.styled_symmetric.specs.declared.Symmetry.the-variants.{Symmetric, Asymmetric}
+use Rattle.styled_symmetric.specs.SymmetricBox.{SymmetricOf}
 
 -- the box is symmetric, and the rows from y on are all that it has; else nothing is said
 abbrev pub WholeSymmetric : StyledBox → ℤ → ℕ → Symmetry → Type 0

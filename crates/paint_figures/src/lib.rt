@@ -70,8 +70,8 @@ pub fn paint_whole(canvas: &mut [u8], size: CanvasSize, figure: Figure, style: S
     ensures { λ _. ⌜ now (canvas .exit) ≡ paintWhole drawing (size .width) (size .height) (styledFigure figure style)
         (now (canvas .entry)) ⌝ }
 {
-    let stroke = styled::areas::stroke_shape(figure, style);
-    let fill = styled::areas::fill_shape(figure, style);
+    let stroke = styled_areas::stroke_shape(figure, style);
+    let fill = styled_areas::fill_shape(figure, style);
     let seen = visible(shape_rows(stroke), size.height);
     match StyledShape::new(stroke, fill) {
         StyledShape::Ellipse(ellipse) => {

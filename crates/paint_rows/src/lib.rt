@@ -7,8 +7,8 @@ use ellipse_styled::EllipseHints;
 use ellipse_styled::StyledEllipse;
 use scanline::StyledRow;
 use style::Style;
-use styled_scan::styled_box::RowHints;
-use styled_scan::styled_box::StyledBox;
+use styled_box::RowHints;
+use styled_box::StyledBox;
 ghost use mathlib.Core.Path.{_≡_};
 ghost use Prim.Native.Nat.{_*_, _≤_};
 ghost use lib.ListN.{length};
@@ -19,7 +19,7 @@ ghost use Rattle.figure.specs.Bounds.{wideAreaPosition};
 ghost use Rattle.ellipse_styled.specs.EllipseStyled.{ellipseStyledRow};
 ghost use Rattle.ellipse_styled.specs.Relative.{ReadyEllipse};
 ghost use Rattle.styled_row.specs.StyledRow.{boxStyledRow};
-ghost use Rattle.styled_scan.specs.ReadyBox.{strokeBox, fillBox, ReadyStyledBox};
+ghost use Rattle.styled_box.specs.ReadyBox.{strokeBox, fillBox, ReadyStyledBox};
 ghost use Rattle.paint_rows.specs.Rows.{widePainted, twiceBy, rowsBy, Mirrored};
 
 // How many pairs of rows mirror each other: half of an ellipse's rows where all of them are to be

@@ -11,7 +11,7 @@ use Rattle.rectangle.specs.Rectangle.{rows, columns}
 use Rattle.scanline.specs.declared.Place.the-variants.{At, Nowhere}
 use Rattle.scanline.specs.Places.{Placed}
 use Rattle.scanline.proofs.Placed.{place-among}
-use Rattle.rounded_rectangle.proofs.Within.{quadrant-has-rows}
+use Rattle.corner_quadrant.proofs.Within.{quadrant-has-rows}
 use Rattle.corner_radii.specs.declared.CornerRadii.{CornerRadii}
 use Rattle.rounded_rectangle.specs.declared.RoundedRectangle.{RoundedRectangle}
 use Rattle.rounded_rectangle.specs.Quadrants.{left, top, width, height, insideTopRight, insideBottomRight, insideBottomLeft}

@@ -22,7 +22,7 @@ use Rattle.scanline.specs.Points.{EndsWithin}
 use Rattle.scanline.proofs.Find.{found-at}
 use Rattle.scanline.proofs.Columns.{fromLeft, fromRight, first-from-edge, last-from-edge}
 use Rattle.scanline.proofs.Placed.{place-among}
-pub use Rattle.rounded_rectangle.proofs.SideInsets.{side-straight, side-inset-le}
+pub use Rattle.corner_quadrant.proofs.SideInsets.{side-straight, side-inset-le}
 use Rattle.rounded_rectangle.specs.declared.RoundedRectangle.{RoundedRectangle}
 use Rattle.rounded_rectangle.specs.declared.Insets.{Insets}
 use Rattle.rounded_rectangle.specs.Quadrants.{left, top, width, height, insideTopLeft, insideTopRight, insideBottomRight, insideBottomLeft}

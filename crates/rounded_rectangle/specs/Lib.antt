@@ -1,4 +1,3 @@
 pub mod Quadrants
 pub mod RoundedRectangle
 pub mod Relative
-pub mod Quadrant

@@ -13,8 +13,8 @@ use Rattle.rounded_rectangle.specs.declared.RoundedRectangle.{RoundedRec
 use Rattle.rounded_rectangle.specs.declared.Insets.{Insets}
 use Rattle.rounded_rectangle.specs.declared.RoundedRectangleContains.{RoundedRectangleContains}
 -- a corner: when it is ready, its test, what lies within it, and the insets of a row
-pub use Rattle.rounded_rectangle.specs.Quadrant.{Ready}
-unfoldable pub use Rattle.rounded_rectangle.specs.Quadrant.{insideCorner, inQuadrant, inset, sideInset}
+pub use Rattle.corner_quadrant.specs.Quadrant.{Ready}
+unfoldable pub use Rattle.corner_quadrant.specs.Quadrant.{insideCorner, inQuadrant, inset, sideInset}
 
 -- the box that the inner functions take: a stroke area too
 pub record BoundedBox (b : RoundedRectangle) : Type 0 where

@@ -2,9 +2,9 @@
 // `rounded_rectangle/mod.rs` (`RoundedRectangleContains`) and `points.rs` (`Scanlines`). Columns and
 // rows are counted from the box's corners, unsigned; signed numbers come in with the asked point or
 // row, and go out with the run.
-use crate::ellipse_quadrant::EllipseQuadrant;
-use crate::ellipse_quadrant::in_quadrant;
-use crate::ellipse_quadrant::side_inset;
+use corner_quadrant::EllipseQuadrant;
+use corner_quadrant::in_quadrant;
+use corner_quadrant::side_inset;
 use corner_radii::CornerRadii;
 use ellipse_search::ANYWHERE;
 use geometry::Point;
@@ -13,9 +13,6 @@ use geometry_range::Range;
 use rectangle::Rectangle;
 use scanline::Place;
 use scanline::Row;
-
-pub mod ellipse_quadrant;
-
 ghost use mathlib.Core.Path.{_≡_};
 ghost use Prim.Native.Nat.{_<_, _≤_};
 ghost use Rattle.signed.specs.Signed.{Near};

@@ -1,3 +1,2 @@
--- `Runs`: a list of calls as the loop makes them, and demand 3 at its end; `Walks`: the part of a list that is lent for a call.
+-- `Runs`: a list of calls as the loop makes them, and demand 3 at its end.
 pub mod Runs
-pub mod Walks

@@ -29,8 +29,8 @@ use Rattle.sheet.specs.SheetDemand3.{sheetAnswers, sheetAfterAll, canvasAfterAl
 use Rattle.sheet.proofs.SheetDemand3.{calls-made, sheet-demand3}
 use Rattle.host_records.specs.RecordNumbers.{listFrom}
 use Rattle.host_records.proofs.Walks.{list-from-here}
-use Rattle.sheet_calls.specs.CallNumbers.{callLength, callOf, callNumbers, callsFrom, encodesCalls}
-use Rattle.sheet_calls.proofs.Walks.{call-part}
+use Rattle.sheet_call_numbers.specs.CallNumbers.{callLength, callOf, callNumbers, callsFrom, encodesCalls}
+use Rattle.sheet_call_numbers.proofs.Walks.{call-part}
 use Rattle.sheet_calls.specs.SheetCalls.{allRan, notCalls, refusedBy, lentCheck, runAnswer, Called, answersAfter, stateAfter, Ran}
 
 -- ---- The loop, from a sheet s₀ with its canvas and the list of answers.

@@ -1,2 +1,1 @@
 pub mod SheetCalls
-pub mod CallNumbers

@@ -18,7 +18,7 @@ use Rattle.sheet.specs.declared.Sheet.{Sheet}
 use Rattle.sheet.specs.declared.SheetOutcome.{SheetOutcome}
 use Rattle.sheet.specs.Sheet.{said, stateOf, openedSheet, sheetAnswer, sheetAfter, canvasAfter}
 use Rattle.sheet.specs.SheetDemand3.{sheetAnswers, sheetAfterAll, canvasAfterAll}
-use Rattle.sheet_calls.specs.CallNumbers.{callCount, encodesCalls}
+use Rattle.sheet_call_numbers.specs.CallNumbers.{callCount, encodesCalls}
 use Rattle.sheet_calls.specs.declared.RunAnswer.{RunAnswer}
 use Rattle.sheet_calls.specs.declared.RunAnswer.the-variants as run-answer
 

@@ -1,12 +1,5 @@
-// A list of calls, written as numbers (module `numbers`), run from a sheet just opened on one
+// A list of calls, written as numbers (crate sheet_call_numbers), run from a sheet just opened on one
 // canvas: the function whose promise is demand 3.
-use crate::numbers::CALL_LENGTH;
-use crate::numbers::FIGURE;
-use crate::numbers::KIND;
-use crate::numbers::LAYER;
-use crate::numbers::PAINT;
-use crate::numbers::STYLE;
-use crate::numbers::STYLE_END;
 use canvas_size::CanvasSize;
 use refusal::Checked;
 use refusal::Refusal;
@@ -14,15 +7,19 @@ use refusal::check_room;
 use sheet::Sheet;
 use sheet::SheetAnswer;
 use sheet::SheetOutcome;
-
-pub mod numbers;
-
+use sheet_call_numbers::CALL_LENGTH;
+use sheet_call_numbers::FIGURE;
+use sheet_call_numbers::KIND;
+use sheet_call_numbers::LAYER;
+use sheet_call_numbers::PAINT;
+use sheet_call_numbers::STYLE;
+use sheet_call_numbers::STYLE_END;
 ghost use mathlib.Core.Path.{_≡_};
 ghost use Prim.Native.Nat.{_*_, _≤_};
 ghost use lib.ListN.{length};
 ghost use Rattle.refusal.specs.Refusal.{answerNumber};
 ghost use Rattle.sheet.specs.Sheet.{said, stateOf};
-ghost use Rattle.sheet_calls.specs.CallNumbers.{callLength, callOf, callsFrom, callsOf};
+ghost use Rattle.sheet_call_numbers.specs.CallNumbers.{callLength, callOf, callsFrom, callsOf};
 ghost use Rattle.sheet_calls.specs.SheetCalls.{runSaid, runAnswer, Called, answersAfter, stateAfter, RunLeaves};
 
 pub enum RunAnswer {
@@ -120,7 +117,7 @@ pub fn run_calls(
             answer: RunAnswer::Refused(checked.refusal()),
         };
     };
-    if !numbers::encodes_calls(calls) {
+    if !sheet_call_numbers::encodes_calls(calls) {
         return RunOutcome {
             sheet: sheet,
             answer: RunAnswer::NotCalls,

@@ -1,3 +1,2 @@
 pub mod Styled
 pub mod Calls
-pub mod Areas

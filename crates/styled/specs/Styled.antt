@@ -8,7 +8,7 @@ use Rattle.figure.specs.declared.Figure.{Figure}
 use Rattle.figure.specs.Figure.{ownRectangle, shape}
 use Rattle.style.specs.declared.Style.{Style}
 use Rattle.style.specs.Style.{outsideStrokeWidth}
-pub use Rattle.styled.specs.Areas.{strokeArea, fillArea}
+pub use Rattle.styled_areas.specs.Areas.{strokeArea, fillArea}
 use Rattle.styled_row.specs.StyledRow.{styledRowOfShapes}
 
 -- the styled bounding box: the rectangle offset by the outside width

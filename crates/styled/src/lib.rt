@@ -13,9 +13,6 @@ use styled_row::ellipse_row_at;
 use styled_row::w3c_row_at;
 use styled_straight::StraightRow;
 use styled_straight::straight_row;
-
-pub mod areas;
-
 ghost use mathlib.Core.Path.{_≡_};
 ghost use Prim.Native.Nat.{_≤_};
 ghost use Rattle.signed.specs.Signed.{Near};

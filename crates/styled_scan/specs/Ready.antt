@@ -6,7 +6,7 @@ use Rattle.scanline.specs.declared.StyledRow.the-variants.{NoRow}
 use Rattle.ellipse_styled.specs.EllipseStyled.{ellipseStyledRow}
 use Rattle.ellipse_styled.specs.Relative.{ReadyEllipse}
 use Rattle.styled_row.specs.StyledRow.{boxStyledRow}
-use Rattle.styled_scan.specs.ReadyBox.{strokeBox, fillBox, ReadyStyledBox}
+use Rattle.styled_box.specs.ReadyBox.{strokeBox, fillBox, ReadyStyledBox}
 use Rattle.styled_scan.specs.declared.StyledShape.{StyledShape}
 use Rattle.styled_scan.specs.declared.StyledShape.the-variants as styled
 

@@ -1,12 +1,8 @@
 // A styled figure made ready for all its rows: both areas with their tests, after embedded-graphics
 // 0.8.2 `StyledScanlines` of both `styled.rs`.
-use crate::styled_box::StyledBox;
 use ellipse_styled::StyledEllipse;
 use figure::Shape;
-
-pub mod styled_box;
-pub mod symmetric_box;
-
+use styled_box::StyledBox;
 ghost use mathlib.Core.Path.{_≡_};
 ghost use lib.IntN.{ℤ};
 ghost use Rattle.figure.specs.Bounds.{BoundedShape};

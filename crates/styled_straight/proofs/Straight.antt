@@ -30,8 +30,8 @@ use Rattle.box_mirrored.specs.Sides.{Straight}
 use Rattle.box_mirrored.proofs.Sides.{between-straight}
 use Rattle.box_fill.specs.BoxFill.{fillRun}
 use Rattle.box_fill.proofs.Rows.{fill-relative}
-use Rattle.box_mirrored.specs.MirroredFill.{fillBetween}
-use Rattle.box_mirrored.proofs.MirroredFill.{fill-between}
+use Rattle.box_mirrored_fill.specs.MirroredFill.{fillBetween}
+use Rattle.box_mirrored_fill.proofs.MirroredFill.{fill-between}
 use Rattle.ellipse_styled.specs.EllipseStyled.{aroundFill, styledBy}
 use Rattle.styled_row.specs.StyledRow.{boxStyledRow}
 use Rattle.styled_straight.specs.declared.Reaches.{Reaches}

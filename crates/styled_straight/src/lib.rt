@@ -2,7 +2,7 @@
 // need no confined radii, no test made ready and no search. The Rust has none of it: in
 // embedded-graphics 0.8.2 `rounded_rectangle/styled.rs` every row is searched from both ends.
 use box_columns::difference;
-use box_mirrored::fill::filled_between;
+use box_mirrored_fill::filled_between;
 use rectangle::Rectangle;
 use rounded_rectangle::Insets;
 use rounded_rectangle::RoundedRectangle;

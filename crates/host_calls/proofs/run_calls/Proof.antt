@@ -4,7 +4,7 @@ use mathlib.Core.Path.{_≡_, sym, ap, subst, _∙_}
 use lib.ListN.{length}
 use Rattle.sheet_calls.specs.declared.RunAnswer.{RunAnswer}
 use Rattle.sheet_calls.specs.SheetCalls.{RunSays, runSaid, runAnswer, RunLeaves}
-use Rattle.sheet_calls.specs.CallNumbers.{callsOf}
+use Rattle.sheet_call_numbers.specs.CallNumbers.{callsOf}
 use Rattle.host_calls.specs.Calls.{runNumber, RunTold}
 use borrow.Author.Needs.{needs}
 use Rattle.host_calls.proofs.run_calls.Statement.{statement}

@@ -6,9 +6,9 @@ use lib.IntN.{ℤ}
 use mir.Facts.{toZ-ofZ}
 use mir.Syntax.{w32}
 use mir.Val.{toZ, ofZ}
-use Rattle.styled_scan.specs.declared.symmetric_box.Symmetry.the-variants.{Symmetric}
+use Rattle.styled_symmetric.specs.declared.Symmetry.the-variants.{Symmetric}
 use Rattle.styled_row.specs.StyledRow.{boxStyledRow}
-use Rattle.styled_scan.specs.ReadyBox.{strokeBox, fillBox}
+use Rattle.styled_box.specs.ReadyBox.{strokeBox, fillBox}
 use Rattle.paint_rows.specs.Rows.{rowsBy}
 use Rattle.paint_boxes.specs.Whole.{WholeSymmetric}
 use Rattle.paint_boxes.proofs.paint_box.Statement.{statement}

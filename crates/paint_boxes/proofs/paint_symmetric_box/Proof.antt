@@ -13,8 +13,8 @@ use Rattle.signed.specs.Signed.{Near}
 use Rattle.signed.proofs.Laws.{int, add-law}
 use Rattle.box_columns.proofs.Searches.{by-order}
 use Rattle.styled_row.specs.StyledRow.{boxStyledRow}
-use Rattle.styled_scan.specs.SymmetricBox.{symmetricStroke, symmetricFill}
-use Rattle.styled_scan.proofs.Rows.{row-mirrored, rows-between}
+use Rattle.styled_symmetric.specs.SymmetricBox.{symmetricStroke, symmetricFill}
+use Rattle.styled_symmetric.proofs.Rows.{row-mirrored, rows-between}
 use Rattle.paint_rows.specs.Rows.{widePainted}
 use Rattle.paint_rows.proofs.Mirror.{RowsBetween, between-start, between-end}
 use Rattle.paint_boxes.specs.Spaced.{spacedBy, SpacedNear}

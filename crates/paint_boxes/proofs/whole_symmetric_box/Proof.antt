@@ -6,7 +6,7 @@ use mathlib.Core.Path.{subst}
 use mir.Syntax.{w32}
 use mir.Val.{SFits}
 use Rattle.signed.proofs.Laws.{int}
-use Rattle.styled_scan.specs.SymmetricBox.{SymmetricOf}
+use Rattle.styled_symmetric.specs.SymmetricBox.{SymmetricOf}
 use Rattle.paint_boxes.proofs.whole_symmetric_box.Statement.{statement}
 use Rattle.paint_boxes.proofs.whole_symmetric_box.Tie as tie
 

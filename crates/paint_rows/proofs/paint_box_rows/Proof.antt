@@ -15,7 +15,7 @@ use borrow.Author.Needs.{needs}
 use Rattle.signed.specs.Signed.{Near}
 use Rattle.signed.proofs.Laws.{add-law}
 use Rattle.styled_row.specs.StyledRow.{boxStyledRow}
-use Rattle.styled_scan.specs.ReadyBox.{strokeBox, fillBox}
+use Rattle.styled_box.specs.ReadyBox.{strokeBox, fillBox}
 use Rattle.paint_rows.specs.Rows.{widePainted, rowsBy}
 use Rattle.paint_rows.proofs.InTurn.{painted-near, rows-by-alike, RowsLeft, rows-start, rows-turns, rows-end}
 use Rattle.paint_rows.proofs.paint_box_rows.Statement.{statement}

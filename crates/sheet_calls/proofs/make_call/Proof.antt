@@ -12,7 +12,7 @@ use Rattle.drawing.specs.Drawing.{styledFigure}
 use Rattle.sheet.proofs.Records.{add-takes-no-canvas}
 use Rattle.host_records.specs.RecordNumbers.{numberAt}
 use Rattle.host_records.proofs.Walks.{read-back}
-use Rattle.sheet_calls.specs.CallNumbers.{callKindAt, callLayerAt, paintKind, callOf}
+use Rattle.sheet_call_numbers.specs.CallNumbers.{callKindAt, callLayerAt, paintKind, callOf}
 use borrow.Author.Needs.{needs}
 use Rattle.sheet_calls.proofs.make_call.Statement.{statement}
 use Rattle.sheet_calls.proofs.make_call.Tie as tie

@@ -13,7 +13,7 @@ use Rattle.refusal.specs.declared.Refusal.{Refusal}
 use Rattle.refusal.specs.Refusal.{number, orElse as firstOf, roomCheck}
 use Rattle.refusal.proofs.Checks.{passed-first, passed-next, passed-above, refusal-found}
 use Rattle.canvas_size.specs.CanvasSize.{canvasSizeCheck, canvasLengthCheck}
-use Rattle.sheet_calls.specs.CallNumbers.{callCount, callsOf}
+use Rattle.sheet_call_numbers.specs.CallNumbers.{callCount, callsOf}
 use Rattle.sheet_calls.specs.SheetCalls.{refusedBy, lentCheck}
 use Rattle.sheet_calls.proofs.Runs.{run-from, run-refused, run-not-calls, run-accepted}
 use Rattle.sheet_calls.proofs.run_calls.Statement.{statement}

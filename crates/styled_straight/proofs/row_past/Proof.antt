@@ -17,7 +17,7 @@ use Rattle.scanline.proofs.Placed.{placed-told}
 use Rattle.rounded_rectangle.specs.Relative.{runBetween}
 use Rattle.rounded_rectangle.proofs.Rows.{between-within}
 use Rattle.box_mirrored.specs.Sides.{Straight}
-use Rattle.box_mirrored.specs.MirroredFill.{fillBetween}
+use Rattle.box_mirrored_fill.specs.MirroredFill.{fillBetween}
 use Rattle.ellipse_styled.specs.EllipseStyled.{aroundFill}
 use Rattle.shape.proofs.Within.{area-bounded}
 use Rattle.shape.proofs.Runs.{start-is-near, end-is-near}

@@ -1,0 +1,2 @@
+-- `MirroredFill`: the fill of a row whose two sides are alike.
+pub mod MirroredFill

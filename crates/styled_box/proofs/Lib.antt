@@ -1,0 +1,2 @@
+-- `Straight`: rows that no corner touches are alike.
+pub mod Straight
