@@ -8,7 +8,7 @@ set -eu
 cd "$(dirname "$0")"
 . tests/memory.sh
 if [ $# = 0 ]; then
-    echo 'usage: sh prove.sh NAME...' >&2
+    echo 'usage: sh prove.sh NAME...      where NAME is a crate of crates.txt, as clock' >&2
     exit 2
 fi
 
@@ -52,4 +52,9 @@ trap 'rm -rf "$work"' EXIT
 status=$(cat "$work/status")
 # What was not proved, in the prover's words; target/log has all of it.
 [ "$status" = 0 ] || grep ': error' "$work/log" | cut -c 1-400 | head -n 20 >&2
+if [ "$status" = 0 ]; then
+    for name in "$@"; do
+        [ ! -f "crates/$name/src/main.rt" ] || echo "$name is target/bin/$name; it writes what crates/$name/stdout has"
+    done
+fi
 exit "$status"

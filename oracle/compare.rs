@@ -323,7 +323,7 @@ impl Report {
             }
         }
         self.print_panics();
-        println!("sentences of rust-findings.md held against the original:");
+        println!("findings held against the original:");
         for (what, f) in &self.forecasts {
             println!("  {what}: {} as said, {} not", f.right, f.wrong);
             for e in &f.examples {
@@ -351,7 +351,7 @@ impl Report {
     }
 }
 
-/// What rust-findings.md says of `contains`.
+/// What findings.rs says of `contains`.
 fn foretold_contains(f: &Figure, a: &Area, px: i64, py: i64) -> bool {
     if f.kind == Kind::Ellipse {
         // "`new`, or the test at p"
@@ -939,7 +939,7 @@ const fn unpainted(width: i64, align: i64) -> Style {
     Style { stroke: None, fill: None, width, align }
 }
 
-/// The checked drawings of document 01 and the inputs that rust-findings.md names.
+/// The checked drawings of document 01 and the smallest inputs where the Rust does not finish.
 #[rustfmt::skip]
 pub const FIXED: &[(Figure, Ask, Said)] = &[
     // b, c, d, e
@@ -967,7 +967,7 @@ pub const FIXED: &[(Figure, Ask, Said)] = &[
     (crate_box(0, 0, 5, 5, corner(0, 0)), StyledRow(unpainted(1, 1), 2), Same(&[0, 1, 1, 4, 4, 5])),
     // oval
     (ellipse(0, 0, 4, 4), Paint(Style { fill: Some(9), ..unpainted(0, 1) }, 4, 4), Same(&[0, 9, 9, 0, 9, 9, 9, 9, 9, 9, 9, 9, 0, 9, 9, 0])),
-    // rust-findings.md
+    // where the Rust does not finish
     (ellipse(0, 0, 256, 257), Row(0), Panics(&[117, 139])),
     (ellipse(0, 0, 207, 225), Row(0), Panics(&[94, 113])),
     (ellipse(0, 0, 215, 216), Row(0), Same(&[97, 118])),

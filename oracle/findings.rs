@@ -1,4 +1,4 @@
-//! The sentences of docs/rust-findings.md about where the Rust does not finish, as predicates, so
+//! Where the Rust does not finish, as predicates (docs/DIFFERENCES.md has the reasons), so
 //! that the comparison can hold each of them against what the original really does.
 
 use crate::{records::Kind, reference::Area};

@@ -277,9 +277,8 @@ pub mod primitives {
                 }
             }
 
-            /// rust-findings.md: "`styled.rs` calls `Rectangle::offset` and `contains` without the
-            /// traits in scope, so the stand-in needs them as inherent functions, with the bodies
-            /// of `rectangle/mod.rs`." This is that body.
+            /// `styled.rs` calls `Rectangle::offset` and `contains` without the traits in scope, so
+            /// they are inherent functions here; this is the body of `rectangle/mod.rs`.
             #[inline]
             pub fn offset(&self, offset: i32) -> Self {
                 let size = if offset >= 0 {
