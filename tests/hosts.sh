@@ -5,6 +5,7 @@
 #
 #   sh tests/hosts.sh [LIBRARY]      LIBRARY, or $WUNQABER_LIBRARY: a library built before; else tests/library.sh builds it
 #
+# $ORACLE_COMPILED is a folder that oracle/build.sh --compile filled before.
 # Without rustc the C programs are run all the same, and a line says what is skipped. Without the original's source (oracle/build.sh
 # says where it is looked for) the comparison and the stored calls alone are skipped.
 set -eu
@@ -78,9 +79,10 @@ if [ ! -f "$source/src/primitives/mod.rs" ]; then
     echo 'hosts.sh: skipped, there is no source of the original: the comparison at scale and the stored calls'
     exit 0
 fi
-LIBRARY=$library quietly 'the oracle is not built' sh "$root/oracle/build.sh" "$source" "$work/build"
+build=${ORACLE_COMPILED:-$work/build}
+LIBRARY=$library quietly 'the oracle is not built' sh "$root/oracle/build.sh" ${ORACLE_COMPILED:+--link} "$source" "$build"
 status=0
-timeout "$limit" "$work/build/oracle" scale 1 400 "$seconds" > "$work/scale" || status=$?
+timeout "$limit" "$build/oracle" scale 1 400 "$seconds" > "$work/scale" || status=$?
 if [ "$status" = 124 ]; then
     fail "the comparison at scale did not end within $limit seconds"
 elif [ "$status" != 0 ]; then
@@ -91,7 +93,7 @@ sed -n '/^seed/p; /^equal/,/^refused/p' "$work/scale"
 echo "hosts.sh: $(tail -n 1 "$work/scale")"
 
 mkdir "$work/stored"
-timeout "$limit" "$work/build/oracle" stored "$work/stored" > "$work/log" || {
+timeout "$limit" "$build/oracle" stored "$work/stored" > "$work/log" || {
     tail -n 4 "$work/log" >&2
     fail 'the stored calls could not be made'
 }

@@ -6,8 +6,8 @@
 set -eu
 cd "$(dirname "$0")/.."
 
-# The library that is tested is built here.
-unset WUNQABER_LIBRARY
+# The library that is tested is built here, and so is what it is compared with.
+unset WUNQABER_LIBRARY ORACLE_COMPILED
 
 . tests/memory.sh
 
@@ -23,14 +23,14 @@ began=$(date +%s)
 took() { # the part, the second in which it began
     echo "run.sh: $1: $(($(date +%s) - $2)) s"
 }
-# Runs a test beside others: what it says goes to a file, and its status too.
-beside() { # its name
-    { sh "tests/$@" > "$work/$1.out" 2>&1 && echo 0 || echo 1; } > "$work/$1.status" &
+# Runs a script beside others: what it says goes to a file, and its status too.
+beside() { # the script, its words
+    { sh "$@" > "$work/${1##*/}.out" 2>&1 && echo 0 || echo 1; } > "$work/${1##*/}.status" &
 }
-# What a test said that ran beside others, once it has ended; ends the script if it failed.
-said() { # its name
-    cat "$work/$1.out"
-    [ "$(cat "$work/$1.status")" = 0 ] || fail "tests/$1 failed"
+# What a script said that ran beside others, once it has ended; ends this one if it failed.
+said() { # the script
+    cat "$work/${1##*/}.out"
+    [ "$(cat "$work/${1##*/}.status")" = 0 ] || fail "$1 failed"
 }
 
 # Which public functions promise less than an equation is a list, and complete; and nothing stands here that nobody uses.
@@ -38,7 +38,7 @@ python3 tests/promises.py || fail 'tests/promises.py failed'
 python3 tests/unused.py || fail 'tests/unused.py failed'
 
 # netpbm's tools, installed where they are missing, read stored files: nothing that is proved here.
-beside netpbm.sh
+beside tests/netpbm.sh
 
 # Shows what the gate says as it comes, but for its last line, which is held back until the rest has passed; and notes when the first
 # edit was tried.
@@ -69,26 +69,39 @@ if [ -f "$work/edits" ]; then
     took 'edits and programs' "$(cat "$work/edits")"
 fi
 wait
-said netpbm.sh
+said tests/netpbm.sh
 
 # The library is compiled for x86-64 alone.
 if [ "$(uname -m)" = x86_64 ]; then
     built=$(date +%s)
+    # What the comparison and the self-check need of the original is compiled at the same time.
+    source=${EG_SOURCE:-../shared/docs/src}
+    compiled=
+    if command -v rustc > /dev/null && [ -f "$source/src/primitives/mod.rs" ]; then
+        compiled=$work/oracle
+        beside oracle/build.sh --compile "$source" "$compiled"
+    fi
     rt staticlib wunqaber > "$work/library" 2>&1 || {
         tail -n 20 "$work/library" >&2
         fail 'the static library is not built'
     }
     WUNQABER_LIBRARY=$PWD/target/staticlib/libwunqaber.a
     export WUNQABER_LIBRARY
+    wait
+    if [ -n "$compiled" ]; then
+        said oracle/build.sh
+        ORACLE_COMPILED=$compiled
+        export ORACLE_COMPILED
+    fi
     took 'static library' "$built"
 
     compared=$(date +%s)
-    beside speed.sh --check
-    beside install.sh
+    beside tests/speed.sh --check
+    beside tests/install.sh
     sh tests/hosts.sh
     wait
-    said speed.sh
-    said install.sh
+    said tests/speed.sh
+    said tests/install.sh
     took 'hosts, comparison, self-check and install' "$compared"
 else
     echo 'run.sh: skipped, the library is compiled for x86-64 alone: hosts, comparison, self-check and install'

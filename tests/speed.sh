@@ -28,16 +28,11 @@ if [ -z "$library" ]; then
     sh "$root/tests/library.sh" > "$work/log" 2>&1 || { tail -5 "$work/log" >&2; exit 1; }
     library=$root/target/staticlib/libwunqaber.a
 fi
-LIBRARY=$library OVERFLOW_CHECKS=off sh "$root/oracle/build.sh" "$source" "$work/build" > "$work/log"
-
-# The oracle's program, with the driver in place of its modes.
-sed -e "s|^fn main() {|#[path = \"$root/oracle/bench.rs\"]\nmod bench;\nfn main() {|" \
-    -e 's/modes::main()/bench::main()/' "$work/build/oracle.rs" > "$work/build/bench.rs"
-rustc --edition 2021 -C opt-level=3 -C overflow-checks=off -C codegen-units=1 \
-    -A dead_code -A unused_imports -A unexpected_cfgs -A private_interfaces \
-    --crate-type bin --crate-name bench \
-    --extern az="$work/build/libaz.rlib" \
-    --extern embedded_graphics_core="$work/build/libembedded_graphics_core.rlib" \
-    --cfg library -C "link-arg=$library" \
-    -o "$work/bench" "$work/build/bench.rs"
-"$work/bench" $mode
+if [ "$mode" = check ] && [ -n "${ORACLE_COMPILED:-}" ]; then
+    build=$ORACLE_COMPILED
+    LIBRARY=$library PROGRAM=bench sh "$root/oracle/build.sh" --link "$source" "$build" > "$work/log"
+else
+    build=$work/build
+    LIBRARY=$library PROGRAM=bench OVERFLOW_CHECKS=off sh "$root/oracle/build.sh" "$source" "$build" > "$work/log"
+fi
+"$build/bench" $mode
