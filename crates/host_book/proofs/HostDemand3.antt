@@ -20,7 +20,7 @@ use Rattle.book.specs.Book.{bookAfterAll}
 use Rattle.book.specs.Sheet.{State, WithinSide, answer}
 use Rattle.book.specs.Demand3.{AfterCalls}
 use Rattle.drawing.specs.Drawing.{StyledFigure, drawing}
-use Rattle.sheet.proofs.Places.{sides-pass}
+use Rattle.sheet_checks.proofs.Places.{sides-pass}
 use Rattle.sheet.specs.declared.Sheet.{Sheet}
 use Rattle.sheet.specs.Sheet.{stateOf, openedSheet, sheetAnswer, sheetAfter, canvasAfter}
 use Rattle.sheet.specs.SheetDemand3.{sheetAnswers, sheetAfterAll, canvasAfterAll as Sheet·canvasAfterAll}

@@ -34,7 +34,7 @@ use Rattle.style.specs.declared.Style.{Style}
 use Rattle.style.specs.Style.{styleCheck}
 use Rattle.drawing.specs.Drawing.{StyledFigure, styledFigure, styledCheck, drawing}
 use Rattle.sheet_layers.specs.Layers.{layersOf}
-use Rattle.sheet.proofs.Places.{kept-few}
+use Rattle.sheet_checks.proofs.Places.{kept-few}
 use Rattle.sheet.specs.declared.Sheet.{Sheet}
 use Rattle.sheet.specs.Sheet.{stateOf, sheetAnswer}
 use Rattle.host_records.specs.RecordNumbers.{figureOf, styleOf}

@@ -12,8 +12,8 @@ use Rattle.refusal.specs.declared.Checked.the-variants.{Passed}
 use Rattle.signed.specs.Signed.{maxI32}
 use Rattle.geometry.specs.Limits.{maxLayers}
 use Rattle.book.specs.Book.{paint}
-use Rattle.sheet.proofs.Places.{kept-few}
-use Rattle.sheet.proofs.Answers.{added-room, painted-accepted}
+use Rattle.sheet_checks.proofs.Places.{kept-few}
+use Rattle.sheet_checks.proofs.Answers.{added-room, painted-accepted}
 use Rattle.sheet.specs.declared.Sheet.{Sheet}
 use Rattle.sheet_layers.specs.declared.Layer.{Layer}
 use Rattle.sheet_layers.specs.Layers.{blankLayer}

@@ -22,7 +22,7 @@ use Rattle.sheet_layers.specs.LayerRows.{rowsOwe, someRowsOwe, rowsInOrder}
 use Rattle.book.specs.Book.{paint as Call·paint}
 use Rattle.sheet_layers.specs.declared.Layer.{Layer}
 use Rattle.sheet_layers.specs.Layers.{blankLayer, layerRows}
-use Rattle.sheet.proofs.Answers.{paint-length, paint-no-layer, paint-finished, paint-owed, paint-free}
+use Rattle.sheet_checks.proofs.Answers.{paint-length, paint-no-layer, paint-finished, paint-owed, paint-free}
 use Rattle.sheet.specs.Sheet.{sheetAnswer}
 use Rattle.host_records.specs.RecordNumbers.{listFrom}
 use Rattle.host_sheet_record.specs.SheetRecord.{sheetLength, placeNumbers, layerOf, sheetOf}

@@ -23,7 +23,7 @@ use Rattle.sheet_layers.specs.declared.Layer.{Layer}
 use Rattle.sheet_layers.specs.Layers.{layersOf, layerRows}
 use Rattle.sheet_layers.specs.Layers.{layerOf as Layers·layerOf}
 use Rattle.sheet_layers.proofs.LayerRules.{eachKeeps, regroup, kept-by-parts}
-use Rattle.sheet.proofs.Places.{broken-count, kept-by-layers}
+use Rattle.sheet_checks.proofs.Places.{broken-count, kept-by-layers}
 use Rattle.host_records.specs.RecordNumbers.{numberAt, listFrom, allFrom, within, noneNegative}
 use Rattle.host_sheet_record.specs.SheetRecord.{canvasWidthAt, canvasHeightAt, countAt, sheetLength, placeNumbers, isLayer, holdsRecords, layerOf, sheetOf}
 use Rattle.host_sheet_record.proofs.Parts.{sixteen, count-of-records}

@@ -1,9 +1,6 @@
--- The places of a sheet and its rules (`Places`), and the answers test by test (`Answers`); the record after a call as the sheet of
--- `book`'s definitions (`Records`); demand 3 for lists of `Sheet`'s own calls, with the rules that such lists keep
--- (`SheetDemand3`); and the table's examples computed (`Examples`).
+-- The record after a call as the sheet of `book`'s definitions (`Records`); demand 3 for lists of `Sheet`'s own calls, with the
+-- rules that such lists keep (`SheetDemand3`); and the table's examples computed (`Examples`).
 -- Assumes nothing.
-pub mod Places
-pub mod Answers
 pub mod Records
 pub mod SheetDemand3
 pub mod Examples

@@ -22,8 +22,8 @@ use Rattle.sheet_layers.specs.Layers.{layerOf, blankLayer, layersOf}
 use Rattle.sheet.specs.declared.Sheet.{Sheet}
 use Rattle.sheet.specs.Sheet.{stateOf, sheetAnswer, addedLayer, paintedLayer, carriedOutSheet, sheetAfter, canvasAfter}
 use Rattle.sheet.specs.SheetDemand3.{AddTakesNoCanvas}
-use Rattle.sheet.proofs.Places.{layers-are, layer-at, kept-few}
-use Rattle.sheet.proofs.Answers.{added-room, PaintAccepted, painted-accepted}
+use Rattle.sheet_checks.proofs.Places.{layers-are, layer-at, kept-few}
+use Rattle.sheet_checks.proofs.Answers.{added-room, PaintAccepted, painted-accepted}
 
 module _ (s : Sheet) (sixteen : length (s .layers) ≡ 16) (canvas : List ℕ) where
   -- ---- refused: the record

@@ -13,7 +13,7 @@ use Rattle.book.specs.Demand3.{AfterCalls}
 use Rattle.book.proofs.Demand3.{demand3}
 use Rattle.book.proofs.RulesKept.{rules-kept-by-all}
 use Rattle.drawing.specs.Drawing.{StyledFigure, drawing}
-use Rattle.sheet.proofs.Places.{sides-pass}
+use Rattle.sheet_checks.proofs.Places.{sides-pass}
 use Rattle.sheet.specs.declared.Sheet.{Sheet}
 use Rattle.sheet.specs.Sheet.{stateOf, openedSheet, sheetAnswer, sheetAfter, canvasAfter}
 use Rattle.sheet.specs.SheetDemand3.{sheetAnswers, sheetAfterAll, canvasAfterAll, sheetReached, canvasReached}

@@ -3,15 +3,12 @@
 // every call tests all its rules, so any record can be given. A refused call hands the sheet back as
 // it was given and changes no byte.
 use canvas_size::CanvasSize;
-use checks::Asked;
 use figure::Figure;
 use refusal::Checked;
 use refusal::Refusal;
+use sheet_checks::Asked;
 use sheet_layers::Layer;
 use style::Style;
-
-mod checks;
-
 ghost use mathlib.Core.Path.{_≡_};
 ghost use mathlib.Core.List.{[]};
 ghost use Rattle.book.specs.Book.{add as Call·add, paint as Call·paint};
@@ -38,7 +35,7 @@ pub struct SheetOutcome {
 
 impl Sheet {
     // The largest number of layers (refusals 7 and 9).
-    pub const MAX_LAYERS: u32 = Layer::PLACES as u32;
+    pub const MAX_LAYERS: u32 = sheet_checks::MAX_LAYERS;
 
     // A sheet without layers for a canvas of this size (refusal 6). After a refusal too: a sheet of such
     // a size breaks the rules, so every later call refuses it.
@@ -80,7 +77,7 @@ impl Sheet {
             height: self.height,
         };
         let places = self.layers;
-        let room = checks::check_add(size, self.count, places);
+        let room = sheet_checks::check_add(size, self.count, places);
         let checked = drawing::check(figure, style).or_else(room);
         let Checked::Passed = checked else {
             return SheetOutcome {
@@ -114,7 +111,7 @@ impl Sheet {
             height: self.height,
         };
         let places = self.layers;
-        let asked = checks::asked_row(size, self.count, places, layer, canvas.len());
+        let asked = sheet_checks::asked_row(size, self.count, places, layer, canvas.len());
         let Asked::Row(row) = asked else {
             return SheetOutcome {
                 sheet: self,

@@ -15,8 +15,8 @@ use Rattle.refusal.specs.declared.Refusal.the-variants.{SheetRule}
 use Rattle.refusal.specs.declared.Checked.{Checked}
 use Rattle.refusal.specs.declared.Checked.the-variants.{Passed, Refused}
 use Rattle.canvas_size.specs.CanvasSize.{canvasSizeCheck}
-use Rattle.sheet.proofs.Places.{broken-size}
-use Rattle.sheet.proofs.Answers.{paint-broken}
+use Rattle.sheet_checks.proofs.Places.{broken-size}
+use Rattle.sheet_checks.proofs.Answers.{paint-broken}
 use Rattle.book.specs.Book.{paint as Call·paint}
 use Rattle.sheet.specs.declared.Sheet.{Sheet}
 use Rattle.sheet.specs.Sheet.{sheetAnswer}

@@ -18,8 +18,8 @@ use Rattle.drawing.proofs.PaintRow.{paint-by-found}
 use Rattle.sheet_layers.specs.declared.Layer.{Layer}
 use Rattle.sheet_layers.specs.Layers.{blankLayer}
 use Rattle.sheet_layers.proofs.LayerRules.{LayerWithin}
-use Rattle.sheet.proofs.Places.{kept-few, kept-layer, kept-width}
-use Rattle.sheet.proofs.Answers.{PaintAccepted, painted-accepted}
+use Rattle.sheet_checks.proofs.Places.{kept-few, kept-layer, kept-width}
+use Rattle.sheet_checks.proofs.Answers.{PaintAccepted, painted-accepted}
 use Rattle.sheet.specs.declared.Sheet.{Sheet}
 use Rattle.sheet.proofs.Records.{painted-canvas}
 use Rattle.host_sheet_record.specs.SheetRecord.{nextRowAt, placeAt, sheetOf}

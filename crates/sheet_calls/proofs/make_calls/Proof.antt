@@ -6,7 +6,7 @@ use native.Mathlib.Omega.{arith}
 use borrow.Author.Needs.{needs}
 use lib.ListN.{length, length-set}
 use Rattle.geometry.specs.Limits.{maxLayers}
-use Rattle.sheet.proofs.Places.{sixteen-places}
+use Rattle.sheet_checks.proofs.Places.{sixteen-places}
 use Rattle.sheet_call_numbers.proofs.Walks.{call-part-length}
 use Rattle.sheet_calls.proofs.Runs.{CallsLeft, all-left, one-less-left, called-part, none-left}
 use Rattle.sheet_calls.proofs.make_calls.Statement.{statement}

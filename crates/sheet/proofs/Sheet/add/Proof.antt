@@ -17,8 +17,8 @@ use Rattle.book.specs.Book.{add as Call·add}
 use Rattle.drawing.specs.declared.StrokeRows.{StrokeRows}
 use Rattle.drawing.specs.Drawing.{StyledFigure, styledFigure, styledCheck}
 use Rattle.sheet_layers.proofs.LayerRules.{checked-figure, checked-stroke}
-use Rattle.sheet.proofs.Places.{sixteen-places}
-use Rattle.sheet.proofs.Answers.{added-room}
+use Rattle.sheet_checks.proofs.Places.{sixteen-places}
+use Rattle.sheet_checks.proofs.Answers.{added-room}
 use Rattle.sheet.specs.Sheet.{sheetAnswer, withLayer, carriedOutSheet}
 use Rattle.sheet.proofs.Records.{refused-record, added-record}
 use Rattle.sheet.proofs.Sheet.add.Statement.{statement}

@@ -22,9 +22,9 @@ use Rattle.sheet_layers.specs.Layers.{blankLayer}
 use Rattle.sheet_layers.proofs.LayerRules.{LayerWithin}
 use Rattle.sheet.specs.declared.Sheet.{Sheet}
 use Rattle.sheet.specs.Sheet.{sheetAnswer, withLayer, carriedOutSheet}
-use Rattle.sheet.specs.Asked.{askedAnswer, askedRefusal, NextRow}
-use Rattle.sheet.proofs.Places.{sixteen-places, kept-few, kept-layer, kept-width}
-use Rattle.sheet.proofs.Answers.{PaintAccepted, painted-accepted}
+use Rattle.sheet_checks.specs.Asked.{askedAnswer, askedRefusal, NextRow}
+use Rattle.sheet_checks.proofs.Places.{sixteen-places, kept-few, kept-layer, kept-width}
+use Rattle.sheet_checks.proofs.Answers.{PaintAccepted, painted-accepted}
 use Rattle.sheet.proofs.Records.{refused-record, refused-canvas, painted-record, painted-canvas}
 use Rattle.sheet.proofs.Sheet.paint.Statement.{statement}
 use Rattle.sheet.proofs.Sheet.paint.Tie as tie

@@ -1,4 +1,4 @@
--- `sheet::checks::test_rules` meets its contract: the size, the count and then the layers decide whether the rules are kept.
+-- `sheet_checks::test_rules` meets its contract: the size, the count and then the layers decide whether the rules are kept.
 -- Assumes nothing.
 use mathlib.Core.Path.{_≡_, sym, _∙_}
 use mathlib.Core.Bool.{false≢true}
@@ -6,9 +6,9 @@ use native.Mathlib.Omega.{arith}
 use borrow.Author.Needs.{needs}
 use lib.ListN.{length}
 use Rattle.sheet_layers.proofs.LayerRules.{not-kept}
-use Rattle.sheet.proofs.Places.{broken-size, broken-count, kept-by-layers}
-use Rattle.sheet.proofs.checks.test_rules.Statement.{statement}
-use Rattle.sheet.proofs.checks.test_rules.Tie as tie
+use Rattle.sheet_checks.proofs.Places.{broken-size, broken-count, kept-by-layers}
+use Rattle.sheet_checks.proofs.test_rules.Statement.{statement}
+use Rattle.sheet_checks.proofs.test_rules.Tie as tie
 
 sixteen : (c : tie.Start) → length (c .args .places) ≡ 16
 sixteen c = omega arith

@@ -1,13 +1,13 @@
--- `sheet::checks::check_add` meets its contract: whether the rules are kept, and then whether a place is free.
+-- `sheet_checks::check_add` meets its contract: whether the rules are kept, and then whether a place is free.
 -- Assumes nothing.
 use mathlib.Core.Path.{_≡_, sym, _∙_}
 use native.Mathlib.Omega.{arith}
 use borrow.Author.Needs.{needs}
 use borrow.Author.Tests.{not-true, not-false}
 use lib.ListN.{length}
-use Rattle.sheet.proofs.Answers.{add-broken, add-full, add-free}
-use Rattle.sheet.proofs.checks.check_add.Statement.{statement}
-use Rattle.sheet.proofs.checks.check_add.Tie as tie
+use Rattle.sheet_checks.proofs.Answers.{add-broken, add-full, add-free}
+use Rattle.sheet_checks.proofs.check_add.Statement.{statement}
+use Rattle.sheet_checks.proofs.check_add.Tie as tie
 
 sixteen : (c : tie.Start) → length (c .args .places) ≡ 16
 sixteen c = omega arith

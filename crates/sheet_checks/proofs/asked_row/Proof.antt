@@ -1,4 +1,4 @@
--- `sheet::checks::asked_row` meets its contract: the tests made are those of the answer, in the table's order, with the rows that
+-- `sheet_checks::asked_row` meets its contract: the tests made are those of the answer, in the table's order, with the rows that
 -- the test of the rules found.
 -- Assumes nothing.
 use borrow.Author.Needs.{needs}
@@ -23,10 +23,10 @@ use Rattle.sheet_layers.specs.declared.rows.LayerRows.{LayerRows}
 use Rattle.sheet_layers.specs.LayerRows.{someRowsOwe}
 use Rattle.sheet_layers.specs.Layers.{blankLayer, layersOf, layerRows}
 use Rattle.sheet_layers.proofs.RowTests.{noRows, RowsFit, le-held}
-use Rattle.sheet.proofs.Places.{kept-few, kept-layer}
-use Rattle.sheet.proofs.Answers.{paint-broken, paint-length, paint-no-layer, paint-finished, paint-owed, paint-free, rows-at, rows-before}
-use Rattle.sheet.proofs.checks.asked_row.Statement.{statement}
-use Rattle.sheet.proofs.checks.asked_row.Tie as tie
+use Rattle.sheet_checks.proofs.Places.{kept-few, kept-layer}
+use Rattle.sheet_checks.proofs.Answers.{paint-broken, paint-length, paint-no-layer, paint-finished, paint-owed, paint-free, rows-at, rows-before}
+use Rattle.sheet_checks.proofs.asked_row.Statement.{statement}
+use Rattle.sheet_checks.proofs.asked_row.Tie as tie
 
 sixteen : (c : tie.Start) → length (c .args .places) ≡ 16
 sixteen c = omega arith

@@ -1,6 +1,5 @@
 // The refusals 7 to 12 of a sheet with its size, its count and its places for layers, whatever they
 // hold.
-use crate::Sheet;
 use canvas_size::CanvasSize;
 use refusal::Checked;
 use refusal::Refusal;
@@ -16,7 +15,10 @@ ghost use Rattle.book.specs.Book.{add as Call·add, paint as Call·paint};
 ghost use Rattle.book.specs.Sheet.{keepsRules, answer};
 ghost use Rattle.drawing.specs.Drawing.{StyledFigure, drawing};
 ghost use Rattle.sheet_layers.specs.Layers.{layersOf, stateOf, layerRows};
-ghost use Rattle.sheet.specs.Asked.{askedAnswer, askedRefusal, NextRow};
+ghost use Rattle.sheet_checks.specs.Asked.{askedAnswer, askedRefusal, NextRow};
+
+// The largest number of layers, also `Sheet::MAX_LAYERS`.
+pub const MAX_LAYERS: u32 = Layer::PLACES as u32;
 
 // What a paint call on a layer finds: the row that it asks for, or a refusal.
 pub enum Asked {
@@ -44,7 +46,7 @@ fn test_rules(size: CanvasSize, count: u32, places: [Layer; Layer::PLACES]) -> R
     let Checked::Passed = size.check() else {
         return RulesTested::broken();
     };
-    if Sheet::MAX_LAYERS < count {
+    if MAX_LAYERS < count {
         return RulesTested::broken();
     }
     sheet_layers::test_rules(places, count as usize)
@@ -59,7 +61,7 @@ pub fn check_add(size: CanvasSize, count: u32, places: [Layer; Layer::PLACES]) -
     if !tested.kept {
         return Checked::Refused(Refusal::SheetRule);
     }
-    if Sheet::MAX_LAYERS <= count {
+    if MAX_LAYERS <= count {
         return Checked::Refused(Refusal::SheetFull);
     }
     Checked::Passed

@@ -10,8 +10,8 @@ use Rattle.refusal.specs.declared.Checked.{Checked}
 use Rattle.refusal.specs.declared.Checked.the-variants.{Passed, Refused}
 use Rattle.sheet_layers.specs.declared.Layer.{Layer}
 use Rattle.sheet_layers.specs.Layers.{blankLayer}
-use Rattle.sheet.specs.declared.checks.Asked.{Asked}
-use Rattle.sheet.specs.declared.checks.Asked.the-variants as asked
+use Rattle.sheet_checks.specs.declared.Asked.{Asked}
+use Rattle.sheet_checks.specs.declared.Asked.the-variants as asked
 
 -- the answer that it leads to ('The records', the table): a refusal; a row is painted
 abbrev pub askedAnswer : Asked → Checked

@@ -31,7 +31,7 @@ use Rattle.sheet_layers.specs.LayerRows.{someRowsOwe}
 use Rattle.sheet_layers.specs.Layers.{blankLayer, layersOf, stateOf, layerRows}
 use Rattle.sheet_layers.proofs.RowTests.{noRows}
 use Rattle.sheet_layers.proofs.LayerRules.{owe-by-rows}
-use Rattle.sheet.proofs.Places.{layers-many, layer-at, layer-past, layers-before, kept-few}
+use Rattle.sheet_checks.proofs.Places.{layers-many, layer-at, layer-past, layers-before, kept-few}
 
 module _ (W H count : ℕ) (places : List Layer) (sixteen : length places ≡ 16) where
   abbrev kept : Bool

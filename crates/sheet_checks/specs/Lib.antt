@@ -1,0 +1,2 @@
+-- What a paint call finds (`Asked`).
+pub mod Asked
