@@ -96,10 +96,12 @@ if [ "$(uname -m)" = x86_64 ]; then
     took 'static library' "$built"
 
     compared=$(date +%s)
+    beside tests/hosts.sh
     beside tests/speed.sh --check
     beside tests/install.sh
-    sh tests/hosts.sh
+    sh tests/compare.sh
     wait
+    said tests/hosts.sh
     said tests/speed.sh
     said tests/install.sh
     took 'hosts, comparison, self-check and install' "$compared"

@@ -2,7 +2,7 @@
 """Says what nobody uses, and ends with status 1 if there is anything. It reads the files as text, and looks for
 
 - libraries in crates.txt that a crate does not use: no file names anything of them, and no value can have a type of theirs;
-- names in `use` lines that the file does not have;
+- names in `use` lines that the file does not have, or that two lines bring;
 - public functions that no other file calls: a function by its path, a method by its name, whatever type it is called on;
 - laws that no proof cites: no other file has the law's name and names its module, and its own file does not use it.
 """
@@ -109,8 +109,12 @@ def imported(line):
 def unused_imports(files):
     for short, source in files.items():
         rest = re.sub(r'(?m)^(?:(?:pub|ghost|unfoldable|abbrev) )*use [^\n]*$', '', source)
+        brought = set()
         for line in re.findall(r'(?m)^(?:ghost )?use [^\n]*$', source):
             for name in imported(line):
+                if (line.startswith('ghost'), name) in brought:
+                    yield f'{short}: {name} is brought twice'
+                brought.add((line.startswith('ghost'), name))
                 if not has(rest, name):
                     yield f'{short}: uses nothing of {name}'
 
@@ -161,7 +165,7 @@ def main():
         found |= set(unused_imports(files))
     for line in sorted(found):
         print('unused.py: ' + line)
-    print('unused.py: %s' % (f'{len(found)} things that nobody uses' if found else 'nothing unused'))
+    print('unused.py: %s' % (f'{len(found)} things to mend' if found else 'nothing unused'))
     sys.exit(1 if found else 0)
 
 

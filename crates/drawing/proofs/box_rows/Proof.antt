@@ -2,15 +2,13 @@
 -- Assumes nothing.
 use native.Mathlib.Omega.{arith}
 use Rattle.signed.proofs.Laws.{int}
-use mathlib.Core.Path.{ap, _∙_}
+use mathlib.Core.Path.{_≡_, sym, ap, subst, _∙_}
 use mir.Facts.{toZ-ofZ}
 use Rattle.rectangle.specs.Rectangle.{offset as Rectangle·offset}
-use Rattle.figure.proofs.Within.{own-area, area-bounded}
-use mathlib.Core.Path.{_≡_, sym, ap, subst, _∙_}
+use Rattle.figure.proofs.Within.{own-area, area-bounded, offset-area}
 use mir.Syntax.{w32}
 use mir.Val.{SFits}
 use Rattle.rectangle.specs.declared.Rectangle.{Rectangle}
-use Rattle.figure.proofs.Within.{own-area, area-bounded, offset-area}
 use Rattle.drawing.proofs.box_rows.Statement.{statement}
 use Rattle.drawing.proofs.box_rows.Tie as tie
 

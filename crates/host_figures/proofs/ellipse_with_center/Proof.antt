@@ -8,8 +8,6 @@ use Rattle.figure.specs.declared.calls.FigureAnswer.{FigureAnswer}
 use Rattle.figure.specs.Calls.{figureOutcome, ellipseWithCenterCall}
 use Rattle.host_figures.specs.Figures.{ellipseWithCenterSaid}
 use Rattle.host_answers.proofs.Telling.{tells-as, tells-refusal}
-use mathlib.Core.Path.{sym, ap, _∙_}
-use Rattle.figure.specs.Calls.{figureOutcome}
 use borrow.Author.Needs.{needs}
 use Rattle.host_figures.proofs.ellipse_with_center.Statement.{statement}
 use Rattle.host_figures.proofs.ellipse_with_center.Tie as tie
