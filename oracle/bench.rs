@@ -3,8 +3,7 @@
 //! rows and by its `pixels`, and by the floor, which is the runs of the styled rows, computed
 //! beforehand, by slice fills alone. The page is also painted through a sheet, a row at a time.
 //!
-//! All of them must leave the same bytes, else nothing is timed. Built by tests/speed.sh in place of
-//! the oracle's `main`.
+//! All of them must leave the same bytes, else nothing is timed. Built by build.sh with PROGRAM=bench.
 //!
 //!   bench            the table
 //!   bench check      the bytes alone; prints no times

@@ -4,7 +4,7 @@
 #
 #   sh build.sh [--compile | --link] [SOURCE [BUILD]]
 #
-#   --compile  only what needs no library; --link then makes the program of that
+#   --compile  only what needs no library, which is all but the program; --link then makes that, with the library
 #   SOURCE  the folder that holds src/primitives; else $EG_SOURCE; else ../shared/docs/src, taken
 #           from the root of the repository (the folder above this one)
 #   BUILD   where to build; else $ORACLE_BUILD; else the folder `build` beside this file
@@ -34,10 +34,14 @@ link_program() {
     [ -z "$library" ] || set -- -C "link-arg=$(cd "$(dirname "$library")" && pwd)/$(basename "$library")"
     rustc $flags --crate-type bin --crate-name "$program" "$@" -L "dependency=$build" --extern parts="$build/libparts.rlib" \
         -o "$build/$program" "$build/$program.rs"
-    echo "built $build/$program (overflow checks $checks)"
+    echo "built $build/$program"
 }
 
 if [ "$step" = link ]; then
+    [ -n "$library" ] || {
+        echo 'build.sh: --link takes the library as LIBRARY' >&2
+        exit 1
+    }
     link_program
     exit 0
 fi

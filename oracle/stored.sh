@@ -29,7 +29,7 @@ fail() {
 [ -f "$library" ] || fail "there is no library '$library'; \`sh tests/library.sh\` proves and builds it"
 work=$(mktemp -d)
 trap 'rm -rf "$work"' EXIT
-LIBRARY=$library sh "$here/build.sh" "$source" "$build" > "$work/log" 2>&1 || {
+LIBRARY=$library PROGRAM=oracle sh "$here/build.sh" "$source" "$build" > "$work/log" 2>&1 || {
     tail -n 20 "$work/log" >&2
     fail 'the oracle is not built'
 }

@@ -10,15 +10,15 @@ set -eu
 # What the random rounds of the comparison may take, and when it is taken to hang.
 seconds=60
 limit=900
-. "$(dirname "$0")/linked.sh"
-
-source=${EG_SOURCE:-$root/../shared/docs/src}
+source=${EG_SOURCE:-$(dirname "$0")/../../shared/docs/src}
 if ! command -v rustc > /dev/null || [ ! -f "$source/src/primitives/mod.rs" ]; then
     echo 'compare.sh: skipped, there is no rustc or no source of the original'
     exit 0
 fi
+. "$(dirname "$0")/linked.sh"
+
 build=${ORACLE_COMPILED:-$work/build}
-LIBRARY=$library quietly 'the oracle is not built' sh "$root/oracle/build.sh" ${ORACLE_COMPILED:+--link} "$source" "$build"
+LIBRARY=$library PROGRAM=oracle quietly 'the oracle is not built' sh "$root/oracle/build.sh" ${ORACLE_COMPILED:+--link} "$source" "$build"
 status=0
 timeout "$limit" "$build/oracle" scale 1 400 "$seconds" > "$work/scale" || status=$?
 if [ "$status" = 124 ]; then

@@ -7,7 +7,7 @@ set -eu
 cd "$(dirname "$0")/.."
 
 # The library that is tested is built here, and so is what it is compared with.
-unset WUNQABER_LIBRARY ORACLE_COMPILED
+unset WUNQABER_LIBRARY ORACLE_COMPILED OVERFLOW_CHECKS PROGRAM
 
 . tests/memory.sh
 

@@ -5,10 +5,10 @@
 #   sh tests/speed.sh --check [SOURCE]    only that all ways of painting leave the same bytes; no times
 #
 # It proves and builds `wunqaber` (or takes $WUNQABER_LIBRARY, a library built before), builds the original without
-# overflow checks into a folder of its own, and links both into one program; with --check it takes the original from
-# $ORACLE_COMPILED, a folder that oracle/build.sh --compile filled before, where that is set. Times are printed and not judged; it fails
-# where bytes differ. Without rustc or the source folder (oracle/build.sh says where it is looked for) it says so and
-# ends with 0.
+# overflow checks into a folder of its own, and links both into one program. With --check it takes the original from
+# $ORACLE_COMPILED, a folder that oracle/build.sh --compile filled before, where that is set; overflow checks are then
+# as they were there. Times are printed and not judged; it fails where bytes differ. Without rustc or the source folder
+# (oracle/build.sh says where it is looked for) it says so and ends with 0.
 set -eu
 root=$(cd "$(dirname "$0")/.." && pwd)
 mode=
