@@ -10,22 +10,33 @@
 
 enum call {
     CONTAINS, ROW, POINTS, OFFSET, CONFINED_RADII, ELLIPSE_WITH_CENTER, STYLED_ROW, STYLED_BOUNDING_BOX,
-    PAINT_FIGURE, SHEET_OPEN, SHEET_ADD, SHEET_PAINT, RUN_CALLS, WRITE_P5
+    PAINT_FIGURE, SHEET_OPEN, SHEET_ADD, SHEET_PAINT, RUN_CALLS, WRITE_P5, WRITE_P4, READ_NETPBM
 };
 
 static const char *const names[] = {
     "contains", "row", "points", "offset", "confined_radii", "ellipse_with_center", "styled_row",
-    "styled_bounding_box", "paint_figure", "sheet_open", "sheet_add", "sheet_paint", "run_calls", "write_p5"
+    "styled_bounding_box", "paint_figure", "sheet_open", "sheet_add", "sheet_paint", "run_calls", "write_p5",
+    "write_p4", "read_netpbm"
 };
 
 /* What is changed in the arguments: one of them gets the table's value. A length of the sheet, of a list or
  * of a buffer is the length that the call is told. UNEVEN_BOX, BORDERED and OBLONG are another figure, another
- * style and a canvas 8 by 2, for which numbers exchanged with each other would show. */
+ * style and a canvas 8 by 2, for which numbers exchanged with each other would show. NINE_BY_TWO is a canvas whose
+ * rows have a bit more than a byte. PICTURE is another file to read. The last three change two arguments, so that
+ * two refusals apply: the canvas gets the table's length where there is no `out`, and where the file is cut off; or
+ * `out` gets it where the file is cut off. */
 enum change {
-    AS_IS, UNEVEN_BOX, BORDERED, OBLONG, KIND, X, WIDTH, RADIUS, FIGURE_LENGTH, STROKE, FILL, STROKE_WIDTH,
-    ALIGNMENT, STYLE_LENGTH, ASKED, CENTER_X, CENTER_WIDTH, CANVAS_WIDTH, CANVAS_LENGTH, LIST_LENGTH,
+    AS_IS, UNEVEN_BOX, BORDERED, OBLONG, NINE_BY_TWO, KIND, X, WIDTH, RADIUS, FIGURE_LENGTH, STROKE, FILL,
+    STROKE_WIDTH, ALIGNMENT, STYLE_LENGTH, ASKED, CENTER_X, CENTER_WIDTH, CANVAS_WIDTH, CANVAS_LENGTH, LIST_LENGTH,
     FILE_LENGTH, OUT_LENGTH, ANSWERS_LENGTH, SHEET_COUNT, SHEET_NEXT_ROW, SHEET_LAYER_KIND, SHEET_LENGTH,
-    LAYER, CALL_KIND, CALL_LAYER, CALLS_LENGTH
+    LAYER, CALL_KIND, CALL_LAYER, CALLS_LENGTH, PICTURE, CANVAS_LENGTH_WITHOUT_OUT, CANVAS_LENGTH_CUT_OFF,
+    OUT_LENGTH_CUT_OFF
+};
+
+/* The files to read, by what is of note in them. Those of BITS are P4, all others P5 or nothing that is read. */
+enum picture {
+    GREY, GREY_OBLONG, COMMENTED, LONG_NUMBERS, BITS, BITS_OBLONG, BITS_NINE_BY_TWO, PLAIN, OTHER_MAXIMUM, NO_WIDTH,
+    NO_GAP, FORM_FEED, COMMENT_LAST, TOO_WIDE, NO_ROWS, WIDE_WITH_OTHER_MAXIMUM
 };
 
 /* The arguments of all calls. The figure is the oval 4 by 4 at (0, 0), or a box for the call that asks for
@@ -49,7 +60,7 @@ typedef struct {
     wunqaber_sheet sheet;
     uint32_t answers[4];
     uint8_t canvas[20];
-    uint8_t file[32];
+    uint8_t file[48];
 } buffers;
 
 typedef struct {
@@ -193,6 +204,48 @@ static const check checks[] = {
     {WRITE_P5, CANVAS_LENGTH, 15, 8},
     {WRITE_P5, FILE_LENGTH, 26, 13},
     {WRITE_P5, OUT_LENGTH, 0, 13},
+    {WRITE_P5, CANVAS_LENGTH_WITHOUT_OUT, 15, 8},
+
+    {WRITE_P4, AS_IS, 0, 0},
+    {WRITE_P4, OBLONG, 0, 0},
+    {WRITE_P4, NINE_BY_TWO, 0, 0},
+    {WRITE_P4, FILE_LENGTH, 11, 0},
+    {WRITE_P4, CANVAS_WIDTH, 0, 6},
+    {WRITE_P4, CANVAS_WIDTH, 1025, 6},
+    {WRITE_P4, CANVAS_LENGTH, 15, 8},
+    {WRITE_P4, CANVAS_LENGTH, 17, 8},
+    {WRITE_P4, CANVAS_LENGTH_WITHOUT_OUT, 15, 8},
+    {WRITE_P4, FILE_LENGTH, 10, 13},
+    {WRITE_P4, OUT_LENGTH, 0, 13},
+
+    {READ_NETPBM, AS_IS, 0, 0},
+    {READ_NETPBM, PICTURE, GREY_OBLONG, 0},
+    {READ_NETPBM, PICTURE, COMMENTED, 0},
+    {READ_NETPBM, PICTURE, LONG_NUMBERS, 0},
+    {READ_NETPBM, PICTURE, BITS, 0},
+    {READ_NETPBM, PICTURE, BITS_OBLONG, 0},
+    {READ_NETPBM, PICTURE, BITS_NINE_BY_TWO, 0},
+    {READ_NETPBM, FILE_LENGTH, 48, 0},
+    {READ_NETPBM, OUT_LENGTH, 2, 0},
+    {READ_NETPBM, PICTURE, PLAIN, 14},
+    {READ_NETPBM, PICTURE, OTHER_MAXIMUM, 14},
+    {READ_NETPBM, PICTURE, NO_WIDTH, 14},
+    {READ_NETPBM, PICTURE, NO_GAP, 14},
+    {READ_NETPBM, PICTURE, FORM_FEED, 14},
+    {READ_NETPBM, PICTURE, COMMENT_LAST, 14},
+    {READ_NETPBM, FILE_LENGTH, 0, 14},
+    {READ_NETPBM, FILE_LENGTH, 10, 14},
+    {READ_NETPBM, PICTURE, WIDE_WITH_OTHER_MAXIMUM, 14},
+    {READ_NETPBM, PICTURE, TOO_WIDE, 6},
+    {READ_NETPBM, PICTURE, NO_ROWS, 6},
+    {READ_NETPBM, CANVAS_LENGTH, 15, 8},
+    {READ_NETPBM, CANVAS_LENGTH, 17, 8},
+    {READ_NETPBM, CANVAS_LENGTH_WITHOUT_OUT, 15, 8},
+    {READ_NETPBM, CANVAS_LENGTH_CUT_OFF, 15, 8},
+    {READ_NETPBM, OUT_LENGTH, 1, 13},
+    {READ_NETPBM, OUT_LENGTH_CUT_OFF, 1, 13},
+    {READ_NETPBM, FILE_LENGTH, 26, 15},
+    {READ_NETPBM, FILE_LENGTH, 11, 15},
 };
 
 static const wunqaber_figure oval = {WUNQABER_ELLIPSE, 0, 0, 4, 4, {0, 0, 0, 0, 0, 0, 0, 0}};
@@ -200,6 +253,38 @@ static const wunqaber_figure crate_box = {WUNQABER_CRATE_BOX, 0, 0, 10, 100, {9,
 static const wunqaber_figure uneven_box = {WUNQABER_CRATE_BOX, 5, 7, 10, 100, {1, 11, 2, 12, 3, 13, 4, 14}};
 static const wunqaber_style filled = {WUNQABER_ABSENT, 9, 0, WUNQABER_CENTER};
 static const wunqaber_style bordered = {40, 9, 1, WUNQABER_INSIDE};
+
+/* The canvas that is written as P4, and the rasters of it: 4 by 4, 8 by 2 and 9 by 2. The rasters to read have other
+ * filling bits, of which nothing may be seen. */
+static const uint8_t dotted[] = {0, 1, 255, 0, 7, 0, 0, 128, 2, 0, 3, 0, 0, 5, 0, 4, 90, 9};
+static const uint8_t packed[] = {0x60, 0x90, 0xa0, 0x50}, to_unpack[] = {0x6f, 0x95, 0xaa, 0x5b};
+static const uint8_t packed_oblong[] = {0x69, 0xa5};
+static const uint8_t packed_nine[] = {0x69, 0x80, 0x4b, 0x80}, to_unpack_nine[] = {0x69, 0xff, 0x4b, 0xd5};
+
+/* The files to read: header and raster, and what they give where they are accepted. */
+static const struct {
+    const char *header;
+    const uint8_t *raster;
+    size_t raster_length;
+    int32_t width, height;
+} pictures[] = {
+    [GREY] = {"P5\n4 4\n255\n", dotted, 16, 4, 4},
+    [GREY_OBLONG] = {"P5\n8 2\n255\n", dotted, 16, 8, 2},
+    [COMMENTED] = {"P5#5\r4# 9\n\t4 \r#255\n255\t", dotted, 16, 4, 4},
+    [LONG_NUMBERS] = {"P5\n0000000000004\n4\n0255\n", dotted, 16, 4, 4},
+    [BITS] = {"P4\n4 4\n", to_unpack, 4, 4, 4},
+    [BITS_OBLONG] = {"P4\n8 2\n", packed_oblong, 2, 8, 2},
+    [BITS_NINE_BY_TWO] = {"P4\n9 2\n", to_unpack_nine, 4, 9, 2},
+    [PLAIN] = {"P2\n4 4\n255\n", dotted, 16, 0, 0},
+    [OTHER_MAXIMUM] = {"P5\n4 4\n254\n", dotted, 16, 0, 0},
+    [NO_WIDTH] = {"P5\n-4 4\n255\n", dotted, 16, 0, 0},
+    [NO_GAP] = {"P54 4\n255\n", dotted, 16, 0, 0},
+    [FORM_FEED] = {"P5\f4 4\n255\n", dotted, 16, 0, 0},
+    [COMMENT_LAST] = {"P5\n4 4\n255#\n", dotted, 16, 0, 0},
+    [TOO_WIDE] = {"P5\n1025 4\n255\n", dotted, 16, 0, 0},
+    [NO_ROWS] = {"P5\n4 0\n255\n", dotted, 16, 0, 0},
+    [WIDE_WITH_OTHER_MAXIMUM] = {"P5\n1025 4\n254\n", dotted, 16, 0, 0},
+};
 
 /* The arguments as they are accepted. Calls that may be refused for a radius get the box. */
 static arguments accepted(const check *c)
@@ -232,7 +317,18 @@ static arguments accepted(const check *c)
     return a;
 }
 
-/* The buffers before a call: a pattern, and a sheet 4 by 4 with the oval twice. */
+/* Puts a file to read, and gives its length. */
+static size_t put_picture(buffers *b, enum picture picture)
+{
+    size_t header_length = strlen(pictures[picture].header);
+
+    memcpy(b->file, pictures[picture].header, header_length);
+    memcpy(b->file + header_length, pictures[picture].raster, pictures[picture].raster_length);
+    return header_length + pictures[picture].raster_length;
+}
+
+/* The buffers before a call: a pattern, and a sheet 4 by 4 with the oval twice; to write P4 the dotted canvas, to
+ * read a file with it. */
 static buffers lent(const check *c)
 {
     buffers b;
@@ -249,6 +345,10 @@ static buffers lent(const check *c)
         b.sheet.layers[i].style = filled;
         b.sheet.layers[i].next_row = 0;
     }
+    if (c->call == WRITE_P4)
+        memcpy(b.canvas, dotted, sizeof dotted);
+    if (c->call == READ_NETPBM)
+        put_picture(&b, GREY);
     return b;
 }
 
@@ -263,6 +363,11 @@ static void change(const check *c, arguments *a, buffers *b)
     case OBLONG:
         a->width = 8;
         a->height = 2;
+        break;
+    case NINE_BY_TWO:
+        a->width = 9;
+        a->height = 2;
+        a->canvas_length = 18;
         break;
     case KIND: a->figure.kind = value; break;
     case X: a->figure.x = value; break;
@@ -295,6 +400,23 @@ static void change(const check *c, arguments *a, buffers *b)
     case CALL_KIND: a->calls[2][0] = value; break;
     case CALL_LAYER: a->calls[2][1] = value; break;
     case CALLS_LENGTH: a->calls_length = (size_t)value; break;
+    case PICTURE:
+        a->file_length = put_picture(b, (enum picture)value);
+        if (value == BITS_NINE_BY_TWO)
+            a->canvas_length = 18;
+        break;
+    case CANVAS_LENGTH_WITHOUT_OUT:
+        a->canvas_length = (size_t)value;
+        a->out_length = 0;
+        break;
+    case CANVAS_LENGTH_CUT_OFF:
+        a->canvas_length = (size_t)value;
+        a->file_length--;
+        break;
+    case OUT_LENGTH_CUT_OFF:
+        a->out_length = (size_t)value;
+        a->file_length--;
+        break;
     }
 }
 
@@ -338,6 +460,11 @@ static uint32_t make(enum call call, const arguments *a, buffers *b)
     case WRITE_P5:
         return wunqaber_write_p5(a->width, a->height, b->canvas, a->canvas_length, b->file, a->file_length,
                                  b->out, a->out_length);
+    case WRITE_P4:
+        return wunqaber_write_p4(a->width, a->height, b->canvas, a->canvas_length, b->file, a->file_length,
+                                 b->out, a->out_length);
+    case READ_NETPBM:
+        return wunqaber_read_netpbm(b->file, a->file_length, b->canvas, a->canvas_length, b->out, a->out_length);
     }
     return UINT32_MAX;
 }
@@ -346,7 +473,8 @@ static uint32_t make(enum call call, const arguments *a, buffers *b)
 static int has_typed_form(const check *c)
 {
     switch (c->change) {
-    case FIGURE_LENGTH: case STYLE_LENGTH: case OUT_LENGTH: case SHEET_LENGTH: case CALLS_LENGTH: return 0;
+    case FIGURE_LENGTH: case STYLE_LENGTH: case OUT_LENGTH: case SHEET_LENGTH: case CALLS_LENGTH:
+    case CANVAS_LENGTH_WITHOUT_OUT: case OUT_LENGTH_CUT_OFF: return 0;
     default: return 1;
     }
 }
@@ -474,6 +602,17 @@ static uint32_t make_typed(enum call call, const arguments *a, buffers *b)
     }
     case WRITE_P5:
         return wunqaber_encode_p5(a->width, a->height, b->canvas, a->canvas_length, b->file, a->file_length, out);
+    case WRITE_P4:
+        return wunqaber_encode_p4(a->width, a->height, b->canvas, a->canvas_length, b->file, a->file_length, out);
+    case READ_NETPBM: {
+        wunqaber_size size;
+
+        memcpy(&size, out, sizeof size);
+        answer = wunqaber_decode_netpbm(b->file, a->file_length, b->canvas, a->canvas_length, &size);
+        out[0] = size.width;
+        out[1] = size.height;
+        return answer;
+    }
     }
     return answer;
 }
@@ -483,6 +622,43 @@ static void written_typed(const check *c, buffers *b)
 {
     if ((c->call == OFFSET || c->call == ELLIPSE_WITH_CENTER) && b->out[0] == WUNQABER_ELLIPSE)
         memset(b->out + 5, 0, 8 * sizeof(int32_t));
+}
+
+/* The file of the dotted canvas as P4, and its length. */
+static void written_p4(const check *c, buffers *b)
+{
+    static const char headers[][8] = {"P4\n4 4\n", "P4\n8 2\n", "P4\n9 2\n"};
+    size_t header_length = sizeof headers[0] - 1;
+
+    switch (c->change) {
+    case OBLONG:
+        memcpy(b->file, headers[1], header_length);
+        memcpy(b->file + header_length, packed_oblong, sizeof packed_oblong);
+        b->out[0] = 9;
+        break;
+    case NINE_BY_TWO:
+        memcpy(b->file, headers[2], header_length);
+        memcpy(b->file + header_length, packed_nine, sizeof packed_nine);
+        b->out[0] = 11;
+        break;
+    default:
+        memcpy(b->file, headers[0], header_length);
+        memcpy(b->file + header_length, packed, sizeof packed);
+        b->out[0] = 11;
+    }
+}
+
+/* The canvas that is read, and its size: the dotted bytes, or of P4 a 1 for each that is not 0. */
+static void written_canvas(const check *c, buffers *b)
+{
+    enum picture picture = c->change == PICTURE ? (enum picture)c->value : GREY;
+    int32_t i, count = pictures[picture].width * pictures[picture].height;
+    int bits = pictures[picture].header[1] == '4';
+
+    for (i = 0; i < count; i++)
+        b->canvas[i] = bits ? dotted[i] != 0 : dotted[i];
+    b->out[0] = pictures[picture].width;
+    b->out[1] = pictures[picture].height;
 }
 
 /* What each call writes into the buffers where it is accepted. */
@@ -556,6 +732,8 @@ static void written(const check *c, buffers *b)
         memcpy(b->file + sizeof header - 1, b->canvas, 16);
         b->out[0] = 27;
         break;
+    case WRITE_P4: written_p4(c, b); break;
+    case READ_NETPBM: written_canvas(c, b); break;
     }
 }
 

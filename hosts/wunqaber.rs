@@ -18,6 +18,8 @@ pub const NO_LAYER: u32 = 10;
 pub const NO_ROW_LEFT: u32 = 11;
 pub const ROW_OWED: u32 = 12;
 pub const BUFFER_LENGTH: u32 = 13;
+pub const FILE_HEADER: u32 = 14;
+pub const RASTER_LENGTH: u32 = 15;
 pub const NO_RECORD: u32 = 100;
 pub const NOTHING: u32 = 101;
 
@@ -138,6 +140,24 @@ mod linked {
             canvas_length: usize,
             file: *mut u8,
             file_length: usize,
+            out: *mut i32,
+            out_length: usize,
+        ) -> u32;
+        pub fn wunqaber_write_p4(
+            width: u32,
+            height: u32,
+            canvas: *const u8,
+            canvas_length: usize,
+            file: *mut u8,
+            file_length: usize,
+            out: *mut i32,
+            out_length: usize,
+        ) -> u32;
+        pub fn wunqaber_read_netpbm(
+            file: *const u8,
+            file_length: usize,
+            canvas: *mut u8,
+            canvas_length: usize,
             out: *mut i32,
             out_length: usize,
         ) -> u32;
@@ -272,6 +292,34 @@ pub fn write_p5(width: u32, height: u32, canvas: &[u8], file: &mut [u8], out: &m
             canvas.len(),
             file.as_mut_ptr(),
             file.len(),
+            out.as_mut_ptr(),
+            out.len(),
+        )
+    }
+}
+
+pub fn write_p4(width: u32, height: u32, canvas: &[u8], file: &mut [u8], out: &mut [i32]) -> u32 {
+    unsafe {
+        linked::wunqaber_write_p4(
+            width,
+            height,
+            canvas.as_ptr(),
+            canvas.len(),
+            file.as_mut_ptr(),
+            file.len(),
+            out.as_mut_ptr(),
+            out.len(),
+        )
+    }
+}
+
+pub fn read_netpbm(file: &[u8], canvas: &mut [u8], out: &mut [i32]) -> u32 {
+    unsafe {
+        linked::wunqaber_read_netpbm(
+            file.as_ptr(),
+            file.len(),
+            canvas.as_mut_ptr(),
+            canvas.len(),
             out.as_mut_ptr(),
             out.len(),
         )

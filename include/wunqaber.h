@@ -12,7 +12,7 @@
  *
  * Every call answers
  *     0           done
- *     1 .. 13     refused, by the lowest number that applies (below): no buffer differs
+ *     1 .. 15     refused, by the lowest number that applies (below), but by 14 before any other: no buffer differs
  *     100         the numbers are no record: a length, a kind, a paint or an alignment that there is not,
  *                 or a negative side, radius, stroke width or layer: no buffer differs. It comes before any
  *                 refusal, but in wunqaber_run_calls after 6, 8 and 13. What stands in a sheet's numbers and is
@@ -40,6 +40,8 @@ enum {
     WUNQABER_NO_ROW_LEFT = 11,  /* the layer has no row left */
     WUNQABER_ROW_OWED = 12,     /* an earlier layer owes that row */
     WUNQABER_BUFFER_LENGTH = 13, /* the lent list, file buffer or `out` is too short */
+    WUNQABER_FILE_HEADER = 14,  /* the file's header is not one of P4, nor one of P5 with the maximum 255 */
+    WUNQABER_RASTER_LENGTH = 15, /* the file ends before its picture does */
     WUNQABER_NO_RECORD = 100,
     WUNQABER_NOTHING = 101
 };
@@ -85,7 +87,7 @@ typedef struct {
 } wunqaber_call;
 
 /* What calls give: a point; a row, whose run has the columns from start up to but not end; a styled row with
- * three such runs; a rectangle; the radii of a box, corner by corner. */
+ * three such runs; a rectangle; the radii of a box, corner by corner; the size of a picture that is read. */
 typedef struct {
     int32_t x, y;
 } wunqaber_point;
@@ -107,6 +109,10 @@ typedef struct {
     int32_t bottom_right_width, bottom_right_height, bottom_left_width, bottom_left_height;
 } wunqaber_radii;
 
+typedef struct {
+    int32_t width, height;
+} wunqaber_size;
+
 /* A record is its numbers and nothing between or behind them, else an array of size -1 ends the compilation:
  * so a record may be handed on as a run of numbers. */
 #define WUNQABER_HAS(record, count) \
@@ -120,6 +126,7 @@ WUNQABER_HAS(wunqaber_scanline, 3);
 WUNQABER_HAS(wunqaber_styled_scanline, 7);
 WUNQABER_HAS(wunqaber_rectangle, 4);
 WUNQABER_HAS(wunqaber_radii, 8);
+WUNQABER_HAS(wunqaber_size, 2);
 #undef WUNQABER_HAS
 
 /* The two arguments for a record: where its numbers are and how many. The second is for a record that is const. */
@@ -193,6 +200,19 @@ uint32_t wunqaber_run_calls(uint32_t width, uint32_t height, const int32_t *call
 /* The canvas as a Netpbm P5 file, and the file's length. Refused by 6, 8, 13. */
 uint32_t wunqaber_write_p5(uint32_t width, uint32_t height, const uint8_t *canvas, size_t canvas_length,
                            uint8_t *file, size_t file_length, int32_t *out, size_t out_length);
+
+/* The canvas as a Netpbm P4 file, and the file's length. A byte that is not 0 is a 1 bit. Refused by 6, 8, 13. */
+uint32_t wunqaber_write_p4(uint32_t width, uint32_t height, const uint8_t *canvas, size_t canvas_length,
+                           uint8_t *file, size_t file_length, int32_t *out, size_t out_length);
+
+/* The picture of a Netpbm P4 or P5 file into the canvas, which has as many bytes as the picture has pixels, and width
+ * and height from the file's header. A bit of P4 becomes 1 or 0. What stands behind the raster is not read. Refused by
+ * 14, 6, 8, 13, 15, in this order; 6 and 8 test what the header says.
+ * A header is P4 or P5, then width, height and for P5 the maximum 255. Each is one or more decimal digits and follows
+ * whitespace (space, TAB, CR, LF) or comments, from # through the next CR or LF; and one byte of whitespace, right
+ * after the last number, precedes the raster. */
+uint32_t wunqaber_read_netpbm(const uint8_t *file, size_t file_length, uint8_t *canvas, size_t canvas_length,
+                              int32_t *out, size_t out_length);
 
 /* The typed forms. Each is one call of the library on the numbers of its structs and answers what that answers;
  * where it is not 0, nothing that a pointer names differs. 100 then says that a number in a struct is wrong, since
@@ -328,6 +348,21 @@ static inline uint32_t wunqaber_encode_p5(uint32_t width, uint32_t height,
                                           uint8_t *file, size_t file_length, int32_t *length)
 {
     return wunqaber_write_p5(width, height, canvas, canvas_length, file, file_length, length, 1);
+}
+
+/* The canvas as a Netpbm P4 file, a bit for each pixel, and the file's length in bytes. */
+static inline uint32_t wunqaber_encode_p4(uint32_t width, uint32_t height,
+                                          const uint8_t *canvas, size_t canvas_length,
+                                          uint8_t *file, size_t file_length, int32_t *length)
+{
+    return wunqaber_write_p4(width, height, canvas, canvas_length, file, file_length, length, 1);
+}
+
+/* The picture of a Netpbm P4 or P5 file into the canvas, and its size. */
+static inline uint32_t wunqaber_decode_netpbm(const uint8_t *file, size_t file_length,
+                                              uint8_t *canvas, size_t canvas_length, wunqaber_size *size)
+{
+    return wunqaber_read_netpbm(file, file_length, canvas, canvas_length, WUNQABER_NUMBERS(*size));
 }
 
 #ifdef __cplusplus

@@ -3,12 +3,14 @@
 //! rows and by its `pixels`, and by the floor, which is the runs of the styled rows, computed
 //! beforehand, by slice fills alone. The page is also painted through a sheet, a row at a time.
 //!
-//! All of them must leave the same bytes, else nothing is timed. Built by build.sh with PROGRAM=bench.
+//! All of them must leave the same bytes, else nothing is timed. Then files are read (bench_reads.rs). Built by build.sh with
+//! PROGRAM=bench.
 //!
-//!   bench            the table
+//!   bench            the tables
 //!   bench check      the bytes alone; prints no times
 
 use crate::{
+    bench_reads,
     numbers::{figure_numbers, style_numbers},
     original::Original,
     records::{Answers, Figure, Kind, Style},
@@ -22,7 +24,7 @@ use std::{
 
 /// How long one batch of calls takes, at least.
 const BATCH: Duration = Duration::from_micros(400);
-/// How often each way of painting gets a batch; the best one counts.
+/// How often each way gets a batch; the best one counts.
 const ROUNDS: usize = 400;
 
 /// Figures from the lowest to the uppermost, on a canvas of `w` by `h`.
@@ -121,7 +123,8 @@ fn numbers((f, s): &(Figure, Style)) -> Numbers {
     Numbers { figure: figure_numbers(f), style: style_numbers(s) }
 }
 
-fn must(answer: u32, call: &str) {
+/// Ends the program where a call of the library is refused.
+pub fn must(answer: u32, call: &str) {
     if answer != 0 {
         eprintln!("bench: {call} answered {answer}");
         exit(1);
@@ -205,7 +208,8 @@ fn by_runs(runs: &[Run], canvas: &mut [u8]) {
     }
 }
 
-type Way<'a> = (&'static str, Box<dyn FnMut(&mut [u8]) + 'a>);
+/// A way to fill a canvas, and its name.
+pub type Way<'a> = (&'static str, Box<dyn FnMut(&mut [u8]) + 'a>);
 
 /// The ways of painting a scene. The floor comes last, the library first.
 fn ways(scene: &Scene) -> Vec<Way<'_>> {
@@ -240,10 +244,9 @@ fn differs(scene: &Scene) -> Option<&'static str> {
 }
 
 /// Microseconds a call for each way: the best of many short batches, the ways taken in turn so that
-/// all of them meet the same noise.
-fn times(scene: &Scene) -> Vec<(&'static str, f64)> {
-    let mut canvas = vec![0u8; (scene.w * scene.h) as usize];
-    let mut ways = ways(scene);
+/// all of them meet the same noise, on a canvas of so many bytes.
+pub fn times(mut ways: Vec<Way>, length: usize) -> Vec<(&'static str, f64)> {
+    let mut canvas = vec![0u8; length];
     let mut calls = Vec::new();
     for (_, paint) in &mut ways {
         let mut n = 1;
@@ -281,14 +284,15 @@ pub fn main() {
             exit(1);
         }
     }
+    let files = bench_reads::check();
     if std::env::args().nth(1).as_deref() == Some("check") {
-        println!("bench: {} scenes, the bytes are equal", scenes.len());
+        println!("bench: {} scenes and {files} files, the bytes are equal", scenes.len());
         return;
     }
     println!("| scene | by | µs | / draw_styled | / pixels | / floor |");
     println!("|---|---|---|---|---|---|");
     for scene in &scenes {
-        let times = times(scene);
+        let times = times(ways(scene), (scene.w * scene.h) as usize);
         let of = |way: &str| times.iter().find(|(name, _)| *name == way).unwrap().1;
         for (way, t) in &times {
             println!(
@@ -300,4 +304,6 @@ pub fn main() {
             );
         }
     }
+    println!();
+    bench_reads::table();
 }

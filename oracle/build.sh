@@ -1,6 +1,6 @@
 #!/bin/sh
 # Builds the oracle: the original Rust of embedded-graphics 0.8.2, unchanged and at its own place,
-# over our stand-in. Needs rustc only (no cargo, no registry).
+# over our stand-in. Needs rustc only (no cargo, no registry), and with the library the C compiler that rustc links by.
 #
 #   sh build.sh [--compile | --link] [SOURCE [BUILD]]
 #
@@ -31,7 +31,8 @@ flags="--edition 2021 -C opt-level=3 -C overflow-checks=$checks -C codegen-units
 link_program() {
     echo "fn main() { parts::$program() }" > "$build/$program.rs"
     set --
-    [ -z "$library" ] || set -- -C "link-arg=$(cd "$(dirname "$library")" && pwd)/$(basename "$library")"
+    [ -z "$library" ] || set -- -C "link-arg=$(cd "$(dirname "$library")" && pwd)/$(basename "$library")" \
+        -C "link-arg=$build/unpack.o"
     rustc $flags --crate-type bin --crate-name "$program" "$@" -L "dependency=$build" --extern parts="$build/libparts.rlib" \
         -o "$build/$program" "$build/$program.rs"
     echo "built $build/$program"
@@ -105,6 +106,8 @@ pub mod primitives; // the original, by link
 mod original;
 #[path = "$here/reference.rs"]
 mod reference;
+#[path = "$here/netpbm.rs"]
+mod netpbm;
 #[path = "$here/findings.rs"]
 mod findings;
 #[path = "$here/records.rs"]
@@ -123,6 +126,9 @@ mod compare;
 #[path = "$here/held.rs"]
 mod held;
 #[cfg(library)]
+#[path = "$here/files.rs"]
+mod files;
+#[cfg(library)]
 #[path = "$here/scale.rs"]
 mod scale;
 #[cfg(library)]
@@ -131,6 +137,9 @@ mod stored;
 #[cfg(library)]
 #[path = "$here/bench.rs"]
 mod bench;
+#[cfg(library)]
+#[path = "$here/bench_reads.rs"]
+mod bench_reads;
 #[path = "$here/modes.rs"]
 mod modes;
 #[cfg(library)]
@@ -138,7 +147,11 @@ pub use bench::main as bench;
 pub use modes::main as oracle;
 END
 set --
-[ "$step" = both ] && [ -z "$library" ] || set -- --cfg library
+if [ "$step" = compile ] || [ -n "$library" ]; then
+    set -- --cfg library
+    # What reading P4 is timed beside.
+    "${CC:-cc}" -std=c99 -Wall -Wextra -Werror -O2 -c -o "$build/unpack.o" "$here/unpack.c"
+fi
 rustc $flags --crate-type rlib --crate-name az --out-dir "$build" "$here/stand_in/az.rs"
 rustc $flags --crate-type rlib --crate-name embedded_graphics_core --out-dir "$build" \
     "$here/stand_in/core.rs"

@@ -1,9 +1,9 @@
 //! The library that C and Rust programs link (include/wunqaber.h), held call by call against what it must
 //! answer, on any numbers: 100, 101 and the lowest refusal by the header and the reference; values by the
 //! ORIGINAL where it finishes, else by the reference, which also has what the original lacks (W3C boxes,
-//! sheets, lists of calls, P5). Answers, values and every number and byte of every buffer are compared, with
-//! some right behind the part that is lent for values; after a refusal none may differ. The first difference is printed
-//! whole, with the call as a line that `replay` reads, and ends the program with status 1.
+//! sheets, lists of calls, files). Answers, values and every number and byte of every buffer are compared, with
+//! some right behind the part that is lent for values, and for files before it too; after a refusal none may differ. The
+//! first difference is printed whole, with the call as a line that `replay` reads, and ends the program with status 1.
 
 use crate::{
     asked::Ask::{self, *},
@@ -12,6 +12,7 @@ use crate::{
         self,
         Argument::{self, Bytes, Number, Numbers},
     },
+    netpbm,
     numbers::{
         figure_numbers, given_figure, opened, place_of, radii_numbers, read_calls, read_figure, read_sheet, read_style,
         style_numbers, styled_numbers,
@@ -19,7 +20,7 @@ use crate::{
     original::Original,
     records::{attempt, first_lent, lowest, Answers, Figure, Kind, Style},
     reference::{self, asked_refusal, canvas_refusal, figure_refusal, offset_refusal, style_refusal, Reference, Sheet},
-    stored::Chosen,
+    stored::{Chosen, CALLS, CALLS_OF_C},
     wunqaber::{self as library, CALL_LENGTH, FIGURE_LENGTH, NOTHING, NO_RECORD, SHEET_LENGTH},
 };
 use std::{collections::BTreeMap, fmt::Debug, process::exit};
@@ -38,14 +39,31 @@ pub type Wanted<T> = Result<(T, By), u32>;
 struct Counts {
     original: u64,
     reference: u64,
-    refused: u64,
+    /// the answers other than 0, by number
+    refused: BTreeMap<u32, u64>,
+}
+
+impl Counts {
+    /// How often a number was answered.
+    fn of(&self, number: u32) -> u64 {
+        match number {
+            library::DONE => self.original + self.reference,
+            _ => self.refused.get(&number).copied().unwrap_or(0),
+        }
+    }
+
+    fn all_refused(&self) -> u64 {
+        self.refused.values().sum()
+    }
+
+    fn all(&self) -> u64 {
+        self.of(library::DONE) + self.all_refused()
+    }
 }
 
 #[derive(Default)]
 pub struct Held {
     counts: BTreeMap<&'static str, Counts>,
-    /// the answers other than 0, by number
-    refused: BTreeMap<u32, u64>,
     /// where the original does not finish
     panics: Report,
     /// calls for `replay`, if any are to be stored
@@ -109,11 +127,13 @@ impl Held {
         match by {
             Ok(By::Original) => counts.original += 1,
             Ok(By::Reference) => counts.reference += 1,
-            Err(number) => {
-                counts.refused += 1;
-                *self.refused.entry(number).or_default() += 1;
-            }
+            Err(number) => *counts.refused.entry(number).or_default() += 1,
         }
+    }
+
+    /// How many comparisons were made.
+    pub fn compared(&self) -> u64 {
+        self.counts.values().map(Counts::all).sum()
     }
 
     /// A call that gives numbers, into the first `room` of a longer buffer. That this is too short comes
@@ -363,30 +383,63 @@ impl Held {
         self.call("run_calls", by, (&bytes, &all), (answer, (&canvas, &answers)), asked, after);
     }
 
-    /// A buffer so much longer than the file, or shorter.
-    pub fn write_p5(&mut self, width: u32, height: u32, canvas: &[u8], spare: i64, room: usize) {
-        let mut file = format!("P5\n{width} {height}\n255\n").into_bytes();
-        file.extend_from_slice(canvas);
+    /// A canvas written into a buffer so much longer than the file, or shorter; what the call left there.
+    pub fn write(
+        &mut self,
+        writer: &Writer,
+        width: u32,
+        height: u32,
+        canvas: &[u8],
+        spare: i64,
+        room: usize,
+    ) -> Vec<u8> {
+        let file = (writer.file)(width, height, canvas);
         let length = (file.len() as i64 + spare).max(0) as usize;
         let by = refused_or(&[
             canvas_refusal(width as i64, height as i64),
             wrong_length(width, height, canvas.len()),
-            too_short(file.len(), length),
             too_short(1, room),
+            too_short(file.len(), length),
         ]);
-        let mut buffer = vec![BYTE_MARK; length + 4];
-        let mut out = [MARK; 4];
-        let lent = buffer.clone();
-        let (mut all, mut count) = (buffer.clone(), out);
-        let answer = library::write_p5(width, height, canvas, &mut buffer[..length], &mut out[..room]);
+        let given = Guarded::new(canvas.to_vec(), !BYTE_MARK);
+        let (buffer, out) = (Guarded::of(BYTE_MARK, length), Guarded::of(MARK, room));
+        let (mut left, mut count) = (buffer.clone(), out.clone());
+        let answer = (writer.make)(width, height, given.lent(), left.lent_mut(), count.lent_mut());
+        let (mut wanted, mut told) = (buffer.clone(), out.clone());
         if by.is_ok() {
-            all[..file.len()].copy_from_slice(&file);
-            count[0] = file.len() as i32;
+            wanted.lent_mut()[..file.len()].copy_from_slice(&file);
+            told.lent_mut()[0] = file.len() as i32;
         }
         let (w, h) = (Number(width as i64), Number(height as i64));
-        let asked = || vec![w, h, Bytes(canvas), Bytes(&lent[..length]), Numbers(&LENT[..room])];
-        let after = || vec![Numbers(&count[..room]), Bytes(canvas), Bytes(&all[..length])];
-        self.call("write_p5", by.map(|()| By::Reference), (&all, count), (answer, (&buffer, out)), asked, after);
+        let asked = || vec![w, h, Bytes(canvas), Bytes(buffer.lent()), Numbers(out.lent())];
+        let after = || vec![Numbers(told.lent()), Bytes(canvas), Bytes(wanted.lent())];
+        let untouched = Guarded::new(canvas.to_vec(), !BYTE_MARK);
+        let buffers = (&untouched, &wanted, &told);
+        self.call(writer.call, by.map(|()| By::Reference), buffers, (answer, (&given, &left, &count)), asked, after);
+        left.lent().to_vec()
+    }
+
+    /// A file read into a canvas of so many bytes, with so many places for its sides: what the call answered, and what it
+    /// left on the canvas.
+    pub fn read_netpbm(&mut self, file: &[u8], length: usize, room: usize) -> (u32, Vec<u8>) {
+        let picture = netpbm::read(file, length, room);
+        // a header or a comment that the file's end cuts off would end in these guards
+        let given = Guarded::new(file.to_vec(), b'\n');
+        let (canvas, out) = (Guarded::of(BYTE_MARK, length), Guarded::of(MARK, room));
+        let (mut left, mut sides) = (canvas.clone(), out.clone());
+        let answer = library::read_netpbm(given.lent(), left.lent_mut(), sides.lent_mut());
+        let (mut wanted, mut told) = (canvas.clone(), out.clone());
+        let by = picture.map(|picture| {
+            wanted.lent_mut().copy_from_slice(&picture.pixels);
+            told.lent_mut()[..2].copy_from_slice(&[picture.width as i32, picture.height as i32]);
+            By::Reference
+        });
+        let asked = || vec![Bytes(file), Bytes(canvas.lent()), Numbers(out.lent())];
+        let after = || vec![Bytes(file), Bytes(wanted.lent()), Numbers(told.lent())];
+        let untouched = Guarded::new(file.to_vec(), b'\n');
+        let buffers = (&untouched, &wanted, &told);
+        self.call("read_netpbm", by, buffers, (answer, (&given, &left, &sides)), asked, after);
+        (answer, left.lent().to_vec())
     }
 
     // ---- what is printed ----
@@ -395,22 +448,75 @@ impl Held {
         let mut sum = Counts::default();
         println!("{:<20} {:>14} {:>14} {:>10}", "equal", "to the original", "the reference", "refused");
         for (call, c) in &self.counts {
-            println!("{call:<20} {:>15} {:>14} {:>10}", c.original, c.reference, c.refused);
+            println!("{call:<20} {:>15} {:>14} {:>10}", c.original, c.reference, c.all_refused());
             sum.original += c.original;
             sum.reference += c.reference;
-            sum.refused += c.refused;
+            for (number, count) in &c.refused {
+                *sum.refused.entry(*number).or_default() += count;
+            }
         }
-        println!("{:<20} {:>15} {:>14} {:>10}", "all", sum.original, sum.reference, sum.refused);
-        println!("refused by number: {:?}", self.refused);
+        println!("{:<20} {:>15} {:>14} {:>10}", "all", sum.original, sum.reference, sum.all_refused());
+        println!("refused by number: {:?}", sum.refused);
         self.panics.print_panics();
         let panics: u64 = self.panics.tallies.values().map(|t| t.panics).sum();
-        let all = sum.original + sum.reference + sum.refused;
         // Where the original panics the reference stands in for it: that is to stay the exception.
         if panics * 100 > sum.original {
             println!("DIFFERENT: the original does not finish {panics} times, and finishes {} times", sum.original);
             exit(1);
         }
-        println!("{all} comparisons equal, 0 different; {panics} panics of the original");
+        println!("{} comparisons equal, 0 different; {panics} panics of the original", sum.all());
+    }
+
+    /// Ends the program where a call was not compared with each number that it can answer, at least so often.
+    pub fn each_answer_met(&self, least: impl Fn(&str) -> u64) {
+        for (call, _, numbers, _) in &CALLS[..CALLS_OF_C] {
+            for number in *numbers {
+                let met = self.counts.get(call).map_or(0, |counts| counts.of(*number));
+                if met < least(call) {
+                    println!("DIFFERENT: {call} was compared with the answer {number} only {met} times");
+                    exit(1);
+                }
+            }
+        }
+    }
+}
+
+/// A call that writes a canvas as a file.
+pub struct Writer {
+    pub call: &'static str,
+    file: fn(u32, u32, &[u8]) -> Vec<u8>,
+    make: fn(u32, u32, &[u8], &mut [u8], &mut [i32]) -> u32,
+}
+
+pub const WRITE_P5: Writer = Writer { call: "write_p5", file: netpbm::p5, make: library::write_p5 };
+pub const WRITE_P4: Writer = Writer { call: "write_p4", file: netpbm::p4, make: library::write_p4 };
+
+/// How many numbers or bytes stand on each side of what is lent of a guarded buffer.
+const GUARD: usize = 4;
+
+/// A buffer that is lent without the guards at both its ends; it is compared with them.
+#[derive(Clone, PartialEq, Debug)]
+struct Guarded<T>(Vec<T>);
+
+impl<T: Copy> Guarded<T> {
+    fn new(mut lent: Vec<T>, guard: T) -> Self {
+        lent.splice(..0, [guard; GUARD]);
+        lent.extend([guard; GUARD]);
+        Guarded(lent)
+    }
+
+    /// One that holds the same everywhere.
+    fn of(mark: T, length: usize) -> Self {
+        Guarded(vec![mark; length + 2 * GUARD])
+    }
+
+    fn lent(&self) -> &[T] {
+        &self.0[GUARD..self.0.len() - GUARD]
+    }
+
+    fn lent_mut(&mut self) -> &mut [T] {
+        let end = self.0.len() - GUARD;
+        &mut self.0[GUARD..end]
     }
 }
 

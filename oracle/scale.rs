@@ -6,8 +6,8 @@
 use crate::{
     asked::Ask,
     compare::{self, crate_box, ellipse, painted, styles, Rng, Script},
-    findings,
-    held::{By, Held},
+    files, findings,
+    held::{By, Held, WRITE_P5},
     lines::{
         numbers,
         Argument::{Number, Numbers},
@@ -316,7 +316,7 @@ fn any_buffers(r: &mut Held, rng: &mut Rng) {
     r.sheet_open(w, h, rng.of(&[291, 291, 292, 290, 0, 400]) as usize);
     let seed = rng.within(0, 255);
     let canvas = first_lent(length as i64, 1, Some(seed));
-    r.write_p5(w, h, &canvas, rng.of(&[0, 0, 0, 5, -1, -20]), some_room(rng, 1).min(4));
+    r.write(&WRITE_P5, w, h, &canvas, rng.of(&[0, 0, 0, 5, -1, -20]), some_room(rng, 1).min(4));
     let small = match rng.within(0, 2) {
         0 => figure_numbers(&rng.small_box()),
         1 => figure_numbers(&rng.narrow_box(seed as u64)),
@@ -475,9 +475,12 @@ pub fn run(seed: u64, effort: u64, seconds: u64) {
     let mut r = Held::default();
     let mut rng = Rng(seed);
     let mut part = |name: &str, run: &mut dyn FnMut(&mut Held)| {
-        let at = Instant::now();
+        let (at, before) = (Instant::now(), r.compared());
         run(&mut r);
-        println!("[{:6.1} s] {name}: {:.1} s", start.elapsed().as_secs_f64(), at.elapsed().as_secs_f64());
+        let count = r.compared() - before;
+        let (all, own) = (start.elapsed().as_secs_f64(), at.elapsed().as_secs_f64());
+        println!("[{all:6.1} s] {name}: {own:.1} s, {count} comparisons");
+        assert!(count > 0, "oracle: nothing was compared in '{name}'");
     };
     let styles = styles();
     part("ellipses, sides 0..12, all styles", &mut |r| compare::small_ellipses(|f| r.small_figure(f)));
@@ -514,6 +517,14 @@ pub fn run(seed: u64, effort: u64, seconds: u64) {
         }
     });
     part("a sheet, each of its numbers at each limit", &mut |r| each_number_of_a_sheet(r, &mut rng, 1));
+    let mut of_files = Rng(seed);
+    part("canvases of every width as files, read back", &mut |r| files::written(r, &mut of_files));
+    part("canvases as files, some refused", &mut |r| files::written_or_refused(r, &mut of_files, 50_000));
+    part("good files", &mut |r| files::good(r, &mut of_files, 100_000));
+    part("files with the largest sides", &mut |r| files::large(r, &mut of_files));
+    part("files damaged at each byte", &mut |r| files::damaged(r, &mut of_files, 600));
+    part("files with all short headers", &mut |r| files::short_headers(r, &mut of_files));
+    part("files with headers at random", &mut |r| files::headers(r, &mut of_files, 1_000_000));
     let mut rounds = 0;
     let first_round = Instant::now();
     part("random rounds", &mut |r| {
@@ -524,5 +535,7 @@ pub fn run(seed: u64, effort: u64, seconds: u64) {
         }
     });
     println!("seed {seed}, {rounds} random rounds of {effort}");
+    // the parts with files are as long however slow the machine is
+    r.each_answer_met(|call| if ["write_p4", "read_netpbm"].contains(&call) { 1000 } else { 1 });
     r.print();
 }

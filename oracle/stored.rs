@@ -5,11 +5,12 @@
 use crate::{
     asked::Ask,
     compare::{self, crate_box, ellipse, styles, Rng, FIXED, NOTHING_TO_TEST},
-    held::{given_room, By, Held, BYTE_MARK, LENT, MARK},
+    held::{given_room, By, Held, BYTE_MARK, LENT, MARK, WRITE_P4, WRITE_P5},
     lines::{
         self,
         Argument::{self, Bytes, Number, Numbers},
     },
+    netpbm,
     numbers::{call_numbers, figure_numbers, place_of, style_numbers},
     original::Original,
     records::{first_lent, Answers, Figure, Kind, Plain, Style},
@@ -22,7 +23,7 @@ use std::{collections::BTreeMap, fs, process::exit};
 /// The calls in the order in which they are stored: what each is, the numbers that it can answer, of which each is to be
 /// there, and how many lines of a class are stored at most, twice as many of an accepted one.
 #[rustfmt::skip]
-const CALLS: &[(&str, &str, &[u32], usize)] = &[
+pub const CALLS: &[(&str, &str, &[u32], usize)] = &[
     ("contains", "whether a point is inside: x, y, figure, out", &[0, 1, 2, 3, 4, 13, 100], 7),
     ("row", "the y and the run of a row: y, figure, out", &[0, 1, 2, 3, 4, 13, 100, 101], 7),
     ("points", "all points as pairs: figure, list, out", &[0, 1, 2, 3, 13, 100], 4),
@@ -37,6 +38,8 @@ const CALLS: &[(&str, &str, &[u32], usize)] = &[
     ("sheet_paint", "the next row of a layer painted: layer, sheet, canvas", &[0, 7, 8, 10, 11, 12, 100], 6),
     ("run_calls", "a list of add and paint calls: width, height, calls, answers, canvas", &[0, 6, 8, 13, 100], 7),
     ("write_p5", "the canvas as a P5 file: width, height, out, canvas, file", &[0, 6, 8, 13], 10),
+    ("write_p4", "the canvas as a P4 file: width, height, out, canvas, file", &[0, 6, 8, 13], 10),
+    ("read_netpbm", "the picture of a P4 or P5 file, and its width and height: out, file, canvas", &[0, 6, 8, 13, 14, 15], 10),
     ("center", "the centre of a rectangle: x, y, width, height, out", &[0, 1, 3, 13], 8),
     ("with_center", "the rectangle about a centre: x, y, width, height, out", &[0, 1, 3, 13], 8),
     ("rows", "the rows of a rectangle: x, y, width, height, out", &[0, 1, 3, 13], 8),
@@ -45,6 +48,9 @@ const CALLS: &[(&str, &str, &[u32], usize)] = &[
     ("range", "whether a range contains a number, and whether it is empty: start, end, number, out", &[0, 13], 20),
     ("widths", "the outside and the inside part of a stroke: width, alignment, out", &[0, 5, 13, 100], 8),
 ];
+
+/// So many of them, the first, are calls of include/wunqaber.h.
+pub const CALLS_OF_C: usize = 16;
 
 /// Calls in other words than lines.rs has, and what is answered, worked out by hand.
 const OTHER_WORDS: &[(&str, &str)] = &[
@@ -57,6 +63,8 @@ const OTHER_WORDS: &[(&str, &str)] = &[
     ("confined_radii [1 0*2 9*2 1+1*8] [4294967290+3*9]", "0 [1 0*2 9*2 1 2 3 4 5 6 7 8] [0 1 2 3*2 4 5 6 18]"),
     ("run_calls 8 7 [] [5*200] {0*56}", "0 [5*200] #3670017"),
     ("write_p5 2 2 [0] {250+4*3 255*1} {1+0*15}", "0 [15] #132711162 #444925117"),
+    ("write_p4 3 2 [0] {0+1*3 255*1 0*2} {9*9}", "0 [9] #51380483 #146211326"),
+    ("read_netpbm [7*3] {80 52 10 49 32 49 10 128*1} {9+0*1}", "0 [1*2 7] #114033051 #131074"),
 ];
 
 /// Lines that are no calls, and what is answered.
@@ -96,6 +104,9 @@ const NO_CALLS: &[(&str, &str)] = &[
     ("row 0 [0*2048] [0*2049]", NOT_TAKEN),
     ("write_p5 1 1 [0] [0] {0*20}", NOT_TAKEN),
     ("write_p5 1 1 [0] {0} {0*12353}", NOT_TAKEN),
+    ("write_p4 1 1 {0} {0*20}", NOT_TAKEN),
+    ("read_netpbm [0*2] {80 52 10 49 32 49 10 128}", NOT_TAKEN),
+    ("read_netpbm 1 1 [0*2] {80 52 10 49 32 49 10 128} {0}", NOT_TAKEN),
     ("widths 1 2 3 [0*2]", NOT_TAKEN),
 ];
 
@@ -401,7 +412,7 @@ fn rooms(r: &mut Held) {
     // the largest canvases that `replay` lends, and the smallest
     for (w, h, seed) in [(1024, 12, 5), (12, 1024, 6), (96, 128, 7), (64, 1, 8), (65, 1, 9), (1, 1, 10)] {
         for (spare, room) in [(-1, 1), (0, 1), (1, 2), (3, 0), (40, 1), (-9999, 0)] {
-            r.write_p5(w, h, &first_lent(w as i64, h as i64, Some(seed)), spare, room);
+            r.write(&WRITE_P5, w, h, &first_lent(w as i64, h as i64, Some(seed)), spare, room);
         }
         let seen = crate_box(-4, -2, w as i64 + 2, h as i64 + 9, [(9, 5), (30, 8), (2, 60), (300, 400)]);
         for kind in [Kind::Ellipse, Kind::Crate, Kind::W3c] {
@@ -566,6 +577,91 @@ fn lists(r: &mut Held) {
     r.run_calls(8, 7, &many, &zeros, 128);
 }
 
+/// Canvases as P4 files: rows that end at each bit of a byte, buffers too short, sides and lengths that are none, the
+/// largest canvases that `replay` lends.
+fn packed(r: &mut Held) {
+    let spotted = |count: u32| [0, 255, 1, 0, 128, 0, 0].into_iter().cycle().take(count as usize).collect::<Vec<u8>>();
+    for (w, h) in (1..=9).map(|w| (w, 2)).chain([(16, 1), (17, 3), (1, 9)]) {
+        r.write(&WRITE_P4, w, h, &spotted(w * h), 0, 1);
+    }
+    for (spare, room) in [(-1, 1), (1, 2), (40, 1), (3, 0), (-1, 0), (-9999, 1)] {
+        r.write(&WRITE_P4, 9, 2, &spotted(18), spare, room);
+    }
+    for (w, h) in [(0, 2), (9, 0), (0, 0), (1025, 1), (1, 1025), (u32::MAX, 1), (1 << 31, 1 << 31)] {
+        r.write(&WRITE_P4, w, h, &spotted(18), 0, 1);
+        // before a wrong length, and a list or buffer that is too short
+        r.write(&WRITE_P4, w, h, &spotted(3), -9999, 0);
+    }
+    for length in [0, 17, 19, 24] {
+        r.write(&WRITE_P4, 9, 2, &spotted(length), 0, 1);
+        r.write(&WRITE_P4, 9, 2, &spotted(length), -9999, 0);
+    }
+    for (w, h, step) in [(1024, 12, 128), (12, 1024, 64), (1023, 12, 32), (96, 128, 0)] {
+        let canvas: Vec<u8> = (0..w * h).map(|i| (i * step) as u8).collect();
+        r.write(&WRITE_P4, w, h, &canvas, 0, 1);
+    }
+}
+
+/// Files of a picture, each with how many bytes of canvas and how many places for its sides are lent.
+#[rustfmt::skip]
+const FILES: &[(&[u8], usize, usize)] = &[
+    // both kinds, as they are written by us, with bytes after the raster, with bits that fill up a row
+    (b"P4\n1 1\n\x80", 1, 2),
+    (b"P4\n1 1\n\x7f", 1, 3),
+    (b"P4\n9 2\n\xff\x80\x01\x7f", 18, 2),
+    (b"P4\n8 1\n\xa5\xff\xff", 8, 2),
+    (b"P5\n2 2\n255\n\x00\x01\x80\xff", 4, 2),
+    (b"P5\n3 1\n255\n\n#7P5", 3, 3),
+    // whitespace and comments
+    (b"P4 3\t2\r\xa0\x40", 6, 2),
+    (b"P5\r\n3\r\n1\r\n255\r\n01", 3, 2),
+    (b"P4#\n3#c\r2\n\xa0\x40", 6, 2),
+    (b"P5 #4 4\n #\r2##\n\t1#P4\r255 #\n", 2, 2),
+    (b"P5\n1 1 #255\n255\t\t", 1, 2),
+    // P4 has no maximum: what could be one is the raster
+    (b"P4 1 1 255 \x80", 1, 2),
+    (b"P4 4 255 1", 16, 2),
+    // zeros in front of numbers
+    (b"P4 00000000000000000000004 01 \x90", 4, 2),
+    (b"P5 1 1 0255 9", 1, 2),
+    // 14: the letter and the digit
+    (b"", 1, 2), (b"P", 1, 2), (b"P4", 1, 2), (b"P6\n1 1\n255\n123", 1, 2), (b"P2\n1 1\n255\n1", 1, 2),
+    (b"p4\n1 1\n1", 1, 2), (b" P4\n1 1\n1", 1, 2), (b"P54 4 255 1", 16, 2),
+    // 14: numbers that are none or not enough
+    (b"P4\n1 \n\x80", 1, 2), (b"P4\n-1 1\n\x80", 1, 2), (b"P4\n+1 1\n\x80", 1, 2), (b"P4\n1,1\n\x80", 1, 2),
+    (b"P5\n1 1\n\x80", 1, 2),
+    // 14: what stands between
+    (b"P4\x0b1 1\n\x80", 1, 2), (b"P4\n1\x0c1\n\x80", 1, 2), (b"P4\n1 1\x0c\x80", 1, 2), (b"P4\n1 1", 1, 2),
+    (b"P4\n1 1x\x80", 1, 2), (b"P4\n1 1#c\n\x80", 1, 2), (b"P4 #1 1 ", 1, 2), (b"P4 1#", 1, 2),
+    // 14: another maximum
+    (b"P5 1 1 0 1", 1, 2), (b"P5 1 1 254 1", 1, 2), (b"P5 1 1 256 1", 1, 2), (b"P5 1 1 65535 11", 1, 2),
+    (b"P5 1 1 4294967551 1", 1, 2), (b"P5 1 1 18446744073709551871 1", 1, 2), (b"P5 1 1 255#\n1", 1, 2),
+    // 6, after 14 and before all others
+    (b"P4 0 1 ", 0, 2), (b"P4 1 0 ", 0, 2), (b"P4 1025 1 ", 1025, 2), (b"P5 1 1025 255 ", 7, 0), (b"P5 0 1 256 ", 0, 2),
+    (b"P4 4294967297 1 \x80", 1, 2), (b"P4 1 18446744073709551617 \x80", 1, 2),
+    (b"P5 1000000000000000000000000000000000000000 1 255 1", 1, 2),
+    // 8, before 13 and 15
+    (b"P4\n9 2\n\xff\x80\x01\x7f", 17, 2), (b"P4\n9 2\n\xff\x80\x01\x7f", 19, 2),
+    (b"P4\n9 2\n\xff\x80\x01\x7f", 0, 2), (b"P5\n2 2\n255\n", 3, 2), (b"P5\n2 2\n255\n1234", 5, 1),
+    // 13, before 15
+    (b"P4\n1 1\n\x80", 1, 0), (b"P4\n1 1\n\x80", 1, 1), (b"P5\n2 2\n255\n1234", 4, 1), (b"P5\n2 2\n255\n123", 4, 0),
+    // 15
+    (b"P4\n1 1\n", 1, 2), (b"P4\n9 2\n\xff\x80\x01", 18, 2), (b"P5\n2 2\n255\n", 4, 2), (b"P5\n2 2\n255\n123", 4, 3),
+];
+
+/// And the largest that `replay` has room for, and both without their last byte.
+fn read(r: &mut Held) {
+    for (file, length, room) in FILES {
+        r.read_netpbm(file, *length, *room);
+    }
+    let p4 = netpbm::p4(1024, 12, &[1; 12288]);
+    let p5 = netpbm::p5(1024, 11, &first_lent(1024, 11, Some(4)));
+    r.read_netpbm(&p4, 12288, 2);
+    r.read_netpbm(&p5, 11264, 2);
+    r.read_netpbm(&p4[..p4.len() - 1], 12288, 2);
+    r.read_netpbm(&p5[..p5.len() - 1], 11264, 2);
+}
+
 const PLACES: [i64; 12] = [-4608, -4607, -4097, -4096, -7, 0, 5, 4096, 4097, 4607, i32::MIN as i64, i32::MAX as i64];
 const SIDES: [i64; 11] = [0, 1, 2, 3, 4, 255, 1023, 1024, 1025, 1 << 31, u32::MAX as i64];
 const OFFSETS: [i64; 10] = [-257, -256, -5, -1, 0, 1, 256, 257, i32::MIN as i64, i32::MAX as i64];
@@ -683,6 +779,8 @@ pub fn run(folder: &str) {
     rooms(&mut r);
     sheets(&mut r);
     lists(&mut r);
+    packed(&mut r);
+    read(&mut r);
     plain_limits(r.chosen.as_mut().unwrap());
     r.chosen.as_mut().unwrap().always = false;
     thinned(&mut r, &mut rng);

@@ -1,14 +1,15 @@
 #!/bin/sh
-# The library's painting timed beside the original Rust's, on five scenes (docs/SPEED.md):
+# The library's painting timed beside the original Rust's, on five scenes, and its reading beside a copy and beside a plain
+# unpacking in C, on three files (docs/SPEED.md):
 #
-#   sh tests/speed.sh [SOURCE]            the table: microseconds a call, and the ratios
-#   sh tests/speed.sh --check [SOURCE]    only that all ways of painting leave the same bytes; no times
+#   sh tests/speed.sh [SOURCE]            the tables: microseconds a call, and the ratios
+#   sh tests/speed.sh --check [SOURCE]    only that all ways of painting, and of reading, leave the same bytes; no times
 #
 # It proves and builds `wunqaber` (or takes $WUNQABER_LIBRARY, a library built before), builds the original without
-# overflow checks into a folder of its own, and links both into one program. With --check it takes the original from
-# $ORACLE_COMPILED, a folder that oracle/build.sh --compile filled before, where that is set; overflow checks are then
-# as they were there. Times are printed and not judged; it fails where bytes differ. Without rustc or the source folder
-# (oracle/build.sh says where it is looked for) it says so and ends with 0.
+# overflow checks and oracle/unpack.c into a folder of its own, and links all into one program. With --check it takes the
+# original from $ORACLE_COMPILED, a folder that oracle/build.sh --compile filled before, where that is set; overflow checks
+# are then as they were there. Times are printed and not judged; it fails where bytes differ. Without rustc or the source
+# folder (oracle/build.sh says where it is looked for) it says so and ends with 0.
 set -eu
 root=$(cd "$(dirname "$0")/.." && pwd)
 mode=

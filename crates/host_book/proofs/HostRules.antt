@@ -16,7 +16,7 @@ use Rattle.book.proofs.RulesTest.{keeps-rules-iff}
 use Rattle.book.proofs.LowestNumber.{add-refused-item, add-refused-broken-sheet, add-broken-sheet-only}
 use Rattle.book.proofs.LowestNumber.{paint-refused-broken-sheet, paint-broken-sheet-only}
 use Rattle.refusal.specs.declared.Refusal.{Refusal}
-use Rattle.refusal.specs.declared.Refusal.the-variants.{Side, Radius, Position, Asked, Offset, CanvasSide, SheetRule, CanvasLength, SheetFull, NoLayer, NoRowLeft, RowOwed, BufferLength}
+use Rattle.refusal.specs.declared.Refusal.the-variants.{Side, Radius, Position, Asked, Offset, CanvasSide, SheetRule, CanvasLength, SheetFull, NoLayer, NoRowLeft, RowOwed, BufferLength, FileHeader, RasterLength}
 use Rattle.refusal.specs.declared.Checked.{Checked}
 use Rattle.refusal.specs.declared.Checked.the-variants.{Passed, Refused}
 use Rattle.refusal.specs.Refusal.{number, answerNumber, refuseIf, orElse, above, beyond}
@@ -97,6 +97,8 @@ number-seven (Refused refusal) e = by-refusal refusal e
     by-refusal NoRowLeft e = absurd (omega arith)
     by-refusal RowOwed e = absurd (omega arith)
     by-refusal BufferLength e = absurd (omega arith)
+    by-refusal FileHeader e = absurd (omega arith)
+    by-refusal RasterLength e = absurd (omega arith)
 
 -- ---- a paint call
 pub paint-told-seven : PaintToldSeven

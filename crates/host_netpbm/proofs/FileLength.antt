@@ -1,4 +1,4 @@
--- The length of a file that was written fits 32 bits: a canvas has at most 1024 by 1024 bytes, and a header at most 29.
+-- The length of a file that was written fits 32 bits: a raster has at most 1024 by 1024 bytes, and a header at most 29.
 -- Assumes nothing.
 use mathlib.Core.Path.{_≡_, ap}
 use mathlib.Core.List.{List, [], _∷_}
@@ -13,9 +13,12 @@ use Rattle.refusal.specs.Refusal.{orElse, Outcome, refused, answered, unless, r
 use Rattle.refusal.proofs.Checks.{passed-first, passed-next}
 use Rattle.canvas_size.specs.CanvasSize.{canvasSizeCheck, canvasLengthCheck}
 use Rattle.canvas_size.proofs.Sides.{canvas-size-passed, canvas-length-passed}
+use Rattle.netpbm_header.specs.declared.Format.{Format}
+use Rattle.netpbm_header.specs.declared.Format.the-variants.{P4, P5}
 use Rattle.netpbm_header.proofs.Header.{length-header-u32}
-use Rattle.netpbm.specs.Netpbm.{p5, writeCheck, writeCall}
-use Rattle.netpbm.proofs.File.{length-p5}
+use Rattle.netpbm_raster.specs.Raster.{rowBytes}
+use Rattle.netpbm.specs.Netpbm.{picture, rasterLength, writeCheck, writeCall}
+use Rattle.netpbm.proofs.File.{length-picture}
 use Rattle.host_netpbm.specs.Netpbm.{writeRoom}
 
 -- the value of an answer that has one
@@ -33,13 +36,21 @@ at-most (Refused refusal) n m same =
     let none : n ≡ 0 = ap valueOf same in
     omega arith
 
-pub written-length-fits : (W H : ℕ) (canvas file : List ℕ) (room n : ℕ) → writeRoom W H canvas room ≡ Passed
-    → answered (pos n ∷ []) ≡ writeCall W H canvas file → n < 2 ^ 32
-written-length-fits W H canvas file room n passed same =
+-- a raster has no more bytes than 1024 by 1024
+raster-length-most : (format : Format) (W H pixels : ℕ) → W ≤ 1024 → H ≤ 1024 → pixels ≤ 1024 * 1024
+    → rasterLength format W H pixels ≤ 1024 * 1024
+raster-length-most P4 W H pixels w h p =
+    let row : rowBytes W ≤ 1024 = omega arith in
+    mul-le-mul h row
+raster-length-most P5 W H pixels w h p = p
+
+pub written-length-fits : (format : Format) (W H : ℕ) (canvas file : List ℕ) (room n : ℕ) → writeRoom W H canvas room ≡ Passed
+    → answered (pos n ∷ []) ≡ writeCall format W H canvas file → n < 2 ^ 32
+written-length-fits format W H canvas file room n passed same =
     let lent = passed-first (orElse (canvasSizeCheck W H) (canvasLengthCheck W H (length canvas))) (roomCheck 1 room) passed in
     let sides = canvas-size-passed W H (passed-first (canvasSizeCheck W H) (canvasLengthCheck W H (length canvas)) lent) in
     let long = canvas-length-passed W H (length canvas) (passed-next (canvasSizeCheck W H) (canvasLengthCheck W H (length canvas)) lent) in
-    let few = at-most (writeCheck W H canvas file) n (length (p5 W H canvas)) same in
+    let few = at-most (writeCheck format W H canvas file) n (length (picture format W H canvas)) same in
     let area : W * H ≤ 1024 * 1024 = mul-le-mul (sides .width-most) (sides .height-most) in
-    let head = length-header-u32 W H (omega arith) (omega arith) in
-    omega (arith, length-p5 W H canvas)
+    let head = length-header-u32 format W H (omega arith) (omega arith) in
+    omega (arith, length-picture format W H canvas, raster-length-most format W H (length canvas) (sides .width-most) (sides .height-most) (omega arith))

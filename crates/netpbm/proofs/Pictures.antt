@@ -9,6 +9,7 @@ use lib.ListN.{replicate}
 use Rattle.refusal.specs.Refusal.{refused, answered}
 use Rattle.canvas_size.specs.CanvasSize.{canvasSizeCheck, canvasLengthCheck}
 use Rattle.netpbm_text.specs.Decimal.{decimalUpTo, decimal}
+use Rattle.netpbm_header.specs.declared.Format.the-variants.{P5}
 use Rattle.netpbm_header.specs.Header.{header}
 use Rattle.netpbm.specs.Netpbm.{writeCheck, writeCall, fileAfter}
 
@@ -22,12 +23,12 @@ unfolding decimal decimalUpTo
 decimals-hold = refl
 
 -- 4 by 4: `P5`, LF, `4 4`, LF, `255`, LF
-header-four-by-four : header 4 4 ≡ 80 ∷ 53 ∷ 10 ∷ 52 ∷ 32 ∷ 52 ∷ 10 ∷ 50 ∷ 53 ∷ 53 ∷ 10 ∷ []
+header-four-by-four : header P5 4 4 ≡ 80 ∷ 53 ∷ 10 ∷ 52 ∷ 32 ∷ 52 ∷ 10 ∷ 50 ∷ 53 ∷ 53 ∷ 10 ∷ []
 unfolding header decimal decimalUpTo
 header-four-by-four = refl
 
 -- 1024 by 1: W is first
-header-row : header 1024 1 ≡ 80 ∷ 53 ∷ 10 ∷ 49 ∷ 48 ∷ 50 ∷ 52 ∷ 32 ∷ 49 ∷ 10 ∷ 50 ∷ 53 ∷ 53 ∷ 10 ∷ []
+header-row : header P5 1024 1 ≡ 80 ∷ 53 ∷ 10 ∷ 49 ∷ 48 ∷ 50 ∷ 52 ∷ 32 ∷ 49 ∷ 10 ∷ 50 ∷ 53 ∷ 53 ∷ 10 ∷ []
 unfolding header decimal decimalUpTo
 header-row = refl
 
@@ -49,29 +50,29 @@ abbrev buffer : ℕ → List ℕ
 buffer n = replicate n 7
 
 -- it is written into 27 bytes and more, and the bytes past it stay; 26 are too few, and stay
-oval-written : map (λ (n : ℕ). fileAfter 4 4 oval (buffer n)) (26 ∷ 27 ∷ 30 ∷ [])
+oval-written : map (λ (n : ℕ). fileAfter P5 4 4 oval (buffer n)) (26 ∷ 27 ∷ 30 ∷ [])
     ≡ buffer 26 ∷ ovalFile ∷ (ovalFile ++ buffer 3) ∷ []
 unfolding writeCheck canvasSizeCheck canvasLengthCheck header decimal decimalUpTo
 oval-written = refl
 
-oval-answered : map (λ (n : ℕ). writeCall 4 4 oval (buffer n)) (26 ∷ 27 ∷ 30 ∷ [])
+oval-answered : map (λ (n : ℕ). writeCall P5 4 4 oval (buffer n)) (26 ∷ 27 ∷ 30 ∷ [])
     ≡ refused 13 ∷ answered (pos 27 ∷ []) ∷ answered (pos 27 ∷ []) ∷ []
 unfolding writeCheck canvasSizeCheck canvasLengthCheck header decimal decimalUpTo
 oval-answered = refl
 
 -- the lowest number: 6 before 8 before 13, with a canvas of 15 bytes and a buffer of none
-lowest-number-answered : map (λ (side : ℕ). writeCall side 4 (replicate 15 0) []) (0 ∷ 4 ∷ 1025 ∷ [])
+lowest-number-answered : map (λ (side : ℕ). writeCall P5 side 4 (replicate 15 0) []) (0 ∷ 4 ∷ 1025 ∷ [])
     ≡ refused 6 ∷ refused 8 ∷ refused 6 ∷ []
 unfolding writeCheck canvasSizeCheck canvasLengthCheck header decimal decimalUpTo
 lowest-number-answered = refl
 
 -- W and H are 1..1024: only 13 is left for a buffer of none
-widths-held : map (λ (W : ℕ). writeCall W 1 (replicate W 0) []) (0 ∷ 1 ∷ 1024 ∷ 1025 ∷ [])
+widths-held : map (λ (W : ℕ). writeCall P5 W 1 (replicate W 0) []) (0 ∷ 1 ∷ 1024 ∷ 1025 ∷ [])
     ≡ refused 6 ∷ refused 13 ∷ refused 13 ∷ refused 6 ∷ []
 unfolding writeCheck canvasSizeCheck canvasLengthCheck header decimal decimalUpTo
 widths-held = refl
 
-heights-held : map (λ (H : ℕ). writeCall 1 H (replicate H 0) []) (0 ∷ 1 ∷ 1024 ∷ 1025 ∷ [])
+heights-held : map (λ (H : ℕ). writeCall P5 1 H (replicate H 0) []) (0 ∷ 1 ∷ 1024 ∷ 1025 ∷ [])
     ≡ refused 6 ∷ refused 13 ∷ refused 13 ∷ refused 6 ∷ []
 unfolding writeCheck canvasSizeCheck canvasLengthCheck header decimal decimalUpTo
 heights-held = refl

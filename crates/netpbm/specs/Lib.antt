@@ -1,1 +1,3 @@
 pub mod Netpbm
+pub mod Read
+pub mod RoundTrip

@@ -6,11 +6,11 @@ use Prim.Native.Nat.{ℕ}
 use lib.Dec.{ltb}
 use lib.IntN.{ℤ, natAbs}
 use Rattle.refusal.specs.declared.Refusal.{Refusal}
-use Rattle.refusal.specs.declared.Refusal.the-variants.{Side, Radius, Position, Asked, Offset, CanvasSide, SheetRule, CanvasLength, SheetFull, NoLayer, NoRowLeft, RowOwed, BufferLength}
+use Rattle.refusal.specs.declared.Refusal.the-variants.{Side, Radius, Position, Asked, Offset, CanvasSide, SheetRule, CanvasLength, SheetFull, NoLayer, NoRowLeft, RowOwed, BufferLength, FileHeader, RasterLength}
 use Rattle.refusal.specs.declared.Checked.{Checked}
 use Rattle.refusal.specs.declared.Checked.the-variants.{Passed, Refused}
 
--- the numbers of the table ('The records'); what each is for stands at the enum (src/lib.rt)
+-- the numbers of the table ('The records'), and 14 and 15 of document 02, 'One'; what each is for stands at the enum (src/lib.rt)
 abbrev pub number : Refusal → ℕ
 number Side = 1
 number Radius = 2
@@ -25,6 +25,8 @@ number NoLayer = 10
 number NoRowLeft = 11
 number RowOwed = 12
 number BufferLength = 13
+number FileHeader = 14
+number RasterLength = 15
 
 -- the number that stands for a check, and for the answer to a call that gives no values: 0 for passed, which is accepted
 abbrev pub answerNumber : Checked → ℕ

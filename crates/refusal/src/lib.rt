@@ -1,5 +1,5 @@
-// The refusals of document 01's table, and the checks that lead to them. A call makes its checks in
-// the table's order, so the first that fails gives the lowest number that applies.
+// The refusals of document 01's table and of document 02, and the checks that lead to them. A call
+// makes its checks in the table's order (14 before all others), so the first that fails gives the number.
 ghost use mathlib.Core.Path.{_≡_};
 ghost use Rattle.refusal.specs.Refusal.{number as Refusal·number, refusalOf, refuseIf, orElse, above, beyond, roomCheck};
 
@@ -30,6 +30,10 @@ pub enum Refusal {
     RowOwed,
     // The lent list or file buffer is too short.
     BufferLength,
+    // The file's header is not one of P4 or P5.
+    FileHeader,
+    // The file ends before its raster does.
+    RasterLength,
 }
 
 impl Refusal {
@@ -51,6 +55,8 @@ impl Refusal {
             Refusal::NoRowLeft => 11,
             Refusal::RowOwed => 12,
             Refusal::BufferLength => 13,
+            Refusal::FileHeader => 14,
+            Refusal::RasterLength => 15,
         }
     }
 }

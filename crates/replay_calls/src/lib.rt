@@ -20,7 +20,7 @@ ghost use Prim.Native.Nat.{_≤_};
 
 // A line for each call: its name, and how many numbers, lists of numbers and lists of bytes it takes.
 // The arms of `make` and `on_rectangle` go by these lines, counted from 0.
-pub const TABLE: [u8; 304] = *b"contains 220
+pub const TABLE: [u8; 333] = *b"contains 220
 row 120
 points 030
 offset 120
@@ -34,6 +34,8 @@ sheet_add 030
 sheet_paint 111
 run_calls 221
 write_p5 212
+write_p4 212
+read_netpbm 012
 center 410
 with_center 410
 rows 410
@@ -85,6 +87,8 @@ pub fn make(
         11 => host_sheet::paint(a, u0, p),
         12 => run_calls(u0, u1, a, p, b),
         13 => host_netpbm::write_p5(u0, u1, p, q, a),
+        14 => host_netpbm::write_p4(u0, u1, p, q, a),
+        15 => host_netpbm::read(p, q, a),
         _ => on_rectangle(call, n, a),
     }
 }
@@ -168,12 +172,12 @@ fn run_calls(width: u32, height: u32, calls: &[i32], canvas: &mut [u8], list: &m
 // the host's manner.
 fn on_rectangle(call: usize, n: &[u32], out: &mut [i32]) -> u32 {
     match call {
-        14 => center(rectangle(n), out),
-        15 => put_answer(with_center(n), out),
-        16 => put_range(rectangle(n).rows(), out),
-        17 => put_range(rectangle(n).columns(), out),
-        18 => put_answer(rectangle(n).offset(integer(n, 4)), out),
-        19 => range(n, out),
+        16 => center(rectangle(n), out),
+        17 => put_answer(with_center(n), out),
+        18 => put_range(rectangle(n).rows(), out),
+        19 => put_range(rectangle(n).columns(), out),
+        20 => put_answer(rectangle(n).offset(integer(n, 4)), out),
+        21 => range(n, out),
         _ => widths(n, out),
     }
 }

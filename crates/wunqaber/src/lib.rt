@@ -9,7 +9,8 @@ ghost use Rattle.host_styled.specs.Styled.{styledRowSaid, styledBoundingBoxSaid
 ghost use Rattle.sheet_calls.specs.SheetCalls.{runAnswer};
 ghost use Rattle.host_paint.specs.Paint.{paintSaid, paintedAfter};
 ghost use Rattle.host_calls.specs.Calls.{runNumber, RunTold};
-ghost use Rattle.host_netpbm.specs.Netpbm.{writeSaid, writtenAfter};
+ghost use Rattle.netpbm_header.specs.declared.Format.the-variants.{P4, P5};
+ghost use Rattle.host_netpbm.specs.Netpbm.{writeSaid, writtenAfter, readSaid, readAfter};
 ghost use Rattle.host_sheet.specs.Sheets.{openSaid, addTold, addNumbers, paintTold, paintNumbers, paintCanvas};
 
 // Whether a point is inside, as 1 or 0. Refused by 1, 2, 3, 4 and 13.
@@ -156,9 +157,36 @@ pub extern "C" fn wunqaber_write_p5(
     file: &mut [u8],
     out: &mut [i32],
 ) -> u32
-    ensures { λ r. ⌜ Tells (writeSaid width height (now (canvas .entry)) (now (file .entry)) (length (now (out .entry))))
+    ensures { λ r. ⌜ Tells (writeSaid P5 width height (now (canvas .entry)) (now (file .entry)) (length (now (out .entry))))
         (now (out .entry)) r (now (out .exit)) ⌝ }
-    ensures { λ _. ⌜ now (file .exit) ≡ writtenAfter width height (now (canvas .entry)) (now (file .entry)) (length (now (out .entry))) ⌝ }
+    ensures { λ _. ⌜ now (file .exit) ≡ writtenAfter P5 width height (now (canvas .entry)) (now (file .entry)) (length (now (out .entry))) ⌝ }
 {
     host_netpbm::write_p5(width, height, canvas, file, out)
+}
+
+// The canvas as P4, and the length of the file. Refused by 6, 8 and 13.
+#[no_mangle]
+pub extern "C" fn wunqaber_write_p4(
+    width: u32,
+    height: u32,
+    canvas: &[u8],
+    file: &mut [u8],
+    out: &mut [i32],
+) -> u32
+    ensures { λ r. ⌜ Tells (writeSaid P4 width height (now (canvas .entry)) (now (file .entry)) (length (now (out .entry))))
+        (now (out .entry)) r (now (out .exit)) ⌝ }
+    ensures { λ _. ⌜ now (file .exit) ≡ writtenAfter P4 width height (now (canvas .entry)) (now (file .entry)) (length (now (out .entry))) ⌝ }
+{
+    host_netpbm::write_p4(width, height, canvas, file, out)
+}
+
+// A P4 or P5 file read into a canvas of its size, and its width and height. Refused by 14, 6, 8, 13 and
+// 15, looked for in this order.
+#[no_mangle]
+pub extern "C" fn wunqaber_read_netpbm(file: &[u8], canvas: &mut [u8], out: &mut [i32]) -> u32
+    ensures { λ r. ⌜ Tells (readSaid (now (file .entry)) (now (canvas .entry)) (length (now (out .entry)))) (now (out .entry)) r
+        (now (out .exit)) ⌝ }
+    ensures { λ _. ⌜ now (canvas .exit) ≡ readAfter (now (file .entry)) (now (canvas .entry)) (length (now (out .entry))) ⌝ }
+{
+    host_netpbm::read(file, canvas, out)
 }

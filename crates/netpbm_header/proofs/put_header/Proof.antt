@@ -5,59 +5,54 @@ use native.Mathlib.Omega.{arith}
 use borrow.Author.Needs.{needs}
 use Rattle.netpbm_header.specs.Header.{header}
 use Rattle.netpbm_text.proofs.Written.{wrote-then}
-use Rattle.netpbm_header.proofs.Header.{length-header}
+use Rattle.netpbm_header.proofs.Header.{length-opening, length-header}
+use borrow.Author.Needs.{needs}
 use Rattle.netpbm_header.proofs.put_header.Statement.{statement}
 use Rattle.netpbm_header.proofs.put_header.Tie as tie
 
 -- from each write back to the one before it, and from the first to the entry
-abbrev entry : tie.After-put → tie.Start
-entry c = c .before .before .before .before
+abbrev entry : tie.After-put-magic → tie.Start
+entry c = c .before .before .before
 
-abbrev magic-put : tie.After-put-number → tie.After-put
+abbrev magic-put : tie.After-put-number → tie.After-put-magic
 magic-put c = c .before .before .before .before
 
-abbrev width-put : tie.After-put2 → tie.After-put-number
+abbrev width-put : tie.After-put → tie.After-put-number
 width-put c = c .before .before .before .before .before
 
-abbrev space-put : tie.After-put-number2 → tie.After-put2
+abbrev space-put : tie.After-put-number2 → tie.After-put
 space-put c = c .before .before .before .before
 
-abbrev height-put : tie.After-put3 → tie.After-put-number2
-height-put c = c .before .before .before .before .before
+abbrev height-put : tie.After-put-ending → tie.After-put-number2
+height-put c = c .before .before .before .before
+
+put-magic-requires : tie.Need-put-magic-requires
+put-magic-requires c κs =
+    let a = c .before .before .args in
+    omega (arith, length-header (a .format) (a .size .width) (a .size .height), length-opening (a .format))
+
+put-number-requires : tie.Need-put-number-requires
+put-number-requires c κs =
+    let a = entry (c .before .before .before) .args in
+    omega (arith, length-header (a .format) (a .size .width) (a .size .height), length-opening (a .format))
 
 slice-aggregate-put : tie.Need-slice-aggregate-put
 slice-aggregate-put c = search needs
 
 put-requires : tie.Need-put-requires
 put-requires c κs =
-    let size = c .before .before .before .args .size in
-    omega (arith, length-header (size .width) (size .height))
-
-put-number-requires : tie.Need-put-number-requires
-put-number-requires c κs =
-    let size = entry (c .before .before .before) .args .size in
-    omega (arith, length-header (size .width) (size .height))
-
-slice-aggregate-put-2 : tie.Need-slice-aggregate-put-2
-slice-aggregate-put-2 c = search needs
-
-put-requires-2 : tie.Need-put-requires-2
-put-requires-2 c κs =
-    let size = entry (magic-put (c .before .before .before .before)) .args .size in
-    omega (arith, length-header (size .width) (size .height))
+    let a = entry (magic-put (c .before .before .before .before)) .args in
+    omega (arith, length-header (a .format) (a .size .width) (a .size .height), length-opening (a .format))
 
 put-number-requires-2 : tie.Need-put-number-requires-2
 put-number-requires-2 c κs =
-    let size = entry (magic-put (width-put (c .before .before .before))) .args .size in
-    omega (arith, length-header (size .width) (size .height))
+    let a = entry (magic-put (width-put (c .before .before .before))) .args in
+    omega (arith, length-header (a .format) (a .size .width) (a .size .height), length-opening (a .format))
 
-slice-aggregate-put-3 : tie.Need-slice-aggregate-put-3
-slice-aggregate-put-3 c = search needs
-
-put-requires-3 : tie.Need-put-requires-3
-put-requires-3 c κs =
-    let size = entry (magic-put (width-put (space-put (c .before .before .before .before)))) .args .size in
-    omega (arith, length-header (size .width) (size .height))
+put-ending-requires : tie.Need-put-ending-requires
+put-ending-requires c κs =
+    let a = entry (magic-put (width-put (space-put (c .before .before .before)))) .args in
+    omega (arith, length-header (a .format) (a .size .width) (a .size .height), length-opening (a .format))
 
 same-length : tie.Need-same-length
 same-length c = search needs
@@ -65,26 +60,24 @@ same-length c = search needs
 returns : tie.Need-returns
 unfolding header
 returns c =
-    let maximum = c .before .before in
-    let height = height-put maximum in
+    let ending = c .before .before in
+    let height = height-put ending in
     let space = space-put height in
     let width = width-put space in
     let magic = magic-put width in
-    let to-width = wrote-then (magic .put .ensures) (width .put-number .ensures) in
-    let to-height = wrote-then (wrote-then to-width (space .put2 .ensures)) (height .put-number2 .ensures) in
-    wrote-then to-height (maximum .put3 .ensures)
+    let to-width = wrote-then (magic .put-magic .ensures) (width .put-number .ensures) in
+    let to-height = wrote-then (wrote-then to-width (space .put .ensures)) (height .put-number2 .ensures) in
+    wrote-then to-height (ending .put-ending .ensures)
 
 pub put-header-spec : {M : Type 1} → statement M
 put-header-spec =
     tie.close
     (tie.spec
+    put-magic-requires
+    put-number-requires
     slice-aggregate-put
     put-requires
-    put-number-requires
-    slice-aggregate-put-2
-    put-requires-2
     put-number-requires-2
-    slice-aggregate-put-3
-    put-requires-3
+    put-ending-requires
     same-length
     returns)

@@ -1,4 +1,4 @@
--- `host_netpbm::write_p5` meets its contract: once the canvas and the place for the length are checked the file is written, and the
+-- `host_netpbm::write` meets its contract: once the canvas and the place for the length are checked the file is written, and the
 -- answer told. The length of a file fits 32 bits.
 -- Assumes nothing.
 use mathlib.Core.Path.{_≡_, refl, sym, ap, ap₂, _∙_}
@@ -11,8 +11,8 @@ use Rattle.host_answers.proofs.Telling.{tells-as, tells-refusal}
 use Rattle.host_netpbm.specs.Netpbm.{writeRoom}
 use Rattle.host_netpbm.proofs.FileLength.{written-length-fits}
 use borrow.Author.Needs.{needs}
-use Rattle.host_netpbm.proofs.write_p5.Statement.{statement}
-use Rattle.host_netpbm.proofs.write_p5.Tie as tie
+use Rattle.host_netpbm.proofs.write.Statement.{statement}
+use Rattle.host_netpbm.proofs.write.Tie as tie
 
 abbrev start-or-else2 : tie.After-or-else2 → tie.Start
 start-or-else2 c = c .before .before .before .before .before .before .before
@@ -27,14 +27,14 @@ checked c =
     c .or-else2 .ensures ∙ ap₂ orElse (c .before .before .or-else .ensures ∙ ap₂ orElse (at-check .ensures) (at-check-length .ensures))
     (c .before .check-room .ensures)
 
-abbrev start-write-p5 : tie.After-write-p5 → tie.Start
-start-write-p5 c = c .before .before .before .before .before .before .before .before .before .before .before
+abbrev start-write : tie.After-write → tie.Start
+start-write c = c .before .before .before .before .before .before .before .before .before .before .before
 
 -- what the call says, and the file after it
-says : (c : tie.After-write-p5)
-    → writeOutcome (c .write-p5 .result) ≡ writeCall (start-write-p5 c .args .width) (start-write-p5 c .args .height)
-    (start-write-p5 c .args .canvas .now) (start-write-p5 c .args .file .now)
-says c = c .write-p5 .ensures .0
+says : (c : tie.After-write)
+    → writeOutcome (c .write .result) ≡ writeCall (start-write c .args .format) (start-write c .args .width) (start-write c .args .height)
+    (start-write c .args .canvas .now) (start-write c .args .file .now)
+says c = c .write .ensures .0
 
 check-requires : tie.Need-check-requires
 check-requires c κs = search needs
@@ -73,8 +73,8 @@ returns c =
       refl,
     )
 
-write-p5-requires : tie.Need-write-p5-requires
-write-p5-requires c κs = search needs
+write-requires : tie.Need-write-requires
+write-requires c κs = search needs
 
 enum-known-refusal : tie.Need-enum-known-refusal
 enum-known-refusal c = search needs
@@ -93,7 +93,7 @@ cast-put-count c =
     let args = early .before .before .before .before .before .before .before .before .args in
     let a = args in
     record {
-      fits = written-length-fits (a .width) (a .height) (a .canvas .now) (a .file .now) (length (a .out .now)) _
+      fits = written-length-fits (a .format) (a .width) (a .height) (a .canvas .now) (a .file .now) (length (a .out .now)) _
           (sym (checked back-9) ∙ at-enum-told .given .1)
           (sym (ap (λ (a : WriteAnswer). writeOutcome a) (c .before .n .given .1)) ∙ says (c .before .before .before .before .before));
     }
@@ -107,14 +107,14 @@ same-length c = search needs
 returns-2 : tie.Need-returns-2
 returns-2 c =
     let early = c .before .before .before .before .before .before .before .before in
-    let at-write-p5 = c .before .before .before .before .before .before .write-p5 in
+    let at-write = c .before .before .before .before .before .before .write in
     let at-enum-told = c .before .before .before .before .before .before .before .before .enum-told in
     let back-10 = c .before .before .before .before .before .before .before .before .before .before in
     let args = early .before .before .before .before .before .before .before .before .before .args in
     rw (sym (checked back-10) ∙ at-enum-told .given .1) (
       tells-refusal (args .out .now) (sym (ap (λ (a : WriteAnswer). writeOutcome a) (c .before .before .refusal2 .given .1)) ∙ says
           (c .before .before .before .before .before .before)) (c .number2 .ensures),
-      at-write-p5 .ensures .1,
+      at-write .ensures .1,
     )
 
 same-length-2 : tie.Need-same-length-2
@@ -127,16 +127,16 @@ returns-3 : tie.Need-returns-3
 returns-3 c =
     let at-n = c .before .before .before .before .n in
     let back-8 = c .before .before .before .before .before .before .before .before in
-    let at-write-p5 = c .before .before .before .before .before .before .before .before .write-p5 in
+    let at-write = c .before .before .before .before .before .before .before .before .write in
     let at-enum-told = c .before .before .before .before .before .before .before .before .before .before .enum-told in
     let back-12 = c .before .before .before .before .before .before .before .before .before .before .before .before in
     rw (sym (checked back-12) ∙ at-enum-told .given .1) (
       tells-as (sym (ap (λ (a : WriteAnswer). writeOutcome a) (at-n .given .1)) ∙ says back-8) (c .before .put-count .ensures),
-      at-write-p5 .ensures .1,
+      at-write .ensures .1,
     )
 
-pub write-p5-spec : {M : Type 1} → statement M
-write-p5-spec =
+pub write-spec : {M : Type 1} → statement M
+write-spec =
     tie.close
     (tie.spec
     check-requires
@@ -149,7 +149,7 @@ write-p5-spec =
     refusal-requires
     number-requires
     returns
-    write-p5-requires
+    write-requires
     enum-known-refusal
     number-requires-2
     enum-known-n

@@ -1,0 +1,2 @@
+pub mod Raster
+pub mod Steps
