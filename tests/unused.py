@@ -24,7 +24,8 @@ FOR_READERS = {
     'length-decimal-least',  # every number has a digit
     'overpaint-pixel',  # a canvas byte after a styled row, by the runs that have it
     'length-header-most',  # a file takes at most 17 bytes more than its canvas
-    'file-after-passed',  # the file stands first in its buffer, and the bytes past it stay
+    'row-repacks',  # bytes that were unpacked pack to themselves, where the filling bits are 0
+    'written-reads-back',  # README, 'What is proved'
 }
 
 # Files of computed examples, which nobody cites.

@@ -16,8 +16,8 @@ use Rattle.canvas_size.proofs.Sides.{canvas-size-passed, canvas-length-passed}
 use Rattle.netpbm_header.specs.declared.Format.{Format}
 use Rattle.netpbm_header.specs.declared.Format.the-variants.{P4, P5}
 use Rattle.netpbm_header.proofs.Header.{length-header-u32}
-use Rattle.netpbm_raster.specs.Raster.{rowBytes}
-use Rattle.netpbm.specs.Netpbm.{picture, rasterLength, writeCheck, writeCall}
+use Rattle.netpbm_raster.specs.Raster.{rowBytes, rasterLength}
+use Rattle.netpbm.specs.Netpbm.{picture, writeCheck, writeCall}
 use Rattle.netpbm.proofs.File.{length-picture}
 use Rattle.host_netpbm.specs.Netpbm.{writeRoom}
 

@@ -8,7 +8,7 @@ use Rattle.refusal.specs.Refusal.{orElse, Outcome, keeping, roomCheck}
 use Rattle.canvas_size.specs.CanvasSize.{canvasSizeCheck, canvasLengthCheck}
 use Rattle.netpbm_header.specs.declared.Format.{Format}
 use Rattle.netpbm.specs.Netpbm.{writeCall, fileAfter}
-use Rattle.netpbm.specs.Read.{readBeside, canvasBeside}
+use Rattle.netpbm_read.specs.Read.{readBeside, canvasBeside}
 use Rattle.host_answers.specs.HostAnswers.{afterCheck}
 
 -- `write_p4`, `write_p5`: of the host's two buffers the one for the length is looked at first, so that nothing is written where it has no

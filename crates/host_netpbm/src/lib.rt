@@ -5,9 +5,9 @@ use canvas_size::CanvasSize;
 use host_answers::held;
 use host_answers::put_numbers;
 use host_values::put_count;
-use netpbm::ReadAnswer;
 use netpbm::WriteAnswer;
 use netpbm_header::Format;
+use netpbm_read::ReadAnswer;
 use refusal::Checked;
 use refusal::check_room;
 ghost use mathlib.Core.Path.{_≡_};
@@ -83,7 +83,7 @@ pub fn read(file: &[u8], canvas: &mut [u8], out: &mut [i32]) -> u32
         (now (out .exit)) ⌝ }
     ensures { λ _. ⌜ now (canvas .exit) ≡ readAfter (now (file .entry)) (now (canvas .entry)) (length (now (out .entry))) ⌝ }
 {
-    match netpbm::read_beside(file, canvas, check_room(SIDES, out.len())) {
+    match netpbm_read::read_beside(file, canvas, check_room(SIDES, out.len())) {
         ReadAnswer::Refused(refusal) => refusal.number(),
         ReadAnswer::Read(size) => put_sides(size, out),
     }

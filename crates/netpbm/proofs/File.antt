@@ -14,8 +14,9 @@ use Rattle.netpbm_text.proofs.Written.{sets-start}
 use Rattle.netpbm_header.specs.declared.Format.{Format}
 use Rattle.netpbm_header.specs.declared.Format.the-variants.{P4, P5}
 use Rattle.netpbm_header.specs.Header.{header}
+use Rattle.netpbm_raster.specs.Raster.{rasterLength}
 use Rattle.netpbm_raster.proofs.Rows.{length-packed-rows}
-use Rattle.netpbm.specs.Netpbm.{raster, rasterLength, picture, writeCheck, fileAfter}
+use Rattle.netpbm.specs.Netpbm.{raster, picture, writeCheck, fileAfter}
 
 pub length-raster : (format : Format) (W H : ℕ) (canvas : List ℕ)
     → length (raster format W H canvas) ≡ rasterLength format W H (length canvas)

@@ -1,29 +1,28 @@
 -- A picture that was written reads back: its header is read as it was written, 6, 8 and 15 pass, and its raster holds the canvas.
 -- Assumes nothing.
-use mathlib.Core.Path.{_≡_, refl, sym, ap, subst, _∙_}
-use mathlib.Core.Bool.{false}
+use mathlib.Core.Path.{_≡_, sym, ap, subst, _∙_}
 use mathlib.Core.List.{List, _++_, append-assoc}
-use Prim.Native.Nat.{ℕ, _+_, _*_, _≤_}
+use Prim.Native.Nat.{ℕ, _*_, _≤_}
 use native.Mathlib.Nat.{mul-comm}
 use native.Mathlib.Omega.{arith}
 use borrow.Author.Tests.{le-ltb, eq-eqb}
 use lib.ListN.{length, drop, length-append}
 use lib.Seq.{take-at}
-use Rattle.refusal.specs.declared.Checked.{Checked}
 use Rattle.refusal.specs.declared.Checked.the-variants.{Passed}
-use Rattle.refusal.specs.Refusal.{orElse, roomCheck}
+use Rattle.refusal.specs.Refusal.{orElse}
 use Rattle.refusal.proofs.Checks.{passed-first}
 use Rattle.canvas_size.specs.CanvasSize.{canvasSizeCheck, canvasLengthCheck}
 use Rattle.netpbm_header.specs.declared.Format.{Format}
 use Rattle.netpbm_header.specs.declared.Format.the-variants.{P4, P5}
 use Rattle.netpbm_header.specs.Header.{header}
-use Rattle.netpbm_parser.specs.Parser.{FileHeader, headed, fileHeader}
+use Rattle.netpbm_parser.specs.Parser.{headed, fileHeader}
 use Rattle.netpbm_parser.proofs.Headers.{header-read}
+use Rattle.netpbm_raster.specs.Raster.{rasterLength}
 use Rattle.netpbm_raster.proofs.RoundTrip.{rows-unpack}
-use Rattle.netpbm.specs.Netpbm.{raster, rasterLength, picture, writeCheck, fileAfter}
-use Rattle.netpbm.specs.Read.{pixels, readCheck}
+use Rattle.netpbm.specs.Netpbm.{raster, picture, writeCheck}
+use Rattle.netpbm_read.specs.Read.{pixels, readCheck}
 use Rattle.netpbm.specs.RoundTrip.{readBack, ReadsAs, PictureReadsBack, WrittenReadsBack}
-use Rattle.netpbm.proofs.File.{length-raster, write-passed-length, write-passed-room, file-after-passed}
+use Rattle.netpbm.proofs.File.{length-raster, write-passed-length, file-after-passed}
 
 -- a raster holds the canvas that it was made of, whatever stands behind it
 raster-holds : (format : Format) (W H : ℕ) (canvas behind : List ℕ) → length canvas ≡ W * H

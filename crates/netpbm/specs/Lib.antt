@@ -1,3 +1,2 @@
 pub mod Netpbm
-pub mod Read
 pub mod RoundTrip

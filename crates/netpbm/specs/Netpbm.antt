@@ -2,7 +2,7 @@
 -- write one promise.
 -- Assumes nothing.
 use mathlib.Core.List.{List, [], _∷_, _++_}
-use Prim.Native.Nat.{ℕ, _*_}
+use Prim.Native.Nat.{ℕ}
 use lib.IntN.{pos}
 use lib.ListN.{length}
 use lib.Seq.{sets}
@@ -14,17 +14,12 @@ use Rattle.canvas_size.specs.CanvasSize.{canvasSizeCheck, canvasLengthCheck}
 use Rattle.netpbm_header.specs.declared.Format.{Format}
 use Rattle.netpbm_header.specs.declared.Format.the-variants.{P4, P5}
 use Rattle.netpbm_header.specs.Header.{header}
-use Rattle.netpbm_raster.specs.Raster.{rowBytes, packedRows}
+use Rattle.netpbm_raster.specs.Raster.{packedRows}
 
 -- the raster: of P4 the rows as bits, of P5 the bytes of the canvas
 abbrev pub raster : Format → ℕ → ℕ → List ℕ → List ℕ
 raster P4 W H canvas = packedRows W H canvas
 raster P5 W H canvas = canvas
-
--- how many bytes it has, by how many pixels there are
-abbrev pub rasterLength : Format → ℕ → ℕ → ℕ → ℕ
-rasterLength P4 W H pixels = H * rowBytes W
-rasterLength P5 W H pixels = pixels
 
 -- the header, then the raster
 abbrev pub picture : Format → ℕ → ℕ → List ℕ → List ℕ

@@ -12,7 +12,7 @@ use Rattle.netpbm_header.specs.declared.Format.{Format}
 use Rattle.netpbm_header.specs.declared.Format.the-variants.{P4, P5}
 use Rattle.netpbm_raster.specs.Raster.{bit}
 use Rattle.netpbm.specs.Netpbm.{picture, writeCheck, fileAfter}
-use Rattle.netpbm.specs.Read.{readCall, canvasAfter}
+use Rattle.netpbm_read.specs.Read.{readCall, canvasAfter}
 
 -- as what a canvas reads back: P4 has each nonzero byte as 1, P5 the same canvas
 abbrev pub readBack : Format → List ℕ → List ℕ

@@ -1,9 +1,9 @@
 -- Numbers and headers as far as they are kept: digits read one by one, the maximum, and the sides.
 -- Assumes nothing.
-use mathlib.Core.Path.{_≡_, refl, sym, ap, ap₂, _∙_}
+use mathlib.Core.Path.{_≡_, refl, sym, ap, _∙_}
 use mathlib.Core.Bool.{Bool, true, false, cond, _&&_}
 use mathlib.Core.List.{List, [], _∷_}
-use Prim.Native.Nat.{ℕ, zero, suc, _+_, _*_, _-_, _≤_, _<_, min}
+use Prim.Native.Nat.{ℕ, suc, _+_, _*_, _≤_, _<_, min}
 use native.Mathlib.Numerals.{add-one}
 use native.Mathlib.Nat.{min-eq-left}
 use native.Mathlib.Omega.{arith}
@@ -13,7 +13,8 @@ use lib.ListN.{length, drop, getD}
 use lib.Seq.{drop-cons}
 use Rattle.netpbm_text.proofs.Written.{drop-all}
 use Rattle.netpbm_header.specs.declared.Format.{Format}
-use Rattle.netpbm_parser.specs.Parser.{isDigit, digitValue, Parsed, malformed, parsed, digitsFrom, number, Rest, none, rest, afterWhite, afterMaximum, closing, FileHeader, noHeader, headed, ofRest, ofHeight, ofWidth, startsWith}
+use Rattle.netpbm_text.specs.Bytes.{isDigit, digitValue}
+use Rattle.netpbm_parser.specs.Parser.{Parsed, malformed, parsed, digitsFrom, number, Rest, none, rest, afterWhite, afterMaximum, closing, FileHeader, noHeader, ofRest, ofHeight, ofWidth, startsWith}
 use Rattle.netpbm_parser.specs.Capped.{mostKept, capped, cappedHeader}
 
 -- a number that is kept is not changed

@@ -1,16 +1,17 @@
 -- Laws of whitespace, comments and digits at a place of a file: what the byte there says of what follows.
 -- Assumes nothing.
-use mathlib.Core.Path.{_≡_, refl, sym, ap, _∙_}
-use mathlib.Core.Bool.{Bool, true, false, cond, _||_}
-use mathlib.Core.List.{List, [], _∷_}
-use Prim.Native.Nat.{ℕ, zero, suc, _+_, _≤_, _<_}
+use mathlib.Core.Path.{_≡_, refl, sym, _∙_}
+use mathlib.Core.Bool.{Bool, true, false, _||_}
+use mathlib.Core.List.{List}
+use Prim.Native.Nat.{ℕ, _+_, _≤_, _<_}
 use native.Mathlib.Numerals.{add-one}
 use native.Mathlib.Omega.{arith}
 use borrow.Author.Tests.{eq-eqb, ne-eqb}
 use lib.ListN.{length, drop, getD}
 use lib.Seq.{drop-cons}
 use Rattle.netpbm_text.proofs.Written.{drop-all}
-use Rattle.netpbm_parser.specs.Parser.{white, hash, endsComment, isDigit, Parsed, malformed, digits, digitsFrom, afterGap, number, Rest, none, rest, afterWhite}
+use Rattle.netpbm_text.specs.Bytes.{white, hash, endsComment, isDigit}
+use Rattle.netpbm_parser.specs.Parser.{malformed, digits, digitsFrom, afterGap, number, none, rest, afterWhite}
 use Rattle.netpbm_parser.specs.Capped.{Piece}
 
 -- the byte that begins a comment

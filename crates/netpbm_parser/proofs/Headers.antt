@@ -1,17 +1,18 @@
 -- A header that was written is read: its format, its two numbers, and the bytes behind it.
 -- Assumes nothing.
-use mathlib.Core.Path.{_≡_, refl, sym, ap, _∙_}
-use mathlib.Core.Bool.{Bool, true, false, cond, _&&_, _||_}
+use mathlib.Core.Path.{_≡_, refl, ap, _∙_}
+use mathlib.Core.Bool.{Bool, true, false, cond}
 use mathlib.Core.List.{List, [], _∷_, _++_, append-assoc}
-use Prim.Native.Nat.{ℕ, zero, suc, _+_, _*_, _/_, _%_, _-_, _≤_, _<_}
+use Prim.Native.Nat.{ℕ, zero, suc, _+_, _*_, _/_, _%_, _≤_, _<_}
 use native.Mathlib.Omega.{arith}
-use borrow.Author.Tests.{leb-true, le-leb, lt-leb, ne-eqb, ltb-true, ltb-false}
-use lib.Dec.{ltb, leb, eqb}
+use borrow.Author.Tests.{le-leb, ne-eqb, ltb-true, ltb-false}
+use lib.Dec.{ltb}
 use Rattle.netpbm_text.specs.Decimal.{digit, decimalUpTo, decimal}
 use Rattle.netpbm_header.specs.declared.Format.{Format}
 use Rattle.netpbm_header.specs.declared.Format.the-variants.{P4, P5}
 use Rattle.netpbm_header.specs.Header.{header}
-use Rattle.netpbm_parser.specs.Parser.{white, hash, isDigit, digitValue, Parsed, malformed, parsed, digits, digitsFrom, afterGap, number, afterWhite, afterMaximum, rest, headed, startsWith, fileHeader}
+use Rattle.netpbm_text.specs.Bytes.{white, hash, isDigit}
+use Rattle.netpbm_parser.specs.Parser.{parsed, digits, digitsFrom, afterGap, number, afterWhite, afterMaximum, rest, headed, startsWith, fileHeader}
 use Rattle.netpbm_parser.proofs.Capped.{digit-least}
 
 -- a digit as it is written is one

@@ -1,12 +1,11 @@
 -- What the code keeps of a header: places for bytes that are left, and numbers up to a bound. `proofs/Capped.antt` has the laws.
 -- Assumes nothing.
 use mathlib.Core.Path.{_≡_}
-use mathlib.Core.Bool.{true, false}
+use mathlib.Core.Bool.{false}
 use mathlib.Core.List.{List}
 use Prim.{Unit}
 use Prim.Native.Nat.{ℕ, min, _≤_, _<_}
 use lib.ListN.{length, drop}
-use Rattle.netpbm_header.specs.declared.Format.{Format}
 use Rattle.netpbm_parser.specs.declared.Number.{Number}
 use Rattle.netpbm_parser.specs.declared.Number.the-variants as number-read
 use Rattle.netpbm_parser.specs.declared.Place.{Place}

@@ -1,31 +1,14 @@
 -- Document 02, 'One': the header of a Netpbm file of format P4 or P5, over the bytes of the file. Numbers have any length.
 -- Assumes nothing.
-use mathlib.Core.Bool.{Bool, true, false, cond, _&&_, _||_}
+use mathlib.Core.Bool.{Bool, true, false, cond, _||_}
 use mathlib.Core.List.{List, [], _∷_}
-use Prim.Native.Nat.{ℕ, _+_, _*_, _-_}
-use lib.Dec.{leb, eqb}
+use Prim.Native.Nat.{ℕ, _+_, _*_}
+use lib.Dec.{eqb}
 use lib.ListN.{drop}
+use Rattle.netpbm_text.specs.Bytes.{white, hash, endsComment, isDigit, digitValue}
 use Rattle.netpbm_header.specs.declared.Format.{Format}
 use Rattle.netpbm_header.specs.declared.Format.the-variants.{P4, P5}
 use Rattle.netpbm_header.specs.Header.{magic}
-
--- whitespace: space, TAB, CR, LF
-unfoldable pub white : ℕ → Bool
-white byte = eqb byte 32 || (eqb byte 9 || (eqb byte 13 || eqb byte 10))
-
--- #, with which a comment begins, and CR or LF, through which it runs
-unfoldable pub hash : ℕ → Bool
-hash byte = eqb byte 35
-
-unfoldable pub endsComment : ℕ → Bool
-endsComment byte = eqb byte 13 || eqb byte 10
-
--- a decimal digit, and its value; 48 is `0`
-unfoldable pub isDigit : ℕ → Bool
-isDigit byte = leb 48 byte && leb byte 57
-
-abbrev pub digitValue : ℕ → ℕ
-digitValue byte = byte - 48
 
 -- what is read at the start of bytes: a number, and the bytes behind it; or none
 pub data Parsed : Type 0 where

@@ -2,11 +2,15 @@
 // any limit is kept as one that is above every limit too (`MOST_KEPT`), so that digits may go on.
 // Document 02 adds it; the Rust has no such file.
 use netpbm_header::Format;
+use netpbm_text::ends_comment;
+use netpbm_text::is_digit;
+use netpbm_text::is_white;
 ghost use mathlib.Core.Path.{_≡_};
 ghost use mathlib.Core.Bool.{true, false};
 ghost use Prim.Native.Nat.{_+_, _*_, _-_, _≤_, min};
 ghost use lib.ListN.{length, drop};
-ghost use Rattle.netpbm_parser.specs.Parser.{white, endsComment, isDigit, digitValue, digits, afterGap, number, afterWhite, closing, startsWith, ofWidth, fileHeader};
+ghost use Rattle.netpbm_text.specs.Bytes.{digitValue};
+ghost use Rattle.netpbm_parser.specs.Parser.{digits, afterGap, afterWhite, closing, startsWith, ofWidth, fileHeader};
 ghost use Rattle.netpbm_parser.specs.Parser.{number as Parser·number};
 ghost use Rattle.netpbm_parser.specs.Capped.{mostKept, capped, cappedHeader, numberIn, placeIn, headerIn, NumberWithin, PlaceWithin, HeaderWithin, Piece};
 
@@ -36,25 +40,6 @@ pub struct Header {
 pub enum Parsed {
     NoHeader,
     Headed(Header),
-}
-
-// Space, TAB, CR, LF.
-fn is_white(byte: u8) -> bool
-    ensures { λ r. ⌜ r ≡ white byte ⌝ }
-{
-    (byte == b' ') | ((byte == b'\t') | ((byte == b'\r') | (byte == b'\n')))
-}
-
-fn ends_comment(byte: u8) -> bool
-    ensures { λ r. ⌜ r ≡ endsComment byte ⌝ }
-{
-    (byte == b'\r') | (byte == b'\n')
-}
-
-fn is_digit(byte: u8) -> bool
-    ensures { λ r. ⌜ r ≡ isDigit byte ⌝ }
-{
-    (b'0' <= byte) & (byte <= b'9')
 }
 
 // The place behind the CR or LF that ends a comment, or the file's end, where no number follows.

@@ -4,7 +4,7 @@
 use mathlib.Core.Path.{_≡_, refl, sym, ap, ap₂, _∙_}
 use mathlib.Core.Bool.{Bool, true, false}
 use mathlib.Core.List.{List, [], _∷_, _++_, append-assoc, map, map-append}
-use Prim.Native.Nat.{ℕ, zero, suc, _+_, _*_, _/_, _-_, _≤_, _<_}
+use Prim.Native.Nat.{ℕ, zero, suc, _+_, _*_, _≤_, _<_}
 use native.Mathlib.Nat.{suc-mul}
 use native.Mathlib.Omega.{arith}
 use borrow.Author.Tests.{ltb-true, ltb-false}
@@ -13,7 +13,7 @@ use lib.ListN.{length, take, drop, getD, length-take, length-drop, length-map, t
 use lib.Seq.{ext-getD, getD-take, getD-drop, take-at, drop-at, length-take-le}
 use Rattle.netpbm_raster.specs.Raster.{bit, packedByte, packedBytes, rowBytes, packedRow, packedRows, pixelsOf, unpacked, unpackedRow, unpackedRows}
 use Rattle.netpbm_raster.proofs.Bits.{bit-of-zero, eightBits, pixels-of-packed, pixels-packed}
-use Rattle.netpbm_raster.proofs.Rows.{length-packed-bytes, length-unpacked, length-unpacked-row}
+use Rattle.netpbm_raster.proofs.Rows.{length-packed-bytes, length-unpacked-row}
 
 -- the pixel at each place of packed bytes is the bit of the row's pixel there
 pixel-packed : (n : ℕ) (row : List ℕ) (i : ℕ) → i < 8 * n → getD (unpacked (packedBytes n row)) i 0 ≡ bit (getD row i 0)

@@ -2,14 +2,16 @@
 -- Assumes nothing.
 use mathlib.Core.Path.{_≡_, refl, sym, ap, _∙_}
 use mathlib.Core.List.{List, [], _∷_, _++_, append-assoc, append-nil}
-use Prim.Native.Nat.{ℕ, zero, suc, _+_, _*_, _/_, _-_, _≤_, _<_}
-use native.Mathlib.Nat.{suc-mul}
+use Prim.Native.Nat.{ℕ, zero, suc, _+_, _*_, _-_, _≤_, _<_, _^_}
+use native.Mathlib.Nat.{suc-mul, mul-le-mul}
 use native.Mathlib.Numerals.{add-one}
 use native.Mathlib.Omega.{arith}
 use lib.ListN.{length, take, drop, getD, set, length-append, length-take, length-drop}
 use lib.Seq.{sets, drop-cons, take-at, take-append-le, take-append-add, take-all, length-take-le, drop-drop}
+use Rattle.netpbm_header.specs.declared.Format.{Format}
+use Rattle.netpbm_header.specs.declared.Format.the-variants.{P4, P5}
 use Rattle.netpbm_text.proofs.Written.{sets-append, drop-all}
-use Rattle.netpbm_raster.specs.Raster.{packedByte, packedBytes, rowBytes, packedRow, packedRows, pixelsOf, unpacked, unpackedRow, unpackedRows}
+use Rattle.netpbm_raster.specs.Raster.{packedByte, packedBytes, rowBytes, rasterLength, packedRow, packedRows, pixelsOf, unpacked, unpackedRow, unpackedRows}
 use Rattle.netpbm_raster.specs.Steps.{shiftedOut}
 use Rattle.netpbm_raster.proofs.Bits.{shifted-first, shifted-pixels}
 
@@ -38,7 +40,7 @@ unfolding packedRows
 length-packed-rows W zero canvas = omega arith
 length-packed-rows W (suc H) canvas =
     simp length-append
-    (rw (length-packed-bytes (rowBytes W) (take W canvas), length-packed-rows W H (drop W canvas)) (omega (arith, one-more H (rowBytes W))))
+    (rw (length-packed-bytes, length-packed-rows W H (drop W canvas)) (omega (arith, one-more H (rowBytes W))))
   where
     one-more : (n m : ℕ) → suc n * m ≡ m + n * m
     one-more n m = omega (arith, suc-mul n m)
@@ -164,3 +166,12 @@ pub unpack-rows-end : (canvas raster : List ℕ) (at left W : ℕ) → left ≡ 
     → take at canvas ++ unpackedRows W left raster ≡ canvas
 unfolding unpackedRows
 unpack-rows-end canvas raster at left W none all = rw (none, append-nil) (take-all at canvas all)
+
+-- the bytes of any raster fit 63 bits
+pub raster-length-fits : (format : Format) (W H pixels : ℕ) → W < 2 ^ 32 → H < 2 ^ 32 → pixels < 2 ^ 63 → rasterLength format W H pixels < 2 ^ 63
+raster-length-fits P4 W H pixels w h p =
+    let height : H ≤ 4294967295 = omega arith in
+    let bytes : rowBytes W ≤ 536870912 = omega arith in
+    let product : H * rowBytes W ≤ 4294967295 * 536870912 = mul-le-mul height bytes in
+    omega arith
+raster-length-fits P5 W H pixels w h p = p

@@ -5,6 +5,8 @@ use mathlib.Core.List.{List, [], _∷_, _++_}
 use Prim.Native.Nat.{ℕ, zero, suc, _+_, _*_, _/_, _%_}
 use lib.Dec.{eqb}
 use lib.ListN.{take, drop, getD}
+use Rattle.netpbm_header.specs.declared.Format.{Format}
+use Rattle.netpbm_header.specs.declared.Format.the-variants.{P4, P5}
 
 -- the bit of a pixel: 1 for a nonzero byte
 unfoldable pub bit : ℕ → ℕ
@@ -30,6 +32,11 @@ packedBytes (suc n) row = packedByte row ∷ packedBytes n (drop 8 row)
 -- the bytes that a row of W pixels takes: it is filled up to a whole byte
 abbrev pub rowBytes : ℕ → ℕ
 rowBytes W = (W + 7) / 8
+
+-- the bytes of a raster, by how many pixels there are: in P4 those of H rows, in P5 one for each pixel
+abbrev pub rasterLength : Format → ℕ → ℕ → ℕ → ℕ
+rasterLength P4 W H pixels = H * rowBytes W
+rasterLength P5 W H pixels = pixels
 
 -- a row of W pixels as bits
 abbrev pub packedRow : ℕ → List ℕ → List ℕ

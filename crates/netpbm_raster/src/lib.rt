@@ -1,19 +1,31 @@
 // The raster of a one-colour Netpbm picture, P4 (the netpbm tools' `pbm(5)`): rows of bits, eight to a
 // byte, high bit first, each row filled up to a whole byte. Packing and unpacking go by the byte, for
 // rows of any width. Document 02 adds it; the Rust has no such file.
+use canvas_size::CanvasSize;
+use netpbm_header::Format;
 ghost use mathlib.Core.Path.{_≡_};
 ghost use Prim.Native.Nat.{_+_, _*_, _≤_};
 ghost use lib.ListN.{length, drop};
 ghost use Rattle.netpbm_text.specs.Written.{Wrote};
-ghost use Rattle.netpbm_raster.specs.Raster.{bit, packedByte, rowBytes, packedRow, packedRows, unpackedRow, unpackedRows};
+ghost use Rattle.netpbm_raster.specs.Raster.{bit, packedByte, rowBytes, rasterLength, packedRow, packedRows, unpackedRow, unpackedRows};
 ghost use Rattle.netpbm_raster.specs.Steps.{shiftedOut};
 
 // The bytes that a row of so many pixels takes.
-pub fn row_bytes(width: usize) -> usize
+fn row_bytes(width: usize) -> usize
     requires { ⌜ width ≤ 4294967295 ⌝ }
     ensures { λ r. ⌜ r ≡ rowBytes width ⌝ }
 {
     (width + 7) / 8
+}
+
+// The bytes of a raster, which has so many pixels.
+pub fn raster_length(format: Format, size: CanvasSize, pixels: usize) -> usize
+    ensures { λ r. ⌜ r ≡ rasterLength format (size .width) (size .height) pixels ⌝ }
+{
+    match format {
+        Format::P4 => size.height as usize * row_bytes(size.width as usize),
+        Format::P5 => pixels,
+    }
 }
 
 // What a pixel adds to its byte: a nonzero one the weight of its bit.

@@ -1,11 +1,13 @@
-// Bytes and decimal numbers put into a lent buffer at a place that the caller gives. Each function
-// answers the place after the last byte that it put, where the next one goes on.
+// The text of a Netpbm header. Bytes and decimal numbers are put into a lent buffer at a place that the
+// caller gives; each function that puts answers the place after the last byte that it put, where the
+// next one goes on. And what the bytes of such a text are: whitespace, the end of a comment, a digit.
 ghost use mathlib.Core.Path.{_≡_};
 ghost use mathlib.Core.List.{[], _∷_};
 ghost use Prim.Native.Nat.{_+_, _≤_, _<_};
 ghost use lib.ListN.{length};
 ghost use Rattle.netpbm_text.specs.Decimal.{digit, decimal};
 ghost use Rattle.netpbm_text.specs.Written.{Wrote};
+ghost use Rattle.netpbm_text.specs.Bytes.{white, endsComment, isDigit};
 
 // Copies source into out from the place at on.
 pub fn put(out: &mut [u8], at: usize, source: &[u8]) -> usize
@@ -53,4 +55,23 @@ pub fn number_length(n: u32) -> usize
         digits += 1;
     }
     digits
+}
+
+// Space, TAB, CR, LF.
+pub fn is_white(byte: u8) -> bool
+    ensures { λ r. ⌜ r ≡ white byte ⌝ }
+{
+    (byte == b' ') | ((byte == b'\t') | ((byte == b'\r') | (byte == b'\n')))
+}
+
+pub fn ends_comment(byte: u8) -> bool
+    ensures { λ r. ⌜ r ≡ endsComment byte ⌝ }
+{
+    (byte == b'\r') | (byte == b'\n')
+}
+
+pub fn is_digit(byte: u8) -> bool
+    ensures { λ r. ⌜ r ≡ isDigit byte ⌝ }
+{
+    (b'0' <= byte) & (byte <= b'9')
 }

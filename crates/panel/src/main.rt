@@ -3,8 +3,8 @@
 // shows black. Its stored input is the page that `cafe` writes.
 use libc::STDIN_FILENO;
 use libc::STDOUT_FILENO;
-use netpbm::ReadAnswer;
 use netpbm::WriteAnswer;
+use netpbm_read::ReadAnswer;
 
 // Pixels below it are dark.
 const MIDDLE: u8 = 128;

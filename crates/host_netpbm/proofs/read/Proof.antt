@@ -3,8 +3,8 @@
 use mathlib.Core.Path.{_≡_, sym, ap, _∙_}
 use lib.ListN.{length}
 use Rattle.refusal.specs.declared.Checked.{Checked}
-use Rattle.netpbm.specs.declared.ReadAnswer.{ReadAnswer}
-use Rattle.netpbm.specs.Read.{readOutcome, readBeside, canvasBeside}
+use Rattle.netpbm_read.specs.declared.ReadAnswer.{ReadAnswer}
+use Rattle.netpbm_read.specs.Read.{readOutcome, readBeside, canvasBeside}
 use Rattle.host_answers.proofs.Telling.{tells-as, tells-refusal}
 use Rattle.host_netpbm.specs.Netpbm.{readSaid, readAfter}
 use borrow.Author.Needs.{needs}

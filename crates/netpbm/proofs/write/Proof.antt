@@ -11,7 +11,7 @@ use Rattle.refusal.proofs.Checks.{refused-early}
 use Rattle.netpbm_header.proofs.Header.{length-header-u32}
 use Rattle.netpbm.specs.Netpbm.{writeCheck}
 use Rattle.netpbm.proofs.File.{length-picture, write-passed-length, write-passed-room}
-use Rattle.netpbm.proofs.Reading.{raster-length-fits}
+use Rattle.netpbm_raster.proofs.Rows.{raster-length-fits}
 use native.Mathlib.Omega.{arith}
 use borrow.Author.Needs.{needs}
 use Rattle.netpbm.proofs.write.Statement.{statement}

@@ -1,7 +1,6 @@
 -- `netpbm_header::fixed_length` meets its contract: in each format it counts the magic, LF, space and ending.
 -- Assumes nothing.
 use borrow.Author.Needs.{needs}
-use borrow.Author.Needs.{needs}
 use Rattle.netpbm_header.proofs.fixed_length.Statement.{statement}
 use Rattle.netpbm_header.proofs.fixed_length.Tie as tie
 

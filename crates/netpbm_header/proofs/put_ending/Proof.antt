@@ -1,7 +1,6 @@
 -- `netpbm_header::put_ending` meets its contract: the bytes put are those of the format.
 -- Assumes nothing.
 use borrow.Author.Needs.{needs}
-use borrow.Author.Needs.{needs}
 use Rattle.netpbm_header.proofs.put_ending.Statement.{statement}
 use Rattle.netpbm_header.proofs.put_ending.Tie as tie
 

@@ -6,7 +6,6 @@ use borrow.Author.Needs.{needs}
 use Rattle.netpbm_header.specs.Header.{header}
 use Rattle.netpbm_text.proofs.Written.{wrote-then}
 use Rattle.netpbm_header.proofs.Header.{length-opening, length-header}
-use borrow.Author.Needs.{needs}
 use Rattle.netpbm_header.proofs.put_header.Statement.{statement}
 use Rattle.netpbm_header.proofs.put_header.Tie as tie
 

@@ -13,7 +13,7 @@ piece-end-requires c κs = search needs
 returns : tie.Need-returns
 returns c =
     let piece = c .before .piece-end .ensures in
-    (sym (ap capped (piece .none (c .if1 .taken) .0)), tt)
+    (sym (ap capped (piece .none (omega arith) .0)), tt)
 
 gap-end-requires : tie.Need-gap-end-requires
 gap-end-requires c κs = c .before .piece-end .ensures .to

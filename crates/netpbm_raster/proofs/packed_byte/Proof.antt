@@ -1,17 +1,15 @@
 -- `netpbm_raster::packed_byte` meets its contract. Invariant: the byte so far with what the pixels left add makes the whole, and the
 -- weights left fit beside it. The weight falls with each turn.
 -- Assumes nothing.
-use mathlib.Core.Path.{_≡_, sym, ap, _∙_}
+use mathlib.Core.Path.{_≡_}
 use Prim.Native.Nat.{_+_, _*_, _≤_}
 use borrow.Author.Needs.{needs}
 use native.Mathlib.Omega.{arith}
-use lib.ListN.{length, drop}
+use lib.ListN.{drop}
 use Rattle.netpbm_raster.specs.Steps.{weighed}
 use Rattle.netpbm_raster.proofs.Bits.{weighed-packed, weighed-step, weighed-end, weightless}
 use Rattle.netpbm_raster.proofs.packed_byte.Statement.{statement}
 use Rattle.netpbm_raster.proofs.packed_byte.Tie as tie
-use Rattle.netpbm_raster.proofs.packed_byte.Reads as reads
-use Rattle.netpbm_raster.proofs.packed_byte.Lts as lts
 
 abbrev Inv-loop : tie.InvT-loop
 Inv-loop row at byte₀ weight₀ i₀ byte weight i =

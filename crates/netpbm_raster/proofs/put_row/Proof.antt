@@ -1,7 +1,7 @@
 -- `netpbm_raster::put_row` meets its contract. Invariant: the bytes put and those left make the whole row, and there is room for those left.
 -- Assumes nothing.
 use mathlib.Core.Path.{_≡_, refl, sym, ap, _∙_}
-use Prim.Native.Nat.{ℕ, _+_, _*_, _-_, _≤_}
+use Prim.Native.Nat.{ℕ, _+_, _*_, _-_}
 use native.Mathlib.Omega.{arith}
 use borrow.Author.Needs.{needs}
 use lib.ListN.{length, drop, set, length-set}
@@ -10,10 +10,6 @@ use Rattle.netpbm_raster.specs.Raster.{packedBytes, rowBytes, packedRow}
 use Rattle.netpbm_raster.proofs.Rows.{put-turn, put-end, length-packed-bytes}
 use Rattle.netpbm_raster.proofs.put_row.Statement.{statement}
 use Rattle.netpbm_raster.proofs.put_row.Tie as tie
-use Rattle.netpbm_raster.proofs.put_row.Reads as reads
-use Rattle.netpbm_raster.proofs.put_row.Lts as lts
-use Rattle.netpbm_raster.proofs.packed_byte.Reads as packed-byte-reads
-use Rattle.netpbm_raster.proofs.row_bytes.Reads as row-bytes-reads
 
 abbrev Inv-loop : tie.InvT-loop
 Inv-loop out₀ at row left₀ from₀ next₀ out left from next =

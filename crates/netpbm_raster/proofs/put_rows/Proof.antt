@@ -1,20 +1,16 @@
 -- `netpbm_raster::put_rows` meets its contract. Invariant: the rows put and those left make the whole raster, and there is room and canvas for those
 -- left.
 -- Assumes nothing.
-use mathlib.Core.Path.{_≡_, refl, sym, ap, _∙_}
-use Prim.Native.Nat.{ℕ, _+_, _*_, _-_, _≤_}
+use mathlib.Core.Path.{_≡_, refl, sym, _∙_}
+use Prim.Native.Nat.{_+_, _*_, _≤_}
 use native.Mathlib.Omega.{arith}
-use borrow.Author.Needs.{needs}
-use lib.ListN.{length, take, drop}
+use lib.ListN.{length, drop}
 use lib.Seq.{sets}
-use Rattle.netpbm_raster.specs.Raster.{rowBytes, packedRow, packedRows}
+use Rattle.netpbm_raster.specs.Raster.{rowBytes, packedRows}
 use Rattle.netpbm_raster.proofs.Rows.{turn-less, row-part, row-part-length, rows-turn, rows-end, length-packed-bytes, length-packed-rows}
 use Rattle.netpbm_text.proofs.Written.{wrote-length}
 use Rattle.netpbm_raster.proofs.put_rows.Statement.{statement}
 use Rattle.netpbm_raster.proofs.put_rows.Tie as tie
-use Rattle.netpbm_raster.proofs.put_rows.Reads as reads
-use Rattle.netpbm_raster.proofs.put_rows.Lts as lts
-use Rattle.netpbm_raster.proofs.put_row.Reads as put-row-reads
 
 abbrev Inv-loop : tie.InvT-loop
 Inv-loop out₀ at width height canvas left₀ from₀ next₀ out left from next =

@@ -3,15 +3,13 @@
 -- Assumes nothing.
 use mathlib.Core.Path.{_≡_, refl, ap, _∙_}
 use mathlib.Core.List.{_++_}
-use Prim.Native.Nat.{ℕ, _+_, _*_, _-_, _≤_}
+use Prim.Native.Nat.{ℕ, _-_, _≤_}
 use native.Mathlib.Omega.{arith}
-use lib.ListN.{length, take, drop, length-set}
+use lib.ListN.{length, take, length-set}
 use Rattle.netpbm_raster.specs.Steps.{shiftedOut}
 use Rattle.netpbm_raster.proofs.Bits.{shifted-step, shifted-done}
 use Rattle.netpbm_raster.proofs.unpack_byte.Statement.{statement}
 use Rattle.netpbm_raster.proofs.unpack_byte.Tie as tie
-use Rattle.netpbm_raster.proofs.unpack_byte.Reads as reads
-use Rattle.netpbm_raster.proofs.unpack_byte.Lts as lts
 
 abbrev Inv-loop : tie.InvT-loop
 Inv-loop byte pixels₀ rest₀ i₀ pixels rest i =

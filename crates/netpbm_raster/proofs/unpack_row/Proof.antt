@@ -1,19 +1,15 @@
 -- `netpbm_raster::unpack_row` meets its contract. Invariant: the pixels written and those of the bytes left make the whole row.
 -- Assumes nothing.
-use mathlib.Core.Path.{_≡_, refl, sym, ap, _∙_}
+use mathlib.Core.Path.{_≡_, refl, _∙_}
 use mathlib.Core.List.{_++_}
-use Prim.Native.Nat.{ℕ, _+_, _*_, _-_, _≤_}
+use Prim.Native.Nat.{_+_, _*_, _-_, _≤_}
 use native.Mathlib.Omega.{arith}
 use borrow.Author.Needs.{needs}
-use lib.ListN.{length, take, drop, length-set}
-use lib.Seq.{sets}
+use lib.ListN.{length, take, drop}
 use Rattle.netpbm_raster.specs.Raster.{unpacked, unpackedRow}
 use Rattle.netpbm_raster.proofs.Rows.{part-length, over-part-length, unpack-turn, unpack-last, unpack-end}
 use Rattle.netpbm_raster.proofs.unpack_row.Statement.{statement}
 use Rattle.netpbm_raster.proofs.unpack_row.Tie as tie
-use Rattle.netpbm_raster.proofs.unpack_row.Reads as reads
-use Rattle.netpbm_raster.proofs.unpack_row.Lts as lts
-use Rattle.netpbm_raster.proofs.unpack_byte.Reads as unpack-byte-reads
 
 abbrev Inv-loop : tie.InvT-loop
 Inv-loop bytes row₀ at₀ j₀ row at j =

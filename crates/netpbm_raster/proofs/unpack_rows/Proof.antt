@@ -1,19 +1,14 @@
 -- `netpbm_raster::unpack_rows` meets its contract. Invariant: the rows written and those left of the raster make the whole canvas.
 -- Assumes nothing.
-use mathlib.Core.Path.{_≡_, refl, sym, ap, _∙_}
+use mathlib.Core.Path.{_≡_, refl, sym, _∙_}
 use mathlib.Core.List.{_++_}
-use Prim.Native.Nat.{ℕ, _+_, _*_, _-_, _≤_}
+use Prim.Native.Nat.{_+_, _*_, _-_, _≤_}
 use native.Mathlib.Omega.{arith}
-use borrow.Author.Needs.{needs}
 use lib.ListN.{length, take, drop}
-use Rattle.netpbm_raster.specs.Raster.{rowBytes, unpackedRow, unpackedRows}
-use Rattle.netpbm_raster.proofs.Rows.{part-length, over-part-length, row-part, row-part-length, turn-less, length-unpacked-row, unpack-rows-turn, unpack-rows-end}
+use Rattle.netpbm_raster.specs.Raster.{rowBytes, unpackedRows}
+use Rattle.netpbm_raster.proofs.Rows.{part-length, over-part-length, row-part, turn-less, unpack-rows-turn, unpack-rows-end}
 use Rattle.netpbm_raster.proofs.unpack_rows.Statement.{statement}
 use Rattle.netpbm_raster.proofs.unpack_rows.Tie as tie
-use Rattle.netpbm_raster.proofs.unpack_rows.Reads as reads
-use Rattle.netpbm_raster.proofs.unpack_rows.Lts as lts
-use Rattle.netpbm_raster.proofs.row_bytes.Reads as row-bytes-reads
-use Rattle.netpbm_raster.proofs.unpack_row.Reads as unpack-row-reads
 
 abbrev Inv-loop : tie.InvT-loop
 Inv-loop raster width height canvas₀ bytes left₀ from₀ at₀ canvas left from at =

@@ -3,13 +3,12 @@
 -- Assumes nothing.
 use mathlib.Core.Path.{_≡_, refl, sym, ap, ap₂, _∙_}
 use mathlib.Core.Bool.{Bool, true, false}
-use mathlib.Core.List.{List, [], _++_, append-nil}
-use Prim.Native.Nat.{ℕ, _+_, _*_, _-_, _≤_, _<_, _^_, min}
-use native.Mathlib.Nat.{mul-le-mul}
+use mathlib.Core.List.{List, append-nil}
+use Prim.Native.Nat.{ℕ, _*_, _-_, _≤_, min}
 use native.Mathlib.Omega.{arith}
 use borrow.Author.Tests.{ltb-true, ltb-false, lt-ltb, le-ltb}
 use lib.Dec.{ltb}
-use lib.ListN.{length, take, drop, length-take, length-drop}
+use lib.ListN.{length, take, drop, length-drop}
 use lib.Seq.{sets, take-all, length-take-le}
 use Rattle.refusal.specs.declared.Refusal.the-variants.{CanvasSide, RasterLength}
 use Rattle.refusal.specs.declared.Checked.{Checked}
@@ -21,22 +20,11 @@ use Rattle.canvas_size.specs.CanvasSize.{sideCheck, canvasSizeCheck, canvasLeng
 use Rattle.canvas_size.proofs.Sides.{canvas-size-passed, canvas-length-passed}
 use Rattle.netpbm_text.proofs.Written.{sets-start, drop-all}
 use Rattle.netpbm_header.specs.declared.Format.{Format}
-use Rattle.netpbm_header.specs.declared.Format.the-variants.{P4, P5}
 use Rattle.netpbm_parser.specs.Parser.{FileHeader, noHeader, headed}
 use Rattle.netpbm_parser.specs.Capped.{mostKept, cappedHeader}
 use Rattle.netpbm_parser.proofs.Capped.{kept}
-use Rattle.netpbm_raster.specs.Raster.{rowBytes}
-use Rattle.netpbm.specs.Netpbm.{rasterLength}
-use Rattle.netpbm.specs.Read.{rasterCheck, readCheck}
-
--- the bytes of any raster fit 63 bits
-pub raster-length-fits : (format : Format) (W H pixels : ℕ) → W < 2 ^ 32 → H < 2 ^ 32 → pixels < 2 ^ 63 → rasterLength format W H pixels < 2 ^ 63
-raster-length-fits P4 W H pixels w h p =
-    let height : H ≤ 4294967295 = omega arith in
-    let bytes : rowBytes W ≤ 536870912 = omega arith in
-    let product : H * rowBytes W ≤ 4294967295 * 536870912 = mul-le-mul height bytes in
-    omega arith
-raster-length-fits P5 W H pixels w h p = p
+use Rattle.netpbm_raster.specs.Raster.{rasterLength}
+use Rattle.netpbm_read.specs.Read.{rasterCheck, readCheck}
 
 -- bytes copied over a whole canvas
 pub copied : (canvas bytes : List ℕ) → length canvas ≤ length bytes → sets canvas 0 (take (length canvas) bytes) ≡ take (length canvas) bytes

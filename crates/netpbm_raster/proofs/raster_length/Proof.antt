@@ -1,12 +1,12 @@
--- `netpbm::raster_length` meets its contract: the rows of bits, or the pixels. A product of a side and a row's bytes fits.
+-- `netpbm_raster::raster_length` meets its contract: the rows of bits, or the pixels. A product of a side and a row's bytes fits.
 -- Assumes nothing.
 use mathlib.Core.Path.{ap}
 use Prim.Native.Nat.{ℕ, _*_}
 use Rattle.canvas_size.proofs.Sides.{product-fits}
 use native.Mathlib.Omega.{arith}
 use borrow.Author.Needs.{needs}
-use Rattle.netpbm.proofs.raster_length.Statement.{statement}
-use Rattle.netpbm.proofs.raster_length.Tie as tie
+use Rattle.netpbm_raster.proofs.raster_length.Statement.{statement}
+use Rattle.netpbm_raster.proofs.raster_length.Tie as tie
 
 enum-told : tie.Need-enum-told
 enum-told c = search needs

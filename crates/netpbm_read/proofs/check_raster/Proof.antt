@@ -1,8 +1,8 @@
--- `netpbm::check_raster` meets its contract: the test made is the definition's.
+-- `netpbm_read::check_raster` meets its contract: the test made is the definition's.
 -- Assumes nothing.
 use borrow.Author.Tests.{lt-ltb, le-ltb}
-use Rattle.netpbm.proofs.check_raster.Statement.{statement}
-use Rattle.netpbm.proofs.check_raster.Tie as tie
+use Rattle.netpbm_read.proofs.check_raster.Statement.{statement}
+use Rattle.netpbm_read.proofs.check_raster.Tie as tie
 
 returns : tie.Need-returns
 returns c = rw (lt-ltb _ _ (c .if1 .taken))

@@ -1,4 +1,4 @@
--- `netpbm::read_beside` meets its contract: what is read of the header, as far as it is kept, is checked as the definition says; and one that passes
+-- `netpbm_read::read_beside` meets its contract: what is read of the header, as far as it is kept, is checked as the definition says; and one that passes
 -- is kept as it is.
 -- Assumes nothing.
 use mathlib.Core.Path.{_≡_, refl, sym, ap, subst, _∙_}
@@ -10,11 +10,11 @@ use Rattle.netpbm_parser.specs.declared.Header.{Header}
 use Rattle.netpbm_parser.specs.declared.Parsed.{Parsed}
 use Rattle.netpbm_parser.specs.Parser.{FileHeader, headed, fileHeader}
 use Rattle.netpbm_parser.specs.Capped.{cappedHeader, headerIn, HeaderWithin}
-use Rattle.netpbm.specs.Read.{readCheck, sidesOf, canvasOf}
-use Rattle.netpbm.proofs.Reading.{check-made, check-capped, header-kept, read-passed-length, read-passed-bytes}
+use Rattle.netpbm_read.specs.Read.{readCheck, sidesOf, canvasOf}
+use Rattle.netpbm_read.proofs.Reading.{check-made, check-capped, header-kept, read-passed-length, read-passed-bytes}
 use borrow.Author.Needs.{needs}
-use Rattle.netpbm.proofs.read_beside.Statement.{statement}
-use Rattle.netpbm.proofs.read_beside.Tie as tie
+use Rattle.netpbm_read.proofs.read_beside.Statement.{statement}
+use Rattle.netpbm_read.proofs.read_beside.Tie as tie
 
 -- from the check back to the entry; the header read, and what is known of it
 abbrev entry : tie.After-check-read → tie.Start

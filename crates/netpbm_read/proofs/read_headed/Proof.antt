@@ -1,10 +1,10 @@
--- `netpbm::read_headed` meets its contract: the bytes from the raster's place on are read.
+-- `netpbm_read::read_headed` meets its contract: the bytes from the raster's place on are read.
 -- Assumes nothing.
 use mathlib.Core.Path.{refl}
-use Rattle.netpbm.proofs.Reading.{lent-from}
+use Rattle.netpbm_read.proofs.Reading.{lent-from}
 use borrow.Author.Needs.{needs}
-use Rattle.netpbm.proofs.read_headed.Statement.{statement}
-use Rattle.netpbm.proofs.read_headed.Tie as tie
+use Rattle.netpbm_read.proofs.read_headed.Statement.{statement}
+use Rattle.netpbm_read.proofs.read_headed.Tie as tie
 
 sub-read-raster : tie.Need-sub-read-raster
 sub-read-raster c = search needs

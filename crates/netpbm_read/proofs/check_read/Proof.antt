@@ -1,4 +1,4 @@
--- `netpbm::check_read` meets its contract: the checks are made and joined as it says.
+-- `netpbm_read::check_read` meets its contract: the checks are made and joined as it says.
 -- Assumes nothing.
 use mathlib.Core.Path.{ap, ap₂, _∙_}
 use Prim.Native.Nat.{ℕ}
@@ -6,8 +6,8 @@ use Rattle.refusal.specs.declared.Refusal.the-variants.{RasterLength}
 use Rattle.refusal.specs.declared.Checked.{Checked}
 use Rattle.refusal.specs.Refusal.{orElse, refuseIf, above}
 use borrow.Author.Needs.{needs}
-use Rattle.netpbm.proofs.check_read.Statement.{statement}
-use Rattle.netpbm.proofs.check_read.Tie as tie
+use Rattle.netpbm_read.proofs.check_read.Statement.{statement}
+use Rattle.netpbm_read.proofs.check_read.Tie as tie
 
 check-requires : tie.Need-check-requires
 check-requires c κs = search needs

@@ -1,15 +1,15 @@
--- `netpbm::read_raster` meets its contract: the format says how the bytes hold the pixels. Of P5 they are copied over the whole canvas.
+-- `netpbm_read::read_raster` meets its contract: the format says how the bytes hold the pixels. Of P5 they are copied over the whole canvas.
 -- Assumes nothing.
 use mathlib.Core.Path.{sym, ap, _∙_}
 use Prim.Native.Nat.{ℕ}
 use native.Mathlib.Nat.{mul-comm}
 use lib.ListN.{length, take, length-take}
 use lib.Seq.{length-take-le}
-use Rattle.netpbm.proofs.Reading.{copied}
+use Rattle.netpbm_read.proofs.Reading.{copied}
 use native.Mathlib.Omega.{arith}
 use borrow.Author.Needs.{needs}
-use Rattle.netpbm.proofs.read_raster.Statement.{statement}
-use Rattle.netpbm.proofs.read_raster.Tie as tie
+use Rattle.netpbm_read.proofs.read_raster.Statement.{statement}
+use Rattle.netpbm_read.proofs.read_raster.Tie as tie
 
 enum-told : tie.Need-enum-told
 enum-told c = search needs

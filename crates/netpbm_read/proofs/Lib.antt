@@ -1,0 +1,2 @@
+-- The laws of the check that a read makes.
+pub mod Reading
