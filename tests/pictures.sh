@@ -9,3 +9,5 @@ picture() { # the program, how much it is enlarged, the brightest byte
 picture oval 16 9
 picture clock 4 255
 picture cafe 3 255
+# A 1 bit is black.
+pamenlarge 3 crates/panel/stdout | pnmtopng > docs/pictures/panel.png

@@ -97,11 +97,13 @@ if [ "$(uname -m)" = x86_64 ]; then
 
     compared=$(date +%s)
     beside tests/hosts.sh
+    beside tests/files.sh
     beside tests/speed.sh --check
     beside tests/install.sh
     sh tests/compare.sh
     wait
     said tests/hosts.sh
+    said tests/files.sh
     said tests/speed.sh
     said tests/install.sh
     took 'hosts, comparison, self-check and install' "$compared"

@@ -1,15 +1,14 @@
 -- The length of a file that was written fits 32 bits: a raster has at most 1024 by 1024 bytes, and a header at most 29.
 -- Assumes nothing.
-use mathlib.Core.Path.{_≡_, ap}
+use mathlib.Core.Path.{_≡_, sym}
 use mathlib.Core.List.{List, [], _∷_}
 use Prim.Native.Nat.{ℕ, _*_, _<_, _≤_, _^_}
 use native.Mathlib.Omega.{arith}
 use native.Mathlib.Nat.{mul-le-mul}
-use lib.IntN.{pos, natAbs}
+use lib.IntN.{pos}
 use lib.ListN.{length}
-use Rattle.refusal.specs.declared.Checked.{Checked}
-use Rattle.refusal.specs.declared.Checked.the-variants.{Passed, Refused}
-use Rattle.refusal.specs.Refusal.{orElse, Outcome, refused, answered, unless, roomCheck}
+use Rattle.refusal.specs.declared.Checked.the-variants.{Passed}
+use Rattle.refusal.specs.Refusal.{orElse, answered, roomCheck}
 use Rattle.refusal.proofs.Checks.{passed-first, passed-next}
 use Rattle.canvas_size.specs.CanvasSize.{canvasSizeCheck, canvasLengthCheck}
 use Rattle.canvas_size.proofs.Sides.{canvas-size-passed, canvas-length-passed}
@@ -18,23 +17,8 @@ use Rattle.netpbm_header.specs.declared.Format.the-variants.{P4, P5}
 use Rattle.netpbm_header.proofs.Header.{length-header-u32}
 use Rattle.netpbm_raster.specs.Raster.{rowBytes, rasterLength}
 use Rattle.netpbm.specs.Netpbm.{picture, writeCheck, writeCall}
-use Rattle.netpbm.proofs.File.{length-picture}
+use Rattle.netpbm.proofs.File.{length-picture, accepted}
 use Rattle.host_netpbm.specs.Netpbm.{writeRoom}
-
--- the value of an answer that has one
-valueOf : Outcome → ℕ
-valueOf (refused n) = 0
-valueOf (answered []) = 0
-valueOf (answered (v ∷ rest)) = natAbs v
-
-at-most : (check : Checked) (n m : ℕ) → answered (pos n ∷ []) ≡ unless check (pos m ∷ []) → n ≤ m
-unfolding valueOf
-at-most Passed n m same =
-    let equal : n ≡ m = ap valueOf same in
-    omega arith
-at-most (Refused refusal) n m same =
-    let none : n ≡ 0 = ap valueOf same in
-    omega arith
 
 -- a raster has no more bytes than 1024 by 1024
 raster-length-most : (format : Format) (W H pixels : ℕ) → W ≤ 1024 → H ≤ 1024 → pixels ≤ 1024 * 1024
@@ -50,7 +34,7 @@ written-length-fits format W H canvas file room n passed same =
     let lent = passed-first (orElse (canvasSizeCheck W H) (canvasLengthCheck W H (length canvas))) (roomCheck 1 room) passed in
     let sides = canvas-size-passed W H (passed-first (canvasSizeCheck W H) (canvasLengthCheck W H (length canvas)) lent) in
     let long = canvas-length-passed W H (length canvas) (passed-next (canvasSizeCheck W H) (canvasLengthCheck W H (length canvas)) lent) in
-    let few = at-most (writeCheck format W H canvas file) n (length (picture format W H canvas)) same in
+    let few = accepted (writeCheck format W H canvas file) (length (picture format W H canvas)) n (sym same) .1 in
     let area : W * H ≤ 1024 * 1024 = mul-le-mul (sides .width-most) (sides .height-most) in
     let head = length-header-u32 format W H (omega arith) (omega arith) in
     omega (arith, length-picture format W H canvas, raster-length-most format W H (length canvas) (sides .width-most) (sides .height-most) (omega arith))

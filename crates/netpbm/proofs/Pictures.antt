@@ -9,8 +9,9 @@ use lib.ListN.{replicate}
 use Rattle.refusal.specs.Refusal.{refused, answered}
 use Rattle.canvas_size.specs.CanvasSize.{canvasSizeCheck, canvasLengthCheck}
 use Rattle.netpbm_text.specs.Decimal.{decimalUpTo, decimal}
-use Rattle.netpbm_header.specs.declared.Format.the-variants.{P5}
+use Rattle.netpbm_header.specs.declared.Format.the-variants.{P4, P5}
 use Rattle.netpbm_header.specs.Header.{header}
+use Rattle.netpbm_raster.specs.Raster.{bit, packedByte, packedBytes, packedRows}
 use Rattle.netpbm.specs.Netpbm.{writeCheck, writeCall, fileAfter}
 
 decimals-hold : map decimal (0 ∷ 1 ∷ 2 ∷ 3 ∷ 4 ∷ 5 ∷ 6 ∷ 7 ∷ 8 ∷ 9 ∷ 10 ∷ 99 ∷ 100 ∷ 999 ∷ 1000 ∷ 1024 ∷ 4096 ∷ [])
@@ -76,3 +77,14 @@ heights-held : map (λ (H : ℕ). writeCall P5 1 H (replicate H 0) []) (0 ∷ 1 
     ≡ refused 6 ∷ refused 13 ∷ refused 13 ∷ refused 6 ∷ []
 unfolding writeCheck canvasSizeCheck canvasLengthCheck header decimal decimalUpTo
 heights-held = refl
+
+-- as P4: `P4`, LF, `4 4`, LF and a byte for each row, its low half filled up with 0 bits
+oval-written-p4 : fileAfter P4 4 4 oval (buffer 16)
+    ≡ 80 ∷ 52 ∷ 10 ∷ 52 ∷ 32 ∷ 52 ∷ 10 ∷ 96 ∷ 240 ∷ 240 ∷ 96 ∷ buffer 5
+unfolding writeCheck canvasSizeCheck canvasLengthCheck header decimal decimalUpTo packedRows packedBytes packedByte bit
+oval-written-p4 = refl
+
+-- 9 by 1: a second byte holds the ninth pixel
+row-of-nine : fileAfter P4 9 1 (1 ∷ 0 ∷ 2 ∷ 0 ∷ 0 ∷ 0 ∷ 0 ∷ 255 ∷ 8 ∷ []) (buffer 9) ≡ 80 ∷ 52 ∷ 10 ∷ 57 ∷ 32 ∷ 49 ∷ 10 ∷ 161 ∷ 128 ∷ []
+unfolding writeCheck canvasSizeCheck canvasLengthCheck header decimal decimalUpTo packedRows packedBytes packedByte bit
+row-of-nine = refl

@@ -2,12 +2,12 @@
 -- Assumes nothing.
 use mathlib.Core.Path.{_≡_, sym, ap, subst, _∙_}
 use mathlib.Core.List.{List, _++_, append-assoc}
-use Prim.Native.Nat.{ℕ, _*_, _≤_}
+use Prim.Native.Nat.{ℕ, _+_, _*_, _-_, _≤_}
 use native.Mathlib.Nat.{mul-comm}
 use native.Mathlib.Omega.{arith}
 use borrow.Author.Tests.{le-ltb, eq-eqb}
-use lib.ListN.{length, drop, length-append}
-use lib.Seq.{take-at}
+use lib.ListN.{length, take, drop, length-append}
+use lib.Seq.{take-at, take-append-add}
 use Rattle.refusal.specs.declared.Checked.the-variants.{Passed}
 use Rattle.refusal.specs.Refusal.{orElse}
 use Rattle.refusal.proofs.Checks.{passed-first}
@@ -19,10 +19,10 @@ use Rattle.netpbm_parser.specs.Parser.{headed, fileHeader}
 use Rattle.netpbm_parser.proofs.Headers.{header-read}
 use Rattle.netpbm_raster.specs.Raster.{rasterLength}
 use Rattle.netpbm_raster.proofs.RoundTrip.{rows-unpack}
-use Rattle.netpbm.specs.Netpbm.{raster, picture, writeCheck}
+use Rattle.netpbm.specs.Netpbm.{raster, picture, writeCheck, fileAfter}
 use Rattle.netpbm_read.specs.Read.{pixels, readCheck}
 use Rattle.netpbm.specs.RoundTrip.{readBack, ReadsAs, PictureReadsBack, WrittenReadsBack}
-use Rattle.netpbm.proofs.File.{length-raster, write-passed-length, file-after-passed}
+use Rattle.netpbm.proofs.File.{length-raster, accepted, write-passed-length, file-after-passed}
 
 -- a raster holds the canvas that it was made of, whatever stands behind it
 raster-holds : (format : Format) (W H : ℕ) (canvas behind : List ℕ) → length canvas ≡ W * H
@@ -62,9 +62,17 @@ picture-reads-back format W H canvas behind sides long = reads-back format W H c
 
 pub written-reads-back : WrittenReadsBack
 unfolding writeCheck
-written-reads-back format W H canvas file accepted =
-    let lent = passed-first (orElse (canvasSizeCheck W H) (canvasLengthCheck W H (length canvas))) _ accepted in
+written-reads-back format W H canvas file n m e enough =
+    let whole = picture format W H canvas in
+    let call = accepted (writeCheck format W H canvas file) (length whole) n e in
+    let lent = passed-first (orElse (canvasSizeCheck W H) (canvasLengthCheck W H (length canvas))) _ (call .0) in
     let sides = passed-first (canvasSizeCheck W H) (canvasLengthCheck W H (length canvas)) lent in
-    subst (λ (bytes : List ℕ). ReadsAs bytes W H (readBack format canvas)) (sym (file-after-passed format W H canvas file accepted))
-    (picture-reads-back format W H canvas (drop (length (picture format W H canvas)) file) sides
-    (write-passed-length format W H canvas file accepted))
+    let behind = drop (length whole) file in
+    let parts : m ≡ length whole + (m - length whole) = omega (arith, call .1) in
+    let first : take m (fileAfter format W H canvas file) ≡ whole ++ take (m - length whole) behind =
+    ap (λ (bytes : List ℕ). take m bytes) (file-after-passed format W H canvas file (call .0))
+    ∙ ap (λ (k : ℕ). take k (whole ++ behind)) parts
+    ∙ take-append-add whole behind (m - length whole) in
+    subst (λ (bytes : List ℕ). ReadsAs bytes W H (readBack format canvas)) (sym first)
+    (picture-reads-back format W H canvas (take (m - length whole) behind) sides
+    (write-passed-length format W H canvas file (call .0)))

@@ -2,16 +2,16 @@
 -- Assumes nothing.
 use mathlib.Core.Path.{_≡_}
 use mathlib.Core.List.{List, [], _∷_, _++_, map}
-use Prim.Native.Nat.{ℕ, _*_}
+use Prim.Native.Nat.{ℕ, _*_, _≤_}
 use lib.IntN.{pos}
-use lib.ListN.{length}
+use lib.ListN.{length, take}
 use Rattle.refusal.specs.declared.Checked.the-variants.{Passed}
 use Rattle.refusal.specs.Refusal.{answered}
 use Rattle.canvas_size.specs.CanvasSize.{canvasSizeCheck}
 use Rattle.netpbm_header.specs.declared.Format.{Format}
 use Rattle.netpbm_header.specs.declared.Format.the-variants.{P4, P5}
 use Rattle.netpbm_raster.specs.Raster.{bit}
-use Rattle.netpbm.specs.Netpbm.{picture, writeCheck, fileAfter}
+use Rattle.netpbm.specs.Netpbm.{picture, writeCall, fileAfter}
 use Rattle.netpbm_read.specs.Read.{readCall, canvasAfter}
 
 -- as what a canvas reads back: P4 has each nonzero byte as 1, P5 the same canvas
@@ -30,8 +30,8 @@ PictureReadsBack =
     (format : Format) (W H : ℕ) (canvas behind : List ℕ) → canvasSizeCheck W H ≡ Passed → length canvas ≡ W * H
     → ReadsAs (picture format W H canvas ++ behind) W H (readBack format canvas)
 
--- over the calls: what `write_p4` or `write_p5` leaves in a buffer, once it is accepted, `read` reads back
+-- over the calls: once `write_p4` or `write_p5` has answered n, `read` reads back from the first n bytes of the buffer, or from more of it
 abbrev pub WrittenReadsBack : Type 0
 WrittenReadsBack =
-    (format : Format) (W H : ℕ) (canvas file : List ℕ) → writeCheck format W H canvas file ≡ Passed
-    → ReadsAs (fileAfter format W H canvas file) W H (readBack format canvas)
+    (format : Format) (W H : ℕ) (canvas file : List ℕ) (n m : ℕ) → writeCall format W H canvas file ≡ answered (pos n ∷ []) → n ≤ m
+    → ReadsAs (take m (fileAfter format W H canvas file)) W H (readBack format canvas)

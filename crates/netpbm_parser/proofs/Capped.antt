@@ -1,33 +1,24 @@
 -- Numbers and headers as far as they are kept: digits read one by one, the maximum, and the sides.
 -- Assumes nothing.
 use mathlib.Core.Path.{_≡_, refl, sym, ap, _∙_}
-use mathlib.Core.Bool.{Bool, true, false, cond, _&&_}
+use mathlib.Core.Bool.{Bool, true, false, cond}
 use mathlib.Core.List.{List, [], _∷_}
 use Prim.Native.Nat.{ℕ, suc, _+_, _*_, _≤_, _<_, min}
 use native.Mathlib.Numerals.{add-one}
 use native.Mathlib.Nat.{min-eq-left}
 use native.Mathlib.Omega.{arith}
-use borrow.Author.Tests.{leb-true, eqb-true, eqb-false, eq-eqb, ne-eqb}
-use lib.Dec.{leb, eqb}
-use lib.ListN.{length, drop, getD}
+use borrow.Author.Tests.{eqb-true, eqb-false, eq-eqb, ne-eqb}
+use lib.Dec.{eqb}
+use lib.ListN.{length, drop, getD, drop-of-length-le}
 use lib.Seq.{drop-cons}
-use Rattle.netpbm_text.proofs.Written.{drop-all}
 use Rattle.netpbm_header.specs.declared.Format.{Format}
 use Rattle.netpbm_text.specs.Bytes.{isDigit, digitValue}
-use Rattle.netpbm_parser.specs.Parser.{Parsed, malformed, parsed, digitsFrom, number, Rest, none, rest, afterWhite, afterMaximum, closing, FileHeader, noHeader, ofRest, ofHeight, ofWidth, startsWith}
+use Rattle.netpbm_parser.specs.Parser.{Parsed, malformed, parsed, digitsFrom, number, Rest, none, rest, afterWhite, afterMaximum, closing, ReadHeader, noHeader, ofRest, ofHeight, ofWidth, startsWith}
 use Rattle.netpbm_parser.specs.Capped.{mostKept, capped, cappedHeader}
 
 -- a number that is kept is not changed
 pub kept : (n : ℕ) → n ≤ mostKept → min n mostKept ≡ n
 kept n h = min-eq-left h
-
-pub digit-least : (byte : ℕ) → isDigit byte ≡ true → 48 ≤ byte
-unfolding isDigit
-digit-least byte e = leb-true 48 byte (first-true (leb 48 byte) (leb byte 57) e)
-  where
-    first-true : (a b : Bool) → (a && b) ≡ true → a ≡ true
-    first-true true b e = refl
-    first-true false b e = e
 
 -- what the digits that follow make of two numbers that are kept alike is kept alike
 kept-alike : (m n : ℕ) (bytes : List ℕ) → min m mostKept ≡ min n mostKept → capped (digitsFrom m bytes) ≡ capped (digitsFrom n bytes)
@@ -63,7 +54,7 @@ digits-stop file i n within e = rw (drop-cons file i 0 within, e)
 
 pub digits-end : (file : List ℕ) (i n : ℕ) → length file ≤ i → digitsFrom n (drop i file) ≡ parsed n (drop i file)
 unfolding digitsFrom
-digits-end file i n end = rw (drop-all i file end)
+digits-end file i n end = rw (drop-of-length-le file {i = i} end)
 
 -- the maximum may be kept as any other number
 maximum-capped : (p : Parsed) → afterMaximum (capped p) ≡ afterMaximum p
@@ -93,11 +84,11 @@ module _ (p : Parsed) where
   other-maximum n bytes e other = sym (rw (ne-eqb n 255 other)) ∙ ap (λ (q : Parsed). afterMaximum q) e ∙ maximum-capped p
 
 -- a header by its numbers as far as they are kept
-abbrev ofHeightKept : Format → ℕ → Parsed → FileHeader
+abbrev ofHeightKept : Format → ℕ → Parsed → ReadHeader
 ofHeightKept format W malformed = noHeader
 ofHeightKept format W (parsed H bytes) = ofRest format W H (closing format bytes)
 
-abbrev ofWidthKept : Format → Parsed → FileHeader
+abbrev ofWidthKept : Format → Parsed → ReadHeader
 ofWidthKept format malformed = noHeader
 ofWidthKept format (parsed W bytes) = ofHeightKept format W (capped (number bytes))
 
@@ -140,11 +131,11 @@ module _ (format : Format) (p : Parsed) where
 -- a magic, byte by byte
 pub starts-all : (magic file : List ℕ) (i : ℕ) → length magic ≤ i → startsWith (drop i magic) (drop i file) ≡ true
 unfolding startsWith
-starts-all magic file i end = rw (drop-all i magic end)
+starts-all magic file i end = rw (drop-of-length-le magic {i = i} end)
 
 pub starts-short : (magic file : List ℕ) (i : ℕ) → i < length magic → length file ≤ i → startsWith (drop i magic) (drop i file) ≡ false
 unfolding startsWith
-starts-short magic file i within end = rw (drop-cons magic i 0 within, drop-all i file end)
+starts-short magic file i within end = rw (drop-cons magic i 0 within, drop-of-length-le file {i = i} end)
 
 pub starts-differs : (magic file : List ℕ) (i : ℕ) → i < length magic → i < length file → (getD magic i 0 ≡ getD file i 0 → ⊥)
     → startsWith (drop i magic) (drop i file) ≡ false

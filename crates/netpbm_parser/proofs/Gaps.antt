@@ -7,9 +7,8 @@ use Prim.Native.Nat.{ℕ, _+_, _≤_, _<_}
 use native.Mathlib.Numerals.{add-one}
 use native.Mathlib.Omega.{arith}
 use borrow.Author.Tests.{eq-eqb, ne-eqb}
-use lib.ListN.{length, drop, getD}
+use lib.ListN.{length, drop, getD, drop-of-length-le}
 use lib.Seq.{drop-cons}
-use Rattle.netpbm_text.proofs.Written.{drop-all}
 use Rattle.netpbm_text.specs.Bytes.{white, hash, endsComment, isDigit}
 use Rattle.netpbm_parser.specs.Parser.{malformed, digits, digitsFrom, afterGap, number, none, rest, afterWhite}
 use Rattle.netpbm_parser.specs.Capped.{Piece}
@@ -26,19 +25,19 @@ no-hash byte other = ne-eqb byte 35 other
 -- at the file's end nothing follows
 pub gap-at-end : (inside : Bool) (file : List ℕ) (at : ℕ) → length file ≤ at → afterGap inside (drop at file) ≡ malformed
 unfolding afterGap
-gap-at-end inside file at h = rw (drop-all at file h)
+gap-at-end inside file at h = rw (drop-of-length-le file {i = at} h)
 
 pub number-at-end : (file : List ℕ) (at : ℕ) → length file ≤ at → number (drop at file) ≡ malformed
 unfolding number
-number-at-end file at h = rw (drop-all at file h)
+number-at-end file at h = rw (drop-of-length-le file {i = at} h)
 
 pub digits-at-end : (file : List ℕ) (at : ℕ) → length file ≤ at → digits (drop at file) ≡ malformed
 unfolding digits
-digits-at-end file at h = rw (drop-all at file h)
+digits-at-end file at h = rw (drop-of-length-le file {i = at} h)
 
 pub white-at-end : (file : List ℕ) (at : ℕ) → length file ≤ at → afterWhite (drop at file) ≡ none
 unfolding afterWhite
-white-at-end file at h = rw (drop-all at file h)
+white-at-end file at h = rw (drop-of-length-le file {i = at} h)
 
 -- by the byte at a place
 module _ (file : List ℕ) (at : ℕ) (within : at < length file) where

@@ -13,7 +13,7 @@ use Rattle.netpbm_header.specs.declared.Format.the-variants.{P4, P5}
 use Rattle.netpbm_header.specs.Header.{header}
 use Rattle.netpbm_text.specs.Bytes.{white, hash, isDigit}
 use Rattle.netpbm_parser.specs.Parser.{parsed, digits, digitsFrom, afterGap, number, afterWhite, afterMaximum, rest, headed, startsWith, fileHeader}
-use Rattle.netpbm_parser.proofs.Capped.{digit-least}
+use Rattle.netpbm_text.proofs.Bytes.{digit-least}
 
 -- a digit as it is written is one
 written-digit : (d : ℕ) → d < 10 → isDigit (digit d) ≡ true

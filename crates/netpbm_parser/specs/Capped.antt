@@ -10,9 +10,9 @@ use Rattle.netpbm_parser.specs.declared.Number.{Number}
 use Rattle.netpbm_parser.specs.declared.Number.the-variants as number-read
 use Rattle.netpbm_parser.specs.declared.Place.{Place}
 use Rattle.netpbm_parser.specs.declared.Place.the-variants as place
-use Rattle.netpbm_parser.specs.declared.Parsed.{Parsed as HeaderParsed}
-use Rattle.netpbm_parser.specs.declared.Parsed.the-variants as header-parsed
-use Rattle.netpbm_parser.specs.Parser.{Parsed, malformed, parsed, number, digits, afterGap, Rest, none, rest, FileHeader, noHeader, headed}
+use Rattle.netpbm_parser.specs.declared.HeaderAnswer.{HeaderAnswer}
+use Rattle.netpbm_parser.specs.declared.HeaderAnswer.the-variants as header-answer
+use Rattle.netpbm_parser.specs.Parser.{Parsed, malformed, parsed, number, digits, afterGap, Rest, none, rest, ReadHeader, noHeader, headed}
 
 -- the largest number that is kept: any larger one is above every limit, and no maximum
 abbrev pub mostKept : ℕ
@@ -22,7 +22,7 @@ abbrev pub capped : Parsed → Parsed
 capped malformed = malformed
 capped (parsed n bytes) = parsed (min n mostKept) bytes
 
-abbrev pub cappedHeader : FileHeader → FileHeader
+abbrev pub cappedHeader : ReadHeader → ReadHeader
 cappedHeader noHeader = noHeader
 cappedHeader (headed format W H raster) = headed format (min W mostKept) (min H mostKept) raster
 
@@ -35,9 +35,9 @@ abbrev pub placeIn : List ℕ → Place → Rest
 placeIn file place.None = none
 placeIn file (place.At at) = rest (drop at file)
 
-abbrev pub headerIn : List ℕ → HeaderParsed → FileHeader
-headerIn file header-parsed.NoHeader = noHeader
-headerIn file (header-parsed.Headed header) = headed (header .format) (header .width) (header .height) (drop (header .raster) file)
+abbrev pub headerIn : List ℕ → HeaderAnswer → ReadHeader
+headerIn file header-answer.NoHeader = noHeader
+headerIn file (header-answer.Headed header) = headed (header .format) (header .width) (header .height) (drop (header .raster) file)
 
 -- the places lie in the file, and numbers are kept
 abbrev pub NumberWithin : List ℕ → Number → Type 0
@@ -48,9 +48,9 @@ abbrev pub PlaceWithin : List ℕ → Place → Type 0
 PlaceWithin file place.None = Unit {0}
 PlaceWithin file (place.At at) = at ≤ length file
 
-abbrev pub HeaderWithin : List ℕ → HeaderParsed → Type 0
-HeaderWithin file header-parsed.NoHeader = Unit {0}
-HeaderWithin file (header-parsed.Headed header) =
+abbrev pub HeaderWithin : List ℕ → HeaderAnswer → Type 0
+HeaderWithin file header-answer.NoHeader = Unit {0}
+HeaderWithin file (header-answer.Headed header) =
     (header .width ≤ mostKept) × (header .height ≤ mostKept) × (header .raster ≤ length file)
 
 -- r is the place behind one piece of a gap at a place of the file, a whitespace byte or a comment; or that place where there is none

@@ -27,8 +27,8 @@ unfoldable pub digits : List ℕ → Parsed
 digits [] = malformed
 digits (byte ∷ bytes) = cond (isDigit byte) (digitsFrom 0 (byte ∷ bytes)) malformed
 
--- the digits behind whitespace and comments, as many as there are. Inside a comment every byte is passed over, through CR or LF; one that
--- the file's end cuts off is no comment, and no number follows
+-- the digits behind whitespace and comments, as many as there are; the Bool says whether the bytes begin inside a comment. There every byte
+-- is passed over, through CR or LF; a comment that the file's end cuts off is none, and no number follows
 unfoldable pub afterGap : Bool → List ℕ → Parsed
 afterGap inside [] = malformed
 afterGap true (byte ∷ bytes) =
@@ -66,19 +66,19 @@ closing P4 bytes = afterWhite bytes
 closing P5 bytes = afterMaximum (number bytes)
 
 -- what a file begins with: no header of P4 or P5; or one, its format, W, H and the bytes behind it
-pub data FileHeader : Type 0 where
-  noHeader : FileHeader
-  headed : Format → ℕ → ℕ → List ℕ → FileHeader
+pub data ReadHeader : Type 0 where
+  noHeader : ReadHeader
+  headed : Format → ℕ → ℕ → List ℕ → ReadHeader
 
-abbrev pub ofRest : Format → ℕ → ℕ → Rest → FileHeader
+abbrev pub ofRest : Format → ℕ → ℕ → Rest → ReadHeader
 ofRest format W H none = noHeader
 ofRest format W H (rest raster) = headed format W H raster
 
-abbrev pub ofHeight : Format → ℕ → Parsed → FileHeader
+abbrev pub ofHeight : Format → ℕ → Parsed → ReadHeader
 ofHeight format W malformed = noHeader
 ofHeight format W (parsed H bytes) = ofRest format W H (closing format bytes)
 
-abbrev pub ofWidth : Format → Parsed → FileHeader
+abbrev pub ofWidth : Format → Parsed → ReadHeader
 ofWidth format malformed = noHeader
 ofWidth format (parsed W bytes) = ofHeight format W (number bytes)
 
@@ -91,7 +91,7 @@ startsWith (first ∷ others) (byte ∷ bytes) =
     cond (eqb first byte) same false
 
 -- the magic; W; H; in P5 the maximum; one whitespace byte; the raster
-unfoldable pub fileHeader : List ℕ → FileHeader
+unfoldable pub fileHeader : List ℕ → ReadHeader
 fileHeader file =
     cond (startsWith (magic P4) file) (ofWidth P4 (number (drop 2 file)))
     (cond (startsWith (magic P5) file) (ofWidth P5 (number (drop 2 file))) noHeader)

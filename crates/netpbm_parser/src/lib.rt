@@ -37,7 +37,7 @@ pub struct Header {
     pub raster: usize,
 }
 
-pub enum Parsed {
+pub enum HeaderAnswer {
     NoHeader,
     Headed(Header),
 }
@@ -184,21 +184,21 @@ fn raster_place(file: &[u8], format: Format, at: usize) -> Place
 }
 
 // Width, height and raster behind the magic.
-fn read_sides(file: &[u8], format: Format) -> Parsed
+fn read_sides(file: &[u8], format: Format) -> HeaderAnswer
     requires { ⌜ 2 ≤ length (now file) ⌝ }
     ensures { λ r. ⌜ headerIn (now (file .entry)) r ≡ cappedHeader (ofWidth format (Parser·number (drop 2 (now (file .entry))))) ⌝ }
     ensures { λ r. ⌜ HeaderWithin (now (file .entry)) r ⌝ }
 {
     let Number::Read(width, behind_width) = read_number(file, 2) else {
-        return Parsed::NoHeader;
+        return HeaderAnswer::NoHeader;
     };
     let Number::Read(height, behind_height) = read_number(file, behind_width) else {
-        return Parsed::NoHeader;
+        return HeaderAnswer::NoHeader;
     };
     let Place::At(raster) = raster_place(file, format, behind_height) else {
-        return Parsed::NoHeader;
+        return HeaderAnswer::NoHeader;
     };
-    Parsed::Headed(Header {
+    HeaderAnswer::Headed(Header {
         format: format,
         width: width,
         height: height,
@@ -224,7 +224,7 @@ fn starts_with(magic: &[u8], file: &[u8]) -> bool
 }
 
 // The header with which a file begins.
-pub fn read_header(file: &[u8]) -> Parsed
+pub fn read_header(file: &[u8]) -> HeaderAnswer
     ensures { λ r. ⌜ headerIn (now (file .entry)) r ≡ cappedHeader (fileHeader (now (file .entry))) ⌝ }
     ensures { λ r. ⌜ HeaderWithin (now (file .entry)) r ⌝ }
 {
@@ -234,5 +234,5 @@ pub fn read_header(file: &[u8]) -> Parsed
     if starts_with(b"P5", file) {
         return read_sides(file, Format::P5);
     }
-    Parsed::NoHeader
+    HeaderAnswer::NoHeader
 }

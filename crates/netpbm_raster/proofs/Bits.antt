@@ -9,11 +9,16 @@ use native.Mathlib.Numerals.{add-one}
 use native.Mathlib.Omega.{arith}
 use borrow.Author.Tests.{ltb-true, ltb-false, eqb-true, ne-eqb}
 use lib.Dec.{ltb, eqb}
-use lib.ListN.{length, take, drop, getD, set}
+use lib.ListN.{length, take, drop, getD, set, drop-of-length-le}
 use lib.Seq.{drop-cons, take-suc-set, take-all, append-snoc}
-use Rattle.netpbm_text.proofs.Written.{drop-all}
+use Rattle.netpbm_text.proofs.Bytes.{and-true-parts}
 use Rattle.netpbm_raster.specs.Raster.{bit, packedByte, pixelsOf}
-use Rattle.netpbm_raster.specs.Steps.{weighed, shiftedOut}
+use Rattle.netpbm_raster.specs.Steps.{shiftedOut}
+
+-- what pixels add to a byte if the first weighs so much and each other half of the one before; behind weight 1 they weigh nothing
+unfoldable pub weighed : ℕ → List ℕ → ℕ
+weighed weight [] = 0
+weighed weight (pixel ∷ row) = weight * bit pixel + weighed (weight / 2) row
 
 -- behind weight 1 pixels weigh nothing
 weighed-nothing : (row : List ℕ) → weighed 0 row ≡ 0
@@ -44,7 +49,7 @@ weighed-step row i weight h = rw (add-one, drop-cons row i 0 h)
 
 pub weighed-end : (row : List ℕ) (i weight : ℕ) → length row ≤ i → weighed weight (drop i row) ≡ 0
 unfolding weighed
-weighed-end row i weight h = rw (drop-all i row h)
+weighed-end row i weight h = rw (drop-of-length-le row {i = i} h)
 
 -- a turn of shifting: the bit written and those of the byte shifted up
 pub shifted-step : (l : List ℕ) (i n byte : ℕ) → i < n → length l ≡ n
@@ -75,25 +80,17 @@ holdsBelow : ℕ → (ℕ → Bool) → Bool
 holdsBelow zero rule = true
 holdsBelow (suc n) rule = rule n && holdsBelow n rule
 
-first-true : (a b : Bool) → (a && b) ≡ true → a ≡ true
-first-true true b e = refl
-first-true false b e = e
-
-second-true : (a b : Bool) → (a && b) ≡ true → b ≡ true
-second-true true b e = e
-second-true false b e = let z : _≡_ {A = ℕ} 0 1 = cc in absurd (omega arith)
-
 holds-at : (n : ℕ) (rule : ℕ → Bool) → holdsBelow n rule ≡ true → (k : ℕ) → k < n → rule k ≡ true
 unfolding holdsBelow
 holds-at zero rule e k h = absurd (omega arith)
 holds-at (suc n) rule e k h =
-    by-test (ltb k n) refl (λ (below : k < n). holds-at n rule (second-true (rule n) (holdsBelow n rule) e) k below)
+    by-test (ltb k n) refl (λ (below : k < n). holds-at n rule (and-true-parts (rule n) (holdsBelow n rule) e .1) k below)
   where
     by-test : (t : Bool) → ltb k n ≡ t → (k < n → rule k ≡ true) → rule k ≡ true
     by-test true below earlier = earlier (ltb-true k n below)
     by-test false above earlier =
         let last : n ≡ k = omega (arith, ltb-false k n above) in
-        rw last at (first-true (rule n) (holdsBelow n rule) e)
+        rw last at (and-true-parts (rule n) (holdsBelow n rule) e .0)
 
 -- two lists of numbers, compared
 same : List ℕ → List ℕ → Bool
@@ -108,7 +105,7 @@ same-equal [] [] e = refl
 same-equal [] (b ∷ ys) e = let z : _≡_ {A = ℕ} 0 1 = cc in absurd (omega arith)
 same-equal (a ∷ xs) [] e = let z : _≡_ {A = ℕ} 0 1 = cc in absurd (omega arith)
 same-equal (a ∷ xs) (b ∷ ys) e =
-    rw (eqb-true a b (first-true (eqb a b) (same xs ys) e), same-equal xs ys (second-true (eqb a b) (same xs ys) e))
+    rw (eqb-true a b (and-true-parts (eqb a b) (same xs ys) e .0), same-equal xs ys (and-true-parts (eqb a b) (same xs ys) e .1))
 
 -- of every byte: shifted out it gives its pixels
 shifted-all : holdsBelow 256 (λ (byte : ℕ). same (shiftedOut 8 byte) (pixelsOf byte)) ≡ true

@@ -12,6 +12,7 @@ use lib.Dec.{ltb}
 use lib.ListN.{length, take, drop, getD, length-take, length-drop, length-map, take-append-drop, List·getD-map, List·getD-eq-default}
 use lib.Seq.{ext-getD, getD-take, getD-drop, take-at, drop-at, length-take-le}
 use Rattle.netpbm_raster.specs.Raster.{bit, packedByte, packedBytes, rowBytes, packedRow, packedRows, pixelsOf, unpacked, unpackedRow, unpackedRows}
+use Rattle.netpbm_raster.specs.RoundTrip.{RowUnpacks, RowRepacks}
 use Rattle.netpbm_raster.proofs.Bits.{bit-of-zero, eightBits, pixels-of-packed, pixels-packed}
 use Rattle.netpbm_raster.proofs.Rows.{length-packed-bytes, length-unpacked-row}
 
@@ -36,7 +37,7 @@ pixel-packed (suc n) row i h = rw (pixels-of-packed row) (by-place i (pixel-pack
         others k (omega arith) ∙ ap bit (getD-drop 8 row k 0 ∙ ap (λ (i : ℕ). getD row i 0) place)
 
 -- a packed row unpacks to the bits of its pixels
-pub row-unpacks : (W : ℕ) (row : List ℕ) → length row ≡ W → unpackedRow W (packedRow W row) ≡ map bit row
+pub row-unpacks : RowUnpacks
 row-unpacks W row long =
     let bytes = packedRow W row in
     let wide : length (unpackedRow W bytes) ≡ W = length-unpacked-row W bytes (rw (length-packed-bytes (rowBytes W) row) (omega arith)) in
@@ -85,8 +86,7 @@ bytes-repack (byte ∷ bytes) small =
     ap₂ (λ (b : ℕ) (l : List ℕ). b ∷ l) (pixels-packed byte (small 0)) (bytes-repack bytes (λ (i : ℕ). small (suc i)))
 
 -- bytes of which the bits behind a row are 0 are what that row packs to
-pub row-repacks : (W : ℕ) (bytes : List ℕ) → length bytes ≡ rowBytes W → ((i : ℕ) → getD bytes i 0 < 256)
-    → ((i : ℕ) → W ≤ i → getD (unpacked bytes) i 0 ≡ 0) → packedRow W (unpackedRow W bytes) ≡ bytes
+pub row-repacks : RowRepacks
 row-repacks W bytes long small filled =
     same-pixels (rowBytes W) (unpackedRow W bytes) (unpacked bytes) agree
     ∙ ap (λ (n : ℕ). packedBytes n (unpacked bytes)) (sym long)

@@ -1,4 +1,4 @@
--- Laws of packed and unpacked rows: the steps of the loops that write them, and that each is the other's way back.
+-- Laws of packed and unpacked rows: how long they are, and the steps of the loops that write them.
 -- Assumes nothing.
 use mathlib.Core.Path.{_≡_, refl, sym, ap, _∙_}
 use mathlib.Core.List.{List, [], _∷_, _++_, append-assoc, append-nil}
@@ -6,11 +6,11 @@ use Prim.Native.Nat.{ℕ, zero, suc, _+_, _*_, _-_, _≤_, _<_, _^_}
 use native.Mathlib.Nat.{suc-mul, mul-le-mul}
 use native.Mathlib.Numerals.{add-one}
 use native.Mathlib.Omega.{arith}
-use lib.ListN.{length, take, drop, getD, set, length-append, length-take, length-drop}
+use lib.ListN.{length, take, drop, getD, set, length-append, length-take, length-drop, drop-of-length-le}
 use lib.Seq.{sets, drop-cons, take-at, take-append-le, take-append-add, take-all, length-take-le, drop-drop}
 use Rattle.netpbm_header.specs.declared.Format.{Format}
 use Rattle.netpbm_header.specs.declared.Format.the-variants.{P4, P5}
-use Rattle.netpbm_text.proofs.Written.{sets-append, drop-all}
+use Rattle.netpbm_text.proofs.Written.{sets-append}
 use Rattle.netpbm_raster.specs.Raster.{packedByte, packedBytes, rowBytes, rasterLength, packedRow, packedRows, pixelsOf, unpacked, unpackedRow, unpackedRows}
 use Rattle.netpbm_raster.specs.Steps.{shiftedOut}
 use Rattle.netpbm_raster.proofs.Bits.{shifted-first, shifted-pixels}
@@ -135,7 +135,7 @@ pub unpack-last : (row bytes ys : List ℕ) (at j n : ℕ) → at < n → n - at
     → take at row ++ (ys ++ drop (length row - at) (drop at row)) ≡ take at row ++ take (n - at) (unpacked (drop j bytes))
 unpack-last row bytes ys at j n order few long some small e =
     let rest = unpacked (drop (j + 1) bytes) in
-    let none : drop (length row - at) (drop at row) ≡ [] = drop-all (length row - at) (drop at row) (simp length-drop (omega arith)) in
+    let none : drop (length row - at) (drop at row) ≡ [] = drop-of-length-le (drop at row) {i = (length row - at)} (simp length-drop (omega arith)) in
     let left : length row - at ≡ n - at = omega arith in
     rw (none, append-nil, e, left, unpacked-step bytes j some)
     (ap (λ (l : List ℕ). take at row ++ l) (first-pixels (n - at) (getD bytes j 0) rest (omega arith) small))

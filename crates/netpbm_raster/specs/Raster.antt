@@ -38,7 +38,7 @@ abbrev pub rasterLength : Format → ℕ → ℕ → ℕ → ℕ
 rasterLength P4 W H pixels = H * rowBytes W
 rasterLength P5 W H pixels = pixels
 
--- a row of W pixels as bits
+-- a row of just W pixels as bits
 abbrev pub packedRow : ℕ → List ℕ → List ℕ
 packedRow W row = packedBytes (rowBytes W) row
 

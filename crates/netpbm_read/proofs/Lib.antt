@@ -1,2 +1,3 @@
--- The laws of the check that a read makes.
+-- `Reading` has the laws of the check that a read makes; `Examples` computes the definitions.
 pub mod Reading
+pub mod Examples

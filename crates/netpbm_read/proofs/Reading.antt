@@ -8,7 +8,7 @@ use Prim.Native.Nat.{ℕ, _*_, _-_, _≤_, min}
 use native.Mathlib.Omega.{arith}
 use borrow.Author.Tests.{ltb-true, ltb-false, lt-ltb, le-ltb}
 use lib.Dec.{ltb}
-use lib.ListN.{length, take, drop, length-drop}
+use lib.ListN.{length, take, drop, length-drop, drop-of-length-le}
 use lib.Seq.{sets, take-all, length-take-le}
 use Rattle.refusal.specs.declared.Refusal.the-variants.{CanvasSide, RasterLength}
 use Rattle.refusal.specs.declared.Checked.{Checked}
@@ -18,9 +18,9 @@ use Rattle.refusal.proofs.Checks.{passed-first, passed-next, passed-above}
 use Rattle.geometry.specs.Limits.{maxCanvasSide}
 use Rattle.canvas_size.specs.CanvasSize.{sideCheck, canvasSizeCheck, canvasLengthCheck}
 use Rattle.canvas_size.proofs.Sides.{canvas-size-passed, canvas-length-passed}
-use Rattle.netpbm_text.proofs.Written.{sets-start, drop-all}
+use Rattle.netpbm_text.proofs.Written.{sets-start}
 use Rattle.netpbm_header.specs.declared.Format.{Format}
-use Rattle.netpbm_parser.specs.Parser.{FileHeader, noHeader, headed}
+use Rattle.netpbm_parser.specs.Parser.{ReadHeader, noHeader, headed}
 use Rattle.netpbm_parser.specs.Capped.{mostKept, cappedHeader}
 use Rattle.netpbm_parser.proofs.Capped.{kept}
 use Rattle.netpbm_raster.specs.Raster.{rasterLength}
@@ -31,7 +31,7 @@ pub copied : (canvas bytes : List ℕ) → length canvas ≤ length bytes → se
 copied canvas bytes enough =
     let long : length (take (length canvas) bytes) ≡ length canvas = length-take-le (length canvas) bytes enough in
     sets-start canvas (take (length canvas) bytes) (omega arith)
-    ∙ rw (long, drop-all (length canvas) canvas (omega arith)) (append-nil (take (length canvas) bytes))
+    ∙ rw (long, drop-of-length-le canvas {i = (length canvas)} (omega arith)) (append-nil (take (length canvas) bytes))
 
 -- all bytes from a place on, as they are lent
 pub lent-from : (l : List ℕ) (at : ℕ) → take (length l - at) (drop at l) ≡ drop at l
@@ -79,16 +79,16 @@ sides-kept format W H bytes passed =
     ap₂ (λ (a b : ℕ). headed format a b bytes) (kept W (omega (arith, sides .width-most))) (kept H (omega (arith, sides .height-most)))
 
 -- a header is refused alike as far as its numbers are kept, and one that passes is kept as it is
-pub check-capped : (header : FileHeader) (n : ℕ) (room : Checked) → readCheck (cappedHeader header) n room ≡ readCheck header n room
+pub check-capped : (header : ReadHeader) (n : ℕ) (room : Checked) → readCheck (cappedHeader header) n room ≡ readCheck header n room
 check-capped noHeader n room = refl
 check-capped (headed format W H bytes) n room = by-sides (canvasSizeCheck W H) refl
   where
     by-sides : (s : Checked) → canvasSizeCheck W H ≡ s
         → readCheck (cappedHeader (headed format W H bytes)) n room ≡ readCheck (headed format W H bytes) n room
-    by-sides Passed e = ap (λ (h : FileHeader). readCheck h n room) (sides-kept format W H bytes e)
+    by-sides Passed e = ap (λ (h : ReadHeader). readCheck h n room) (sides-kept format W H bytes e)
     by-sides (Refused refusal) e = rw (size-capped W H, e)
 
-pub header-kept : (header : FileHeader) (n : ℕ) (room : Checked) → readCheck header n room ≡ Passed → cappedHeader header ≡ header
+pub header-kept : (header : ReadHeader) (n : ℕ) (room : Checked) → readCheck header n room ≡ Passed → cappedHeader header ≡ header
 header-kept noHeader n room e = refl
 header-kept (headed format W H bytes) n room e =
     sides-kept format W H bytes

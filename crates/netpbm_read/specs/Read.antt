@@ -11,13 +11,13 @@ use Rattle.refusal.specs.Refusal.{number, refuseIf, orElse, above, Outcome, ref
 use Rattle.canvas_size.specs.CanvasSize.{canvasSizeCheck, canvasLengthCheck}
 use Rattle.netpbm_header.specs.declared.Format.{Format}
 use Rattle.netpbm_header.specs.declared.Format.the-variants.{P4, P5}
-use Rattle.netpbm_parser.specs.Parser.{fileHeader, noHeader, headed}
-use Rattle.netpbm_parser.specs.Parser.{FileHeader as ReadHeader}
+use Rattle.netpbm_parser.specs.Parser.{ReadHeader, noHeader, headed, fileHeader}
 use Rattle.netpbm_raster.specs.Raster.{rasterLength, unpackedRows}
 use Rattle.netpbm_read.specs.declared.ReadAnswer.{ReadAnswer}
 use Rattle.netpbm_read.specs.declared.ReadAnswer.the-variants as read-answer
 
--- the canvas that the bytes behind a header hold: of P4 a pixel for each bit, of P5 one for each byte. Bytes after the raster are not read
+-- the canvas that the bytes behind a header hold: of P4 its rows of bits without their filling, of P5 a pixel for each byte. Bytes after the
+-- raster are not read
 abbrev pub pixels : Format → ℕ → ℕ → List ℕ → List ℕ
 pixels P4 W H bytes = unpackedRows W H bytes
 pixels P5 W H bytes = take (W * H) bytes

@@ -4,7 +4,7 @@
 use canvas_size::CanvasSize;
 use netpbm_header::Format;
 use netpbm_parser::Header;
-use netpbm_parser::Parsed;
+use netpbm_parser::HeaderAnswer;
 use netpbm_parser::read_header;
 use netpbm_raster::raster_length;
 use netpbm_raster::unpack_rows;
@@ -95,7 +95,7 @@ pub fn read_beside(file: &[u8], canvas: &mut [u8], room: Checked) -> ReadAnswer
     ensures { λ r. ⌜ readOutcome r ≡ readBeside room (now (file .entry)) (now (canvas .entry)) ⌝ }
     ensures { λ _. ⌜ now (canvas .exit) ≡ canvasBeside room (now (file .entry)) (now (canvas .entry)) ⌝ }
 {
-    let Parsed::Headed(header) = read_header(file) else {
+    let HeaderAnswer::Headed(header) = read_header(file) else {
         return ReadAnswer::Refused(Refusal::FileHeader);
     };
     let checked = check_read(header, canvas.len(), room, file.len() - header.raster);

@@ -1,8 +1,8 @@
 -- Laws of bytes put into a buffer: one write after another is one write, and a store more is one byte more.
 -- Assumes nothing.
-use mathlib.Core.Path.{_≡_, refl, sym, ap, _∙_}
+use mathlib.Core.Path.{_≡_, sym, ap, _∙_}
 use mathlib.Core.List.{List, [], _∷_, _++_}
-use Prim.Native.Nat.{ℕ, zero, suc, _+_, _≤_, _<_}
+use Prim.Native.Nat.{ℕ, suc, _+_, _≤_, _<_}
 use native.Mathlib.Numerals.{add-one}
 use native.Mathlib.Omega.{arith}
 use lib.ListN.{length, take, drop, getD, set, length-append}
@@ -39,10 +39,3 @@ sets-start l s h = sets-eq s l 0 (omega arith) ∙ rw (zero-plus (length s))
   where
     zero-plus : (n : ℕ) → 0 + n ≡ n
     zero-plus n = omega arith
-
--- nothing is left from a list's end on
-pub drop-all : (i : ℕ) (l : List ℕ) → length l ≤ i → drop i l ≡ []
-drop-all zero [] h = refl
-drop-all zero (a ∷ l) h = absurd (omega arith)
-drop-all (suc i) [] h = refl
-drop-all (suc i) (a ∷ l) h = drop-all i l (omega arith)

@@ -1,12 +1,16 @@
-// A page for the one-colour clock: reads a grey page of the panel's size, 232 by 120, as Netpbm P5 from
-// standard input, and writes it as P4 to standard output. Dark pixels become 1 bits, which such a panel
-// shows black. Its stored input is the page that `cafe` writes.
+// A page for the one-colour clock, 232 by 120: reads it as Netpbm P5 or P4 from standard input, and
+// writes it as P4 to standard output. Of a grey page the dark pixels become 1 bits, which such a panel
+// shows black. A file that is no such page is answered by nothing. The stored input is the page that
+// `cafe` writes.
 use libc::STDIN_FILENO;
 use libc::STDOUT_FILENO;
 use netpbm::WriteAnswer;
 use netpbm_read::ReadAnswer;
 
-// Pixels below it are dark.
+const WIDTH: u32 = 232;
+
+const HEIGHT: u32 = 120;
+// Grey pixels below it are dark.
 const MIDDLE: u8 = 128;
 
 // 1 for a dark pixel, else 0.
@@ -23,22 +27,28 @@ fn darken(canvas: &mut [u8]) {
     }
 }
 
-fn main() {
-    let mut file = [0u8; 27872];
-    let mut canvas = [0u8; 27840];
-    let count = io::read_full(STDIN_FILENO, &mut file);
-    if file.len() < count {
-        return;
-    }
-    let ReadAnswer::Read(size) = netpbm::read(&file[..count], &mut canvas) else {
-        return;
-    };
-    let width = size.width;
-    let height = size.height;
-    darken(&mut canvas);
+// Writes the page as P4.
+fn write_page(canvas: &[u8; 27840]) {
     let mut page = [0u8; 3491];
-    let WriteAnswer::Written(_) = netpbm::write_p4(width, height, &canvas, &mut page) else {
+    let WriteAnswer::Written(_) = netpbm::write_p4(WIDTH, HEIGHT, canvas, &mut page) else {
         return;
     };
     io::write_all(STDOUT_FILENO, &page);
+}
+
+fn main() {
+    let mut file = [0u8; 33792];
+    let mut canvas = [0u8; 27840];
+    let count = io::read_full(STDIN_FILENO, &mut file);
+    let ReadAnswer::Read(size) = netpbm::read(&file[..count], &mut canvas) else {
+        return;
+    };
+    // The canvas has as many pixels as the page, so the width tells the height.
+    if size.width != WIDTH {
+        return;
+    }
+    if file[1] == b'5' {
+        darken(&mut canvas);
+    }
+    write_page(&canvas);
 }

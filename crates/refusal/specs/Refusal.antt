@@ -1,4 +1,4 @@
--- Document 01's table of refusals: their numbers, the lowest that applies, and what an answer says.
+-- Document 01's table of refusals, with 14 and 15 of document 02: their numbers, the first that applies, and what an answer says.
 -- Assumes nothing.
 use mathlib.Core.Bool.{Bool, true, false}
 use mathlib.Core.List.{List}
@@ -43,7 +43,8 @@ abbrev pub refuseIf : Bool → Refusal → Checked
 refuseIf true refusal = Refused refusal
 refuseIf false refusal = Passed
 
--- the first refusal of two checks. Checks are put in the table's order, so it is the lowest number that applies
+-- the first refusal of two checks. Checks are put in the order in which they are looked for: the table's, so that it is the lowest number
+-- that applies, but for a read, where 14 comes before all others
 abbrev pub orElse : Checked → Checked → Checked
 orElse (Refused refusal) next = Refused refusal
 orElse Passed next = next

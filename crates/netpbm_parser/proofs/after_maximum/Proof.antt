@@ -4,6 +4,7 @@ use mathlib.Core.Path.{sym, ap, subst, _∙_}
 use Rattle.netpbm_parser.specs.declared.Number.{Number}
 use Rattle.netpbm_parser.specs.Capped.{numberIn, NumberWithin}
 use Rattle.netpbm_parser.proofs.Capped.{no-maximum, right-maximum, other-maximum}
+use native.Mathlib.Omega.{arith}
 use borrow.Author.Needs.{needs}
 use Rattle.netpbm_parser.proofs.after_maximum.Statement.{statement}
 use Rattle.netpbm_parser.proofs.after_maximum.Tie as tie
@@ -33,7 +34,7 @@ returns-2 c =
     let file = c .before .before .before .before .before .before .before .args .file .now in
     let given = c .before .before .before .maximum .given in
     let seen = sym (ap (λ (r : Number). numberIn file r) (given .1)) ∙ c .before .before .before .before .before .read-number .ensures .0 in
-    (c .after-white .ensures .0 ∙ right-maximum _ (given .0 .0) _ seen (c .before .if1 .taken), c .after-white .ensures .1)
+    (c .after-white .ensures .0 ∙ right-maximum _ (given .0 .0) _ seen (omega arith), c .after-white .ensures .1)
 
 returns-3 : tie.Need-returns-3
 returns-3 c =

@@ -6,8 +6,9 @@ use borrow.Author.Tests.{not-true, not-false}
 use lib.ListN.{length, drop}
 use Rattle.netpbm_parser.specs.Parser.{parsed, digits, digitsFrom}
 use Rattle.netpbm_parser.specs.Capped.{mostKept, capped}
+use Rattle.netpbm_text.proofs.Bytes.{digit-least}
 use Rattle.netpbm_parser.proofs.Gaps.{digits-at-end, no-digits, some-digits}
-use Rattle.netpbm_parser.proofs.Capped.{kept, digit-least, digit-more, digits-stop, digits-end}
+use Rattle.netpbm_parser.proofs.Capped.{kept, digit-more, digits-stop, digits-end}
 use native.Mathlib.Omega.{arith}
 use borrow.Author.Needs.{needs}
 use Rattle.netpbm_parser.proofs.read_digits.Statement.{statement}

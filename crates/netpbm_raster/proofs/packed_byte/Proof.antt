@@ -6,8 +6,7 @@ use Prim.Native.Nat.{_+_, _*_, _≤_}
 use borrow.Author.Needs.{needs}
 use native.Mathlib.Omega.{arith}
 use lib.ListN.{drop}
-use Rattle.netpbm_raster.specs.Steps.{weighed}
-use Rattle.netpbm_raster.proofs.Bits.{weighed-packed, weighed-step, weighed-end, weightless}
+use Rattle.netpbm_raster.proofs.Bits.{weighed, weighed-packed, weighed-step, weighed-end, weightless}
 use Rattle.netpbm_raster.proofs.packed_byte.Statement.{statement}
 use Rattle.netpbm_raster.proofs.packed_byte.Tie as tie
 

@@ -7,8 +7,8 @@ use lib.ListN.{length, drop, length-drop}
 use Rattle.refusal.specs.Refusal.{refused, answered}
 use Rattle.refusal.proofs.Checks.{refused-early}
 use Rattle.netpbm_parser.specs.declared.Header.{Header}
-use Rattle.netpbm_parser.specs.declared.Parsed.{Parsed}
-use Rattle.netpbm_parser.specs.Parser.{FileHeader, headed, fileHeader}
+use Rattle.netpbm_parser.specs.declared.HeaderAnswer.{HeaderAnswer}
+use Rattle.netpbm_parser.specs.Parser.{ReadHeader, headed, fileHeader}
 use Rattle.netpbm_parser.specs.Capped.{cappedHeader, headerIn, HeaderWithin}
 use Rattle.netpbm_read.specs.Read.{readCheck, sidesOf, canvasOf}
 use Rattle.netpbm_read.proofs.Reading.{check-made, check-capped, header-kept, read-passed-length, read-passed-bytes}
@@ -25,14 +25,14 @@ header-of c = c .before .before .before .header .given .0 .0
 
 within : (c : tie.After-check-read) → header-of c .raster ≤ length (entry c .args .file .now)
 within c =
-    subst (λ (r : Parsed). HeaderWithin (entry c .args .file .now) r) (c .before .before .before .header .given .1)
+    subst (λ (r : HeaderAnswer). HeaderWithin (entry c .args .file .now) r) (c .before .before .before .header .given .1)
     (c .before .before .before .before .before .read-header .ensures .1) .2
 
 seen : (c : tie.After-check-read)
     → headed (header-of c .format) (header-of c .width) (header-of c .height) (drop (header-of c .raster) (entry c .args .file .now))
     ≡ cappedHeader (fileHeader (entry c .args .file .now))
 seen c =
-    sym (ap (λ (r : Parsed). headerIn (entry c .args .file .now) r) (c .before .before .before .header .given .1))
+    sym (ap (λ (r : HeaderAnswer). headerIn (entry c .args .file .now) r) (c .before .before .before .header .given .1))
     ∙ c .before .before .before .before .before .read-header .ensures .0
 
 -- the check made is the definition's, of the header as it is kept and as it is
@@ -53,7 +53,7 @@ made c =
     let a = entry c .args in
     let n = length (a .canvas .now) in
     checked c
-    ∙ ap (λ (h : FileHeader). readCheck h n (a .room)) (seen c)
+    ∙ ap (λ (h : ReadHeader). readCheck h n (a .room)) (seen c)
     ∙ check-capped (fileHeader (a .file .now)) n (a .room)
 
 read-header-requires : tie.Need-read-header-requires
@@ -69,14 +69,14 @@ returns : tie.Need-returns
 returns c =
     let a = c .before .before .before .before .before .args in
     let n = length (a .canvas .now) in
-    let seen = sym (ap (λ (r : Parsed). headerIn (a .file .now) r) (c .enum-told .given .1)) ∙ c .before .before .read-header .ensures .0 in
-    let check = sym (check-capped (fileHeader (a .file .now)) n (a .room)) ∙ ap (λ (h : FileHeader). readCheck h n (a .room)) (sym seen) in
+    let seen = sym (ap (λ (r : HeaderAnswer). headerIn (a .file .now) r) (c .enum-told .given .1)) ∙ c .before .before .read-header .ensures .0 in
+    let check = sym (check-capped (fileHeader (a .file .now)) n (a .room)) ∙ ap (λ (h : ReadHeader). readCheck h n (a .room)) (sym seen) in
     rw check (refl, refl)
 
 sub-check-read : tie.Need-sub-check-read
 sub-check-read c =
     let file = c .before .before .before .before .before .before .before .args .file .now in
-    subst (λ (r : Parsed). HeaderWithin file r) (c .before .before .header .given .1) (c .before .before .before .before .read-header .ensures .1) .2
+    subst (λ (r : HeaderAnswer). HeaderWithin file r) (c .before .before .header .given .1) (c .before .before .before .before .read-header .ensures .1) .2
 
 check-read-requires : tie.Need-check-read-requires
 check-read-requires c κs = search needs
@@ -120,7 +120,7 @@ returns-3 c =
     let whole = seen check ∙ header-kept (fileHeader (a .file .now)) (length (a .canvas .now)) (a .room) passed in
     let read = c .before .before .read-headed .ensures in
     rw passed
-    (read .0 ∙ ap (λ (h : FileHeader). answered (sidesOf h)) whole, read .1 ∙ ap (λ (h : FileHeader). canvasOf h) whole)
+    (read .0 ∙ ap (λ (h : ReadHeader). answered (sidesOf h)) whole, read .1 ∙ ap (λ (h : ReadHeader). canvasOf h) whole)
 
 pub read-beside-spec : {M : Type 1} → statement M
 read-beside-spec =
