@@ -70,6 +70,7 @@ pub data ReadHeader : Type 0 where
   noHeader : ReadHeader
   headed : Format → ℕ → ℕ → List ℕ → ReadHeader
 
+-- the header, by what is read in turn: W; H; and what follows them. Where one is missing there is no header
 abbrev pub ofRest : Format → ℕ → ℕ → Rest → ReadHeader
 ofRest format W H none = noHeader
 ofRest format W H (rest raster) = headed format W H raster
@@ -82,7 +83,7 @@ abbrev pub ofWidth : Format → Parsed → ReadHeader
 ofWidth format malformed = noHeader
 ofWidth format (parsed W bytes) = ofHeight format W (number bytes)
 
--- whether bytes begin with others
+-- whether bytes begin with others, as a file with its magic
 unfoldable pub startsWith : List ℕ → List ℕ → Bool
 startsWith [] bytes = true
 startsWith (first ∷ others) [] = false
