@@ -37,4 +37,9 @@ written-length-fits format W H canvas file room n passed same =
     let few = accepted (writeCheck format W H canvas file) (length (picture format W H canvas)) n (sym same) .1 in
     let area : W * H ≤ 1024 * 1024 = mul-le-mul (sides .width-most) (sides .height-most) in
     let head = length-header-u32 format W H (omega arith) (omega arith) in
-    omega (arith, length-picture format W H canvas, raster-length-most format W H (length canvas) (sides .width-most) (sides .height-most) (omega arith))
+    omega (
+      arith,
+      length-picture format W H canvas,
+      raster-length-most format W H (length canvas) (sides .width-most)
+          (sides .height-most) (omega arith),
+    )

@@ -30,7 +30,8 @@ fn write(
 ) -> u32
     ensures { λ r. ⌜ Tells (writeSaid format width height (now (canvas .entry)) (now (file .entry)) (length (now (out .entry))))
         (now (out .entry)) r (now (out .exit)) ⌝ }
-    ensures { λ _. ⌜ now (file .exit) ≡ writtenAfter format width height (now (canvas .entry)) (now (file .entry)) (length (now (out .entry))) ⌝ }
+    ensures { λ _. ⌜ now (file .exit) ≡ writtenAfter format width height (now (canvas .entry)) (now (file .entry))
+        (length (now (out .entry))) ⌝ }
 {
     let size = CanvasSize {
         width: width,
@@ -51,7 +52,8 @@ fn write(
 pub fn write_p5(width: u32, height: u32, canvas: &[u8], file: &mut [u8], out: &mut [i32]) -> u32
     ensures { λ r. ⌜ Tells (writeSaid P5 width height (now (canvas .entry)) (now (file .entry)) (length (now (out .entry))))
         (now (out .entry)) r (now (out .exit)) ⌝ }
-    ensures { λ _. ⌜ now (file .exit) ≡ writtenAfter P5 width height (now (canvas .entry)) (now (file .entry)) (length (now (out .entry))) ⌝ }
+    ensures { λ _. ⌜ now (file .exit) ≡ writtenAfter P5 width height (now (canvas .entry)) (now (file .entry))
+        (length (now (out .entry))) ⌝ }
 {
     write(Format::P5, width, height, canvas, file, out)
 }
@@ -60,7 +62,8 @@ pub fn write_p5(width: u32, height: u32, canvas: &[u8], file: &mut [u8], out: &m
 pub fn write_p4(width: u32, height: u32, canvas: &[u8], file: &mut [u8], out: &mut [i32]) -> u32
     ensures { λ r. ⌜ Tells (writeSaid P4 width height (now (canvas .entry)) (now (file .entry)) (length (now (out .entry))))
         (now (out .entry)) r (now (out .exit)) ⌝ }
-    ensures { λ _. ⌜ now (file .exit) ≡ writtenAfter P4 width height (now (canvas .entry)) (now (file .entry)) (length (now (out .entry))) ⌝ }
+    ensures { λ _. ⌜ now (file .exit) ≡ writtenAfter P4 width height (now (canvas .entry)) (now (file .entry))
+        (length (now (out .entry))) ⌝ }
 {
     write(Format::P4, width, height, canvas, file, out)
 }

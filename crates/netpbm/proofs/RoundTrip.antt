@@ -47,7 +47,12 @@ module _ (format : Format) (W H : ℕ) (canvas behind : List ℕ) (sides : canva
       rw length-append (omega arith)
 
   passes : (n : ℕ) → n ≡ W * H → readCheck (headed format W H (raster format W H canvas ++ behind)) n Passed ≡ Passed
-  passes n e = rw (sides, length-passes W H n e, le-ltb (length (raster format W H canvas ++ behind)) (rasterLength format W H (W * H)) enough)
+  passes n e = rw (
+    sides,
+    length-passes W H n e,
+    le-ltb (length (raster format W H canvas ++ behind))
+        (rasterLength format W H (W * H)) enough,
+  )
 
   reads-back : ReadsAs (picture format W H canvas ++ behind) W H (readBack format canvas)
   reads-back =

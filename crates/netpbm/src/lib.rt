@@ -34,7 +34,8 @@ pub enum WriteAnswer {
 fn put_raster(file: &mut [u8], at: usize, format: Format, size: CanvasSize, canvas: &[u8]) -> usize
     requires { ⌜ length (now canvas) ≡ size .width * size .height ⌝ }
     requires { ⌜ at + length (raster format (size .width) (size .height) (now canvas)) ≤ length (now file) ⌝ }
-    ensures { λ r. ⌜ Wrote (now (file .entry)) at (raster format (size .width) (size .height) (now (canvas .entry))) (now (file .exit)) r ⌝ }
+    ensures { λ r. ⌜ Wrote (now (file .entry)) at (raster format (size .width) (size .height) (now (canvas .entry)))
+        (now (file .exit)) r ⌝ }
 {
     match format {
         Format::P4 => put_rows(file, at, size.width as usize, size.height as usize, canvas),
@@ -46,7 +47,8 @@ fn put_raster(file: &mut [u8], at: usize, format: Format, size: CanvasSize, canv
 fn put_picture(file: &mut [u8], format: Format, size: CanvasSize, canvas: &[u8]) -> usize
     requires { ⌜ length (now canvas) ≡ size .width * size .height ⌝ }
     requires { ⌜ length (picture format (size .width) (size .height) (now canvas)) ≤ length (now file) ⌝ }
-    ensures { λ r. ⌜ Wrote (now (file .entry)) 0 (picture format (size .width) (size .height) (now (canvas .entry))) (now (file .exit)) r ⌝ }
+    ensures { λ r. ⌜ Wrote (now (file .entry)) 0 (picture format (size .width) (size .height) (now (canvas .entry)))
+        (now (file .exit)) r ⌝ }
 {
     let raster_at = put_header(file, format, size);
     put_raster(file, raster_at, format, size, canvas)

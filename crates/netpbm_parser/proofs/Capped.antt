@@ -153,7 +153,8 @@ pub starts-long : (magic file : List ℕ) → startsWith magic file ≡ true →
 unfolding startsWith
 starts-long [] file e = omega arith
 starts-long (first ∷ others) [] e = let z : _≡_ {A = ℕ} 0 1 = cc in absurd (omega arith)
-starts-long (first ∷ others) (byte ∷ bytes) e = omega (arith, starts-long others bytes (second-true (eqb first byte) (startsWith others bytes) e))
+starts-long (first ∷ others) (byte ∷ bytes) e = omega
+    (arith, starts-long others bytes (second-true (eqb first byte) (startsWith others bytes) e))
   where
     second-true : (a b : Bool) → cond a b false ≡ true → b ≡ true
     second-true true b e = e

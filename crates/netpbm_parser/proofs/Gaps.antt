@@ -108,7 +108,8 @@ piece-comment file at r within e h order end past =
       none = λ (h′ : r ≤ at). absurd (omega arith);
     }
 
-pub piece-none : (file : List ℕ) (at : ℕ) → at < length file → white (getD file at 0) ≡ false → hash (getD file at 0) ≡ false → Piece file at at
+pub piece-none : (file : List ℕ) (at : ℕ) → at < length file → white (getD file at 0) ≡ false → hash (getD file at 0) ≡ false
+    → Piece file at at
 piece-none file at within e h =
     record {
       from = omega arith;

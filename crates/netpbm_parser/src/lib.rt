@@ -45,7 +45,8 @@ pub enum HeaderAnswer {
 // The place behind the CR or LF that ends a comment, or the file's end, where no number follows.
 fn comment_end(file: &[u8], at: usize) -> usize
     requires { ⌜ at ≤ length (now file) ⌝ }
-    ensures { λ r. ⌜ (at ≤ r) × (r ≤ length (now (file .entry))) × (afterGap true (drop at (now (file .entry))) ≡ afterGap false (drop r (now (file .entry)))) ⌝ }
+    ensures { λ r. ⌜ (at ≤ r) × (r ≤ length (now (file .entry)))
+        × (afterGap true (drop at (now (file .entry))) ≡ afterGap false (drop r (now (file .entry)))) ⌝ }
 {
     let mut i = at;
     while i < file.len() {
@@ -77,7 +78,8 @@ fn piece_end(file: &[u8], at: usize) -> usize
 // The place behind all whitespace and comments.
 fn gap_end(file: &[u8], at: usize) -> usize
     requires { ⌜ at ≤ length (now file) ⌝ }
-    ensures { λ r. ⌜ (r ≤ length (now (file .entry))) × (afterGap false (drop at (now (file .entry))) ≡ digits (drop r (now (file .entry)))) ⌝ }
+    ensures { λ r. ⌜ (r ≤ length (now (file .entry)))
+        × (afterGap false (drop at (now (file .entry))) ≡ digits (drop r (now (file .entry)))) ⌝ }
 {
     let mut i = at;
     while i < file.len() {

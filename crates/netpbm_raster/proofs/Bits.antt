@@ -113,7 +113,8 @@ unfolding holdsBelow same shiftedOut pixelsOf
 shifted-all = refl
 
 pub shifted-pixels : (byte : ℕ) → byte < 256 → shiftedOut 8 byte ≡ pixelsOf byte
-shifted-pixels byte h = same-equal (shiftedOut 8 byte) (pixelsOf byte) (holds-at 256 (λ (b : ℕ). same (shiftedOut 8 b) (pixelsOf b)) shifted-all byte h)
+shifted-pixels byte h = same-equal (shiftedOut 8 byte) (pixelsOf byte)
+    (holds-at 256 (λ (b : ℕ). same (shiftedOut 8 b) (pixelsOf b)) shifted-all byte h)
 
 -- of every byte: its pixels pack to it
 repacked-all : holdsBelow 256 (λ (byte : ℕ). eqb (packedByte (pixelsOf byte)) byte) ≡ true

@@ -22,7 +22,8 @@ unfolding packedBytes unpacked
 pixel-packed zero row i h = absurd (omega arith)
 pixel-packed (suc n) row i h = rw (pixels-of-packed row) (by-place i (pixel-packed n (drop 8 row)) h)
   where
-    by-place : (i : ℕ) → ((k : ℕ) → k < 8 * n → getD (unpacked (packedBytes n (drop 8 row))) k 0 ≡ bit (getD (drop 8 row) k 0)) → i < 8 * suc n
+    by-place : (i : ℕ) → ((k : ℕ) → k < 8 * n → getD (unpacked (packedBytes n (drop 8 row))) k 0 ≡ bit (getD (drop 8 row) k 0))
+        → i < 8 * suc n
         → getD (eightBits row ++ unpacked (packedBytes n (drop 8 row))) i 0 ≡ bit (getD row i 0)
     by-place zero others h = refl
     by-place (suc zero) others h = refl

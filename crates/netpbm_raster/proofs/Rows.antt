@@ -112,10 +112,12 @@ first-pixels n byte rest few small =
     ∙ sym (take-append-le n (pixelsOf byte) rest (rw (pixels-eight byte) few))
 
 -- a whole byte of a row that has n pixels left, and then the others
-pub byte-of-row : (n byte : ℕ) (rest : List ℕ) → 8 ≤ n → byte < 256 → shiftedOut 8 byte ++ take (n - 8) rest ≡ take n (pixelsOf byte ++ rest)
+pub byte-of-row : (n byte : ℕ) (rest : List ℕ) → 8 ≤ n → byte < 256 → shiftedOut 8 byte ++ take (n - 8) rest ≡ take n
+    (pixelsOf byte ++ rest)
 byte-of-row n byte rest enough small =
     let parts : n ≡ length (pixelsOf byte) + (n - 8) = rw (pixels-eight byte) (omega arith) in
-    rw (shifted-pixels byte small) (sym (take-append-add (pixelsOf byte) rest (n - 8)) ∙ ap (λ (k : ℕ). take k (pixelsOf byte ++ rest)) (sym parts))
+    rw (shifted-pixels byte small)
+    (sym (take-append-add (pixelsOf byte) rest (n - 8)) ∙ ap (λ (k : ℕ). take k (pixelsOf byte ++ rest)) (sym parts))
 
 -- a turn of the loop that unpacks a row, and its last part
 pub unpack-turn : (row bytes ys : List ℕ) (at j n : ℕ) → at + 8 ≤ n → length row ≡ n → j < length bytes → getD bytes j 0 < 256
@@ -125,7 +127,8 @@ pub unpack-turn : (row bytes ys : List ℕ) (at j n : ℕ) → at + 8 ≤ n → 
 unpack-turn row bytes ys at j n within long some small e =
     let rest = unpacked (drop (j + 1) bytes) in
     let less : n - (at + 8) ≡ n - at - 8 = omega arith in
-    let eight : length ys ≡ at + 8 - at = ap length (e ∙ shifted-pixels (getD bytes j 0) small) ∙ pixels-eight (getD bytes j 0) ∙ omega arith in
+    let eight : length ys ≡ at + 8 - at = ap length (e ∙ shifted-pixels (getD bytes j 0) small) ∙ pixels-eight (getD bytes j 0)
+    ∙ omega arith in
     let whole : ys ++ take (n - (at + 8)) rest ≡ take (n - at) (pixelsOf (getD bytes j 0) ++ rest) =
     rw (e, less) (byte-of-row (n - at) (getD bytes j 0) rest (omega arith) small) in
     rw (over-part-front row ys at (at + 8) (omega arith) (omega arith) eight, append-assoc, whole, unpacked-step bytes j some)
@@ -135,7 +138,8 @@ pub unpack-last : (row bytes ys : List ℕ) (at j n : ℕ) → at < n → n - at
     → take at row ++ (ys ++ drop (length row - at) (drop at row)) ≡ take at row ++ take (n - at) (unpacked (drop j bytes))
 unpack-last row bytes ys at j n order few long some small e =
     let rest = unpacked (drop (j + 1) bytes) in
-    let none : drop (length row - at) (drop at row) ≡ [] = drop-of-length-le (drop at row) {i = (length row - at)} (simp length-drop (omega arith)) in
+    let none : drop (length row - at) (drop at row) ≡ [] = drop-of-length-le (drop at row) {i = (length row - at)}
+    (simp length-drop (omega arith)) in
     let left : length row - at ≡ n - at = omega arith in
     rw (none, append-nil, e, left, unpacked-step bytes j some)
     (ap (λ (l : List ℕ). take at row ++ l) (first-pixels (n - at) (getD bytes j 0) rest (omega arith) small))
@@ -151,14 +155,16 @@ length-unpacked-row W bytes enough = length-take-le W (unpacked bytes) (rw (leng
 
 pub unpack-rows-turn : (canvas raster ys : List ℕ) (at from left W : ℕ) → 0 < left → at + W ≤ length canvas
     → from + rowBytes W ≤ length raster → ys ≡ unpackedRow W (take (rowBytes W) (drop from raster))
-    → take (at + W) (take at canvas ++ (ys ++ drop (at + W - at) (drop at canvas))) ++ unpackedRows W (left - 1) (drop (from + rowBytes W) raster)
+    → take (at + W) (take at canvas ++ (ys ++ drop (at + W - at) (drop at canvas))) ++ unpackedRows W (left - 1)
+    (drop (from + rowBytes W) raster)
     ≡ take at canvas ++ unpackedRows W left (drop from raster)
 unfolding unpackedRows
 unpack-rows-turn canvas raster ys at from zero W some within enough e = absurd (omega arith)
 unpack-rows-turn canvas raster ys at from (suc left) W some within enough e =
     let less : suc left - 1 ≡ left = omega arith in
     let bytes = take (rowBytes W) (drop from raster) in
-    let bytes-long : W ≤ 8 * length bytes = rw (length-take-le (rowBytes W) (drop from raster) (simp length-drop (omega arith))) (omega arith) in
+    let bytes-long : W ≤ 8 * length bytes = rw (length-take-le (rowBytes W) (drop from raster) (simp length-drop (omega arith)))
+    (omega arith) in
     let long : length ys ≡ at + W - at = ap length e ∙ length-unpacked-row W bytes bytes-long ∙ omega arith in
     rw (over-part-front canvas ys at (at + W) (omega arith) within long, append-assoc, less, e, drop-drop)
 
@@ -168,7 +174,8 @@ unfolding unpackedRows
 unpack-rows-end canvas raster at left W none all = rw (none, append-nil) (take-all at canvas all)
 
 -- the bytes of any raster fit 63 bits
-pub raster-length-fits : (format : Format) (W H pixels : ℕ) → W < 2 ^ 32 → H < 2 ^ 32 → pixels < 2 ^ 63 → rasterLength format W H pixels < 2 ^ 63
+pub raster-length-fits : (format : Format) (W H pixels : ℕ) → W < 2 ^ 32 → H < 2 ^ 32 → pixels < 2 ^ 63
+    → rasterLength format W H pixels < 2 ^ 63
 raster-length-fits P4 W H pixels w h p =
     let height : H ≤ 4294967295 = omega arith in
     let bytes : rowBytes W ≤ 536870912 = omega arith in

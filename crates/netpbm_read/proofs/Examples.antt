@@ -33,7 +33,8 @@ p4-read : map (λ (raster : List ℕ). canvasAfter (80 ∷ 52 ∷ 9 ∷ 50 ∷ 1
 unfolding fileHeader startsWith number afterGap digits digitsFrom afterWhite white hash endsComment isDigit canvasSizeCheck canvasLengthCheck pixelsOf unpacked unpackedRows
 p4-read = refl
 
--- in the place of each gap of `P4 2 2 ` others, before a raster of two bytes: spaces, a comment ended by CR, one ended by LF between spaces, a
+-- in the place of each gap of `P4 2 2 ` others, before a raster of two bytes: spaces, a comment ended by CR, one ended by LF between
+-- spaces, a
 -- comment alone; then no gap, a vertical tab, a form feed, a comment that goes on to the file's end
 gaps-read : map (λ (gap : List ℕ). readCall (80 ∷ 52 ∷ [] ++ gap ++ (50 ∷ []) ++ gap ++ (50 ∷ 10 ∷ 0 ∷ 0 ∷ [])) lent)
     ((32 ∷ 32 ∷ []) ∷ (35 ∷ 120 ∷ 13 ∷ []) ∷ (32 ∷ 35 ∷ 10 ∷ 32 ∷ []) ∷ (35 ∷ 10 ∷ []) ∷ [] ∷ (11 ∷ []) ∷ (12 ∷ []) ∷ (35 ∷ 120 ∷ []) ∷ [])
@@ -59,7 +60,8 @@ widths-read = refl
 
 -- an empty file, `P`, `P6 2 2 255 `, `P54 4`, `P4`; and `P5 0 0 7 `, where 14 comes before 6
 magics-read : map (λ (file : List ℕ). readCall file lent)
-    ([] ∷ (80 ∷ []) ∷ (80 ∷ 54 ∷ 32 ∷ 50 ∷ 32 ∷ 50 ∷ 32 ∷ 50 ∷ 53 ∷ 53 ∷ 32 ∷ 0 ∷ 0 ∷ 0 ∷ 0 ∷ []) ∷ (80 ∷ 53 ∷ 52 ∷ 32 ∷ 52 ∷ []) ∷ (80 ∷ 52 ∷ [])
+    ([] ∷ (80 ∷ []) ∷ (80 ∷ 54 ∷ 32 ∷ 50 ∷ 32 ∷ 50 ∷ 32 ∷ 50 ∷ 53 ∷ 53 ∷ 32 ∷ 0 ∷ 0 ∷ 0 ∷ 0 ∷ []) ∷ (80 ∷ 53 ∷ 52 ∷ 32 ∷ 52 ∷ []) ∷
+    (80 ∷ 52 ∷ [])
     ∷ (80 ∷ 53 ∷ 32 ∷ 48 ∷ 32 ∷ 48 ∷ 32 ∷ 55 ∷ 32 ∷ []) ∷ [])
     ≡ refused 14 ∷ refused 14 ∷ refused 14 ∷ refused 14 ∷ refused 14 ∷ refused 14 ∷ []
 unfolding fileHeader startsWith number afterGap digits digitsFrom afterMaximum afterWhite white hash endsComment isDigit

@@ -1,4 +1,5 @@
--- The check that is made is the one that the definition makes, also of a header as far as its numbers are kept; and what it says once it has
+-- The check that is made is the one that the definition makes, also of a header as far as its numbers are kept; and what it says once it
+-- has
 -- passed.
 -- Assumes nothing.
 use mathlib.Core.Path.{_≡_, refl, sym, ap, ap₂, _∙_}
@@ -27,7 +28,8 @@ use Rattle.netpbm_raster.specs.Raster.{rasterLength}
 use Rattle.netpbm_read.specs.Read.{rasterCheck, readCheck}
 
 -- bytes copied over a whole canvas
-pub copied : (canvas bytes : List ℕ) → length canvas ≤ length bytes → sets canvas 0 (take (length canvas) bytes) ≡ take (length canvas) bytes
+pub copied : (canvas bytes : List ℕ) → length canvas ≤ length bytes → sets canvas 0 (take (length canvas) bytes) ≡ take
+    (length canvas) bytes
 copied canvas bytes enough =
     let long : length (take (length canvas) bytes) ≡ length canvas = length-take-le (length canvas) bytes enough in
     sets-start canvas (take (length canvas) bytes) (omega arith)
@@ -97,7 +99,8 @@ header-kept (headed format W H bytes) n room e =
     (passed-first (orElse (orElse (canvasSizeCheck W H) (canvasLengthCheck W H n)) room) (rasterCheck format W H bytes) e)))
 
 -- a check that passes says how long the canvas is, and that there are bytes enough
-pub read-passed-length : (format : Format) (W H n : ℕ) (bytes : List ℕ) (room : Checked) → readCheck (headed format W H bytes) n room ≡ Passed
+pub read-passed-length : (format : Format) (W H n : ℕ) (bytes : List ℕ) (room : Checked) → readCheck (headed format W H bytes) n room
+    ≡ Passed
     → n ≡ W * H
 read-passed-length format W H n bytes room e =
     canvas-length-passed W H n
@@ -105,7 +108,8 @@ read-passed-length format W H n bytes room e =
     (passed-first (orElse (canvasSizeCheck W H) (canvasLengthCheck W H n)) room
     (passed-first (orElse (orElse (canvasSizeCheck W H) (canvasLengthCheck W H n)) room) (rasterCheck format W H bytes) e)))
 
-pub read-passed-bytes : (format : Format) (W H n : ℕ) (bytes : List ℕ) (room : Checked) → readCheck (headed format W H bytes) n room ≡ Passed
+pub read-passed-bytes : (format : Format) (W H n : ℕ) (bytes : List ℕ) (room : Checked) → readCheck (headed format W H bytes) n room
+    ≡ Passed
     → rasterLength format W H n ≤ length bytes
 read-passed-bytes format W H n bytes room e =
     let enough = passed-above (length bytes) (rasterLength format W H (W * H)) RasterLength

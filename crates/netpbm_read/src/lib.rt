@@ -75,9 +75,11 @@ fn read_raster(bytes: &[u8], format: Format, size: CanvasSize, canvas: &mut [u8]
 fn read_headed(file: &[u8], header: Header, canvas: &mut [u8]) -> ReadAnswer
     requires { ⌜ header .raster ≤ length (now file) ⌝ }
     requires { ⌜ length (now canvas) ≡ header .width * header .height ⌝ }
-    requires { ⌜ rasterLength (header .format) (header .width) (header .height) (length (now canvas)) ≤ length (drop (header .raster) (now file)) ⌝ }
+    requires { ⌜ rasterLength (header .format) (header .width) (header .height) (length (now canvas))
+        ≤ length (drop (header .raster) (now file)) ⌝ }
     ensures { λ r. ⌜ readOutcome r ≡ answered (pos (header .width) ∷ pos (header .height) ∷ []) ⌝ }
-    ensures { λ _. ⌜ now (canvas .exit) ≡ pixels (header .format) (header .width) (header .height) (drop (header .raster) (now (file .entry))) ⌝ }
+    ensures { λ _. ⌜ now (canvas .exit) ≡ pixels (header .format) (header .width) (header .height)
+        (drop (header .raster) (now (file .entry))) ⌝ }
 {
     let at = header.raster;
     let format = header.format;

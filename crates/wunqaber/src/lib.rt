@@ -159,7 +159,8 @@ pub extern "C" fn wunqaber_write_p5(
 ) -> u32
     ensures { λ r. ⌜ Tells (writeSaid P5 width height (now (canvas .entry)) (now (file .entry)) (length (now (out .entry))))
         (now (out .entry)) r (now (out .exit)) ⌝ }
-    ensures { λ _. ⌜ now (file .exit) ≡ writtenAfter P5 width height (now (canvas .entry)) (now (file .entry)) (length (now (out .entry))) ⌝ }
+    ensures { λ _. ⌜ now (file .exit) ≡ writtenAfter P5 width height (now (canvas .entry)) (now (file .entry))
+        (length (now (out .entry))) ⌝ }
 {
     host_netpbm::write_p5(width, height, canvas, file, out)
 }
@@ -175,7 +176,8 @@ pub extern "C" fn wunqaber_write_p4(
 ) -> u32
     ensures { λ r. ⌜ Tells (writeSaid P4 width height (now (canvas .entry)) (now (file .entry)) (length (now (out .entry))))
         (now (out .entry)) r (now (out .exit)) ⌝ }
-    ensures { λ _. ⌜ now (file .exit) ≡ writtenAfter P4 width height (now (canvas .entry)) (now (file .entry)) (length (now (out .entry))) ⌝ }
+    ensures { λ _. ⌜ now (file .exit) ≡ writtenAfter P4 width height (now (canvas .entry)) (now (file .entry))
+        (length (now (out .entry))) ⌝ }
 {
     host_netpbm::write_p4(width, height, canvas, file, out)
 }

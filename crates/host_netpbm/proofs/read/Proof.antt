@@ -16,7 +16,8 @@ start c = c .before .before .before .before .before
 
 -- what the call says, and the canvas after it
 says : (c : tie.After-read-beside)
-    → readOutcome (c .read-beside .result) ≡ readSaid (start c .args .file .now) (start c .args .canvas .now) (length (start c .args .out .now))
+    → readOutcome (c .read-beside .result) ≡ readSaid (start c .args .file .now) (start c .args .canvas .now)
+    (length (start c .args .out .now))
 says c =
     c .read-beside .ensures .0
     ∙ ap (λ (room : Checked). readBeside room (start c .args .file .now) (start c .args .canvas .now)) (c .before .check-room .ensures)
@@ -52,7 +53,8 @@ returns : tie.Need-returns
 returns c =
     let call = c .before .before .before .before .before .before in
     let out = start call .args .out .now in (
-      tells-refusal out (sym (ap (λ (a : ReadAnswer). readOutcome a) (c .before .before .refusal .given .1)) ∙ says call) (c .number .ensures),
+      tells-refusal out (sym (ap (λ (a : ReadAnswer). readOutcome a) (c .before .before .refusal .given .1)) ∙ says call)
+          (c .number .ensures),
       left call,
     )
 

@@ -12,15 +12,22 @@ use Rattle.netpbm.proofs.put_picture.Tie as tie
 put-header-requires : tie.Need-put-header-requires
 put-header-requires c κs =
     let a = c .before .before .before .args in
-    omega (arith, length-append (header (a .format) (a .size .width) (a .size .height)) (raster (a .format) (a .size .width) (a .size .height) (a .canvas .now)))
+    omega (
+      arith,
+      length-append (header (a .format) (a .size .width) (a .size .height))
+          (raster (a .format) (a .size .width) (a .size .height) (a .canvas .now)),
+    )
 
 put-raster-requires : tie.Need-put-raster-requires
 put-raster-requires c κs =
     let entry = c .before .before .before .before .before .before .before in
     let a = entry .args in (
       entry .pre .0,
-      omega
-          (arith, length-append (header (a .format) (a .size .width) (a .size .height)) (raster (a .format) (a .size .width) (a .size .height) (a .canvas .now))),
+      omega (
+        arith,
+        length-append (header (a .format) (a .size .width) (a .size .height))
+            (raster (a .format) (a .size .width) (a .size .height) (a .canvas .now)),
+      ),
     )
 
 same-length : tie.Need-same-length

@@ -1,4 +1,5 @@
--- `netpbm::write` meets its contract: the checks made are those of the definition, in the table's order. Passed, they leave room for the file,
+-- `netpbm::write` meets its contract: the checks made are those of the definition, in the table's order. Passed, they leave room for the
+-- file,
 -- and what is put from the buffer's start is the file; a refusal is the checks' own, and nothing was put.
 -- Assumes nothing.
 use mathlib.Core.Path.{_≡_, refl, sym, ap, ap₂, _∙_}

@@ -24,8 +24,13 @@ number-length-requires-2 c κs = search needs
 add-result-2 : tie.Need-add-result-2
 add-result-2 c =
     let a = c .before .before .before .args in
-    omega
-    (arith, length-ending-most (a .format), length-decimal-u32 (a .size .width) (omega arith), length-decimal-u32 (a .size .height) (omega arith))
+    omega (
+      arith,
+      length-ending-most (a .format),
+      length-decimal-u32 (a .size .width) (omega arith),
+      length-decimal-u32 (a .size .height)
+          (omega arith),
+    )
 
 returns : tie.Need-returns
 returns c =

@@ -27,7 +27,8 @@ returns c =
 after-white-requires : tie.Need-after-white-requires
 after-white-requires c κs =
     let file = c .before .before .before .before .before .before .args .file .now in
-    subst (λ (r : Number). NumberWithin file r) (c .before .before .maximum .given .1) (c .before .before .before .before .read-number .ensures .1) .1
+    subst (λ (r : Number). NumberWithin file r) (c .before .before .maximum .given .1)
+    (c .before .before .before .before .read-number .ensures .1) .1
 
 returns-2 : tie.Need-returns-2
 returns-2 c =

@@ -1,4 +1,5 @@
--- `netpbm_parser::gap_end` meets its contract. Invariant: what follows the gap is what follows it from the place reached on. A piece takes at least
+-- `netpbm_parser::gap_end` meets its contract. Invariant: what follows the gap is what follows it from the place reached on. A piece
+-- takes at least
 -- a byte, so the walk ends.
 -- Assumes nothing.
 use mathlib.Core.Path.{_≡_, refl, sym, _∙_}

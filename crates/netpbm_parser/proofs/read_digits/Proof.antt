@@ -55,7 +55,8 @@ returns-3 : tie.Need-returns-3 Inv-loop μ-loop
 returns-3 c =
     let head = c .before .before .before .before .loop in
     let a = c .before .before .before .before .before .before .before .before .before .before .args in
-    let stop = digits-stop (a .file .now) (head .i) (head .n) (omega arith) (sym (c .before .is-digit2 .ensures) ∙ not-true _ (c .if3 .taken)) in (
+    let stop = digits-stop (a .file .now) (head .i) (head .n) (omega arith)
+    (sym (c .before .is-digit2 .ensures) ∙ not-true _ (c .if3 .taken)) in (
       sym (head .inv .2 ∙ ap capped stop ∙ ap (λ (n : ℕ). parsed n (drop (head .i) (a .file .now))) (kept (head .n) (head .inv .1))),
       (head .inv .1, head .inv .0),
     )

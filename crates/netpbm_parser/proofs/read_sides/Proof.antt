@@ -23,8 +23,11 @@ enum-told c = search needs
 returns : tie.Need-returns
 returns c =
     let a = c .before .before .before .before .args in
-    let read = c .before .before .read-number .ensures .0 in
-    (no-width (a .format) (number (drop 2 (a .file .now))) (sym (ap (λ (r : Number). numberIn (a .file .now) r) (c .enum-told .given .1)) ∙ read), tt)
+    let read = c .before .before .read-number .ensures .0 in (
+      no-width (a .format) (number (drop 2 (a .file .now)))
+          (sym (ap (λ (r : Number). numberIn (a .file .now) r) (c .enum-told .given .1)) ∙ read),
+      tt,
+    )
 
 read-number-requires-2 : tie.Need-read-number-requires-2
 read-number-requires-2 c κs =
@@ -41,8 +44,10 @@ returns-2 : tie.Need-returns-2
 returns-2 c =
     let a = c .before .before .before .before .before .before .before .before .args in
     let given = c .before .before .before .before .width .given in
-    let width = sym (ap (λ (r : Number). numberIn (a .file .now) r) (given .1)) ∙ c .before .before .before .before .before .before .read-number .ensures .0 in
-    let height = sym (ap (λ (r : Number). numberIn (a .file .now) r) (c .enum-told2 .given .1)) ∙ c .before .before .read-number2 .ensures .0 in
+    let width = sym (ap (λ (r : Number). numberIn (a .file .now) r) (given .1))
+    ∙ c .before .before .before .before .before .before .read-number .ensures .0 in
+    let height = sym (ap (λ (r : Number). numberIn (a .file .now) r) (c .enum-told2 .given .1))
+    ∙ c .before .before .read-number2 .ensures .0 in
     (no-height (a .format) (number (drop 2 (a .file .now))) (given .0 .0) _ width height, tt)
 
 raster-place-requires : tie.Need-raster-place-requires
@@ -65,7 +70,8 @@ returns-3 c =
     ∙ c .before .before .before .before .before .before .before .before .before .before .read-number .ensures .0 in
     let height = sym (ap (λ (r : Number). numberIn (a .file .now) r) (height-given .1))
     ∙ c .before .before .before .before .before .before .read-number2 .ensures .0 in
-    let closed = sym (ap (λ (r : Place). placeIn (a .file .now) r) (c .enum-told3 .given .1)) ∙ c .before .before .raster-place .ensures .0 in
+    let closed = sym (ap (λ (r : Place). placeIn (a .file .now) r) (c .enum-told3 .given .1))
+    ∙ c .before .before .raster-place .ensures .0 in
     (both-sides (a .format) (number (drop 2 (a .file .now))) (width-given .0 .0) (height-given .0 .0) _ _ none width height closed, tt)
 
 returns-4 : tie.Need-returns-4

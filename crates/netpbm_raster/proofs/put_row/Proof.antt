@@ -1,4 +1,5 @@
--- `netpbm_raster::put_row` meets its contract. Invariant: the bytes put and those left make the whole row, and there is room for those left.
+-- `netpbm_raster::put_row` meets its contract. Invariant: the bytes put and those left make the whole row, and there is room for those
+-- left.
 -- Assumes nothing.
 use mathlib.Core.Path.{_≡_, refl, sym, ap, _∙_}
 use Prim.Native.Nat.{ℕ, _+_, _*_, _-_}
@@ -62,7 +63,8 @@ loop-again c =
     let head = c .before .before .loop in
     let a = c .before .before .before .before .before .before .args in (
       head .inv .0 ∙ put-turn (head .out) (a .row .now) (head .next) (head .left) (head .from) (omega arith)
-          ∙ ap (λ (b : ℕ). sets (set (head .out) (head .next) b) (head .next + 1) (packedBytes (head .left - 1) (drop (head .from + 8) (a .row .now))))
+          ∙ ap (λ (b : ℕ). sets (set (head .out) (head .next) b) (head .next + 1)
+          (packedBytes (head .left - 1) (drop (head .from + 8) (a .row .now))))
           (sym (c .packed-byte .ensures)),
       simp length-set (head .inv .1),
       omega arith,

@@ -1,4 +1,5 @@
--- `netpbm_raster::put_rows` meets its contract. Invariant: the rows put and those left make the whole raster, and there is room and canvas for those
+-- `netpbm_raster::put_rows` meets its contract. Invariant: the rows put and those left make the whole raster, and there is room and
+-- canvas for those
 -- left.
 -- Assumes nothing.
 use mathlib.Core.Path.{_≡_, refl, sym, _∙_}

@@ -33,7 +33,8 @@ or-else-requires-3 c κs = search needs
 returns : tie.Need-returns
 returns c =
     let a = c .before .before .before .before .before .before .before .args in
-    let lent = c .before .before .before .before .or-else .ensures ∙ ap₂ orElse (c .before .before .before .before .before .before .check .ensures)
+    let lent = c .before .before .before .before .or-else .ensures ∙ ap₂ orElse
+    (c .before .before .before .before .before .before .check .ensures)
     (c .before .before .before .before .before .check-length .ensures) in
     let raster = c .before .before .check-raster .ensures
     ∙ ap (λ (n : ℕ). refuseIf (above (a .bytes) n) RasterLength) (c .before .before .before .raster-length .ensures) in

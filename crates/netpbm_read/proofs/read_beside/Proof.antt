@@ -1,4 +1,5 @@
--- `netpbm_read::read_beside` meets its contract: what is read of the header, as far as it is kept, is checked as the definition says; and one that passes
+-- `netpbm_read::read_beside` meets its contract: what is read of the header, as far as it is kept, is checked as the definition says;
+-- and one that passes
 -- is kept as it is.
 -- Assumes nothing.
 use mathlib.Core.Path.{_≡_, refl, sym, ap, subst, _∙_}
@@ -44,7 +45,8 @@ checked c =
     let a = entry c .args in
     let header = header-of c in
     c .check-read .ensures
-    ∙ check-made (header .format) (header .width) (header .height) (length (a .canvas .now)) _ (drop (header .raster) (a .file .now)) (a .room)
+    ∙ check-made (header .format) (header .width) (header .height) (length (a .canvas .now)) _ (drop (header .raster) (a .file .now))
+    (a .room)
     (sym (length-drop (header .raster) (a .file .now)))
 
 made : (c : tie.After-check-read)
@@ -69,14 +71,16 @@ returns : tie.Need-returns
 returns c =
     let a = c .before .before .before .before .before .args in
     let n = length (a .canvas .now) in
-    let seen = sym (ap (λ (r : HeaderAnswer). headerIn (a .file .now) r) (c .enum-told .given .1)) ∙ c .before .before .read-header .ensures .0 in
+    let seen = sym (ap (λ (r : HeaderAnswer). headerIn (a .file .now) r) (c .enum-told .given .1))
+    ∙ c .before .before .read-header .ensures .0 in
     let check = sym (check-capped (fileHeader (a .file .now)) n (a .room)) ∙ ap (λ (h : ReadHeader). readCheck h n (a .room)) (sym seen) in
     rw check (refl, refl)
 
 sub-check-read : tie.Need-sub-check-read
 sub-check-read c =
     let file = c .before .before .before .before .before .before .before .args .file .now in
-    subst (λ (r : HeaderAnswer). HeaderWithin file r) (c .before .before .header .given .1) (c .before .before .before .before .read-header .ensures .1) .2
+    subst (λ (r : HeaderAnswer). HeaderWithin file r) (c .before .before .header .given .1)
+    (c .before .before .before .before .read-header .ensures .1) .2
 
 check-read-requires : tie.Need-check-read-requires
 check-read-requires c κs = search needs

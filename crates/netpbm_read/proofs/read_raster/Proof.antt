@@ -1,4 +1,5 @@
--- `netpbm_read::read_raster` meets its contract: the format says how the bytes hold the pixels. Of P5 they are copied over the whole canvas.
+-- `netpbm_read::read_raster` meets its contract: the format says how the bytes hold the pixels. Of P5 they are copied over the whole
+-- canvas.
 -- Assumes nothing.
 use mathlib.Core.Path.{sym, ap, _∙_}
 use Prim.Native.Nat.{ℕ}
