@@ -67,8 +67,19 @@ most-over-largest es =
     two-not-further : overlap two ≤ overlap (mostOver es)
     two-not-further = le-trans (first-not-further two (es .bottom)) (first-not-further three (es .left))
 
+-- it fits just where every edge does
 pub most-over-fits : (es : Edges) → FitsEdges es → S (mostOver es) ≤ L (mostOver es)
 most-over-fits es f =
     let two = further-over-fits (es .top) (es .right) (f .top) (f .right) in
     let three = further-over-fits _ (es .bottom) two (f .bottom) in
     further-over-fits _ (es .left) three (f .left)
+
+pub fits-by-most-over : (es : Edges) → S (mostOver es) ≤ L (mostOver es) → FitsEdges es
+unfolding overlap
+fits-by-most-over es l =
+    let b = most-over-largest es in
+    let top = b .top in
+    let right = b .right in
+    let bottom = b .bottom in
+    let left = b .left in
+    record { top = omega arith; right = omega arith; bottom = omega arith; left = omega arith }

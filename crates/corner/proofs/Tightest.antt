@@ -166,13 +166,13 @@ pub fits-none-over : (es : Edges) → FitsEdges es → someOver es ≡ false
 unfolding someOver
 fits-none-over es f = simp (le-ltb _ _ (f .top), le-ltb _ _ (f .right), le-ltb _ _ (f .bottom), le-ltb _ _ (f .left))
 
-tightest-fits : (es : Edges) → FitsEdges es → S (tightest es) ≤ L (tightest es)
+pub tightest-fits : (es : Edges) → FitsEdges es → S (tightest es) ≤ L (tightest es)
 tightest-fits es f =
     let two = tighter-fits (es .top) (es .right) (f .top) (f .right) in
     let three = tighter-fits _ (es .bottom) two (f .bottom) in
     tighter-fits _ (es .left) three (f .left)
 
-fits-by-tightest : (es : Edges) → S (tightest es) ≤ L (tightest es) → FitsEdges es
+pub fits-by-tightest : (es : Edges) → S (tightest es) ≤ L (tightest es) → FitsEdges es
 fits-by-tightest es l =
     let b = tightest-smallest es in
     record {

@@ -4,8 +4,6 @@ use Prim.Native.Nat.{ℕ, _*_, _/_}
 use lib.IntN.{ℤ, pos, _+ℤ_}
 use Rattle.signed.specs.Signed.{floor0}
 use Rattle.geometry.specs.declared.Size.{Size}
-use Rattle.corner.specs.declared.edge.Edge.{Edge}
-use Rattle.corner.specs.Edge.{S, L}
 
 -- ---- 'Rectangle and offset'
 -- a radius number offset by k: k added, never below 0
@@ -17,6 +15,6 @@ unfoldable pub offsetCorner : ℤ → Size → Size
 offsetCorner k r = record { width = offsetRadius k (r .width); height = offsetRadius k (r .height) }
 
 -- ---- 'Corners'
--- both numbers r of a corner become floor(r × L / S)
-unfoldable pub scaledCorner : Edge → Size → Size
-scaledCorner e r = record { width = r .width * L e / S e; height = r .height * L e / S e }
+-- both numbers r of a corner become floor(r × L / S), by the numbers L and S
+unfoldable pub scaledCorner : ℕ → ℕ → Size → Size
+scaledCorner l s r = record { width = r .width * l / s; height = r .height * l / s }

@@ -18,7 +18,7 @@ pub fn scale_corner(radius: Size, edge: Edge) -> Size
     requires { ⌜ SizeUpTo wideRadius radius ⌝ }
     requires { ⌜ BoundedEdge edge ⌝ }
     requires { ⌜ 0 < edge .radii ⌝ }
-    ensures { λ r. ⌜ r ≡ scaledCorner edge radius ⌝ }
+    ensures { λ r. ⌜ r ≡ scaledCorner (edge .length) (edge .radii) radius ⌝ }
 {
     Size {
         width: radius.width * edge.length / edge.radii,

@@ -9,11 +9,12 @@ use Rattle.geometry.specs.declared.Size.{Size}
 use Rattle.refusal.specs.declared.Refusal.the-variants.{Radius}
 use Rattle.refusal.specs.declared.Checked.the-variants.{Passed, Refused}
 use Rattle.corner_radii.specs.declared.CornerRadii.{CornerRadii}
+use Rattle.corner_radii.specs.declared.ConfinedRadii.{ConfinedRadii}
 use Rattle.corner.specs.declared.edge.Edge.{Edge}
 use Rattle.corner.specs.declared.edge.Edges.{Edges}
 use Rattle.corner.specs.Edge.{overlap, furtherOver, mostOver, tighter, tightest, someOver}
 use Rattle.corner.specs.Corner.{offsetRadius, offsetCorner, scaledCorner}
-use Rattle.corner_radii.specs.CornerRadii.{equalRadii, radiusCheck, radiiCheck, offset, reduced, confine, scaled, confineW3c}
+use Rattle.corner_radii.specs.CornerRadii.{equalRadii, radiusCheck, radiiCheck, offset, scaled, reducedBy, reduced, confine, confineW3c}
 
 abbrev size : ℕ → ℕ → Size
 size w h = record { width = w; height = h }
@@ -26,43 +27,52 @@ corners a b c d e f g h =
 abbrev all : ℕ → ℕ → CornerRadii
 all w h = equalRadii (size w h)
 
--- ---- confined radii: a box, its radii, and what each rule makes of them
+-- ---- confined radii: a box, its radii, and what each rule makes of them, with L and S
 record Case : Type 0 where
   box : Size
   radii : CornerRadii
-  crate : CornerRadii
-  w3c : CornerRadii
+  crate : ConfinedRadii
+  w3c : ConfinedRadii
 
-abbrev case : Size → CornerRadii → CornerRadii → CornerRadii → Case
+abbrev case : Size → CornerRadii → ConfinedRadii → ConfinedRadii → Case
 case b r c w = record { box = b; radii = r; crate = c; w3c = w }
+
+-- radii, L and S
+abbrev confined : CornerRadii → ℕ → ℕ → ConfinedRadii
+confined r l s = record { radii = r; length = l; sum = s }
 
 abbrev cases : List Case
 cases =
     -- f and g
-    case (size 10 100) (all 9 60) (all 7 50) (all 5 33)
+    case (size 10 100) (all 9 60) (confined (all 7 50) 100 120) (confined (all 5 33) 10 18)
     -- nothing overlaps, at the last radius that does not, and one above it
-    ∷ case (size 10 100) (all 0 0) (all 0 0) (all 0 0)
-    ∷ case (size 10 100) (all 5 50) (all 5 50) (all 5 50)
-    ∷ case (size 10 100) (all 5 51) (all 4 50) (all 4 50)
+    ∷ case (size 10 100) (all 0 0) (confined (all 0 0) 1 1) (confined (all 0 0) 1 1)
+    ∷ case (size 10 100) (all 5 50) (confined (all 5 50) 1 1) (confined (all 5 50) 1 1)
+    ∷ case (size 10 100) (all 5 51) (confined (all 4 50) 100 102) (confined (all 4 50) 100 102)
     -- sides of 0: an edge with S = 0 and L = 0 does not decide
-    ∷ case (size 0 0) (all 0 0) (all 0 0) (all 0 0)
-    ∷ case (size 0 0) (all 3 4) (all 0 0) (all 0 0)
-    ∷ case (size 0 10) (all 0 5) (all 0 5) (all 0 5)
-    ∷ case (size 0 10) (all 0 8) (all 0 5) (all 0 5)
-    ∷ case (size 10 0) (all 8 0) (all 5 0) (all 5 0)
+    ∷ case (size 0 0) (all 0 0) (confined (all 0 0) 1 1) (confined (all 0 0) 1 1)
+    ∷ case (size 0 0) (all 3 4) (confined (all 0 0) 0 8) (confined (all 0 0) 0 6)
+    ∷ case (size 0 10) (all 0 5) (confined (all 0 5) 1 1) (confined (all 0 5) 1 1)
+    ∷ case (size 0 10) (all 0 8) (confined (all 0 5) 10 16) (confined (all 0 5) 10 16)
+    ∷ case (size 10 0) (all 8 0) (confined (all 5 0) 10 16) (confined (all 5 0) 10 16)
     -- top, right, bottom and left decide, each in its turn
-    ∷ case (size 10 10) (corners 15 2 5 1 3 1 2 1) (corners 7 1 2 0 1 0 1 0) (corners 7 1 2 0 1 0 1 0)
-    ∷ case (size 10 10) (corners 1 2 1 15 1 5 1 3) (corners 0 1 0 7 0 2 0 1) (corners 0 1 0 7 0 2 0 1)
-    ∷ case (size 10 10) (corners 3 1 2 1 5 1 15 2) (corners 1 0 1 0 2 0 7 1) (corners 1 0 1 0 2 0 7 1)
-    ∷ case (size 10 10) (corners 1 15 1 3 1 2 1 5) (corners 0 7 0 1 0 1 0 2) (corners 0 7 0 1 0 1 0 2)
+    ∷ case (size 10 10) (corners 15 2 5 1 3 1 2 1) (confined (corners 7 1 2 0 1 0 1 0) 10 20) (confined (corners 7 1 2 0 1 0 1 0) 10 20)
+    ∷ case (size 10 10) (corners 1 2 1 15 1 5 1 3) (confined (corners 0 1 0 7 0 2 0 1) 10 20) (confined (corners 0 1 0 7 0 2 0 1) 10 20)
+    ∷ case (size 10 10) (corners 3 1 2 1 5 1 15 2) (confined (corners 1 0 1 0 2 0 7 1) 10 20) (confined (corners 1 0 1 0 2 0 7 1) 10 20)
+    ∷ case (size 10 10) (corners 1 15 1 3 1 2 1 5) (confined (corners 0 7 0 1 0 1 0 2) 10 20) (confined (corners 0 7 0 1 0 1 0 2) 10 20)
     -- equal overlaps on top and right: the top decides the crate rule
-    ∷ case (size 10 30) (all 10 20) (all 5 10) (all 5 10)
-    ∷ case (size 30 10) (all 20 10) (all 15 7) (all 10 5)
+    ∷ case (size 10 30) (all 10 20) (confined (all 5 10) 10 20) (confined (all 5 10) 10 20)
+    ∷ case (size 30 10) (all 20 10) (confined (all 15 7) 30 40) (confined (all 10 5) 10 20)
     -- a corner that the crate rule leaves wider than its box
-    ∷ case (size 10 100) (corners 30 0 0 100 0 100 0 0) (corners 15 0 0 50 0 50 0 0) (corners 10 0 0 33 0 33 0 0)
+    ∷ case (size 10 100) (corners 30 0 0 100 0 100 0 0) (confined (corners 15 0 0 50 0 50 0 0) 100 200) (confined (corners 10 0 0 33 0 33 0 0) 10 30)
     -- the largest radii, and those of a stroke area
-    ∷ case (size 1024 1024) (all 1024 1024) (all 512 512) (all 512 512)
-    ∷ case (size 1536 1) (all 1280 1280) (all 0 0) (all 0 0)
+    ∷ case (size 1024 1024) (all 1024 1024) (confined (all 512 512) 1024 2048) (confined (all 512 512) 1024 2048)
+    ∷ case (size 1536 1) (all 1280 1280) (confined (all 0 0) 1 2560) (confined (all 0 0) 1 2560)
+    -- equal ratios that are not the same fraction: the first edge decides the W3C rule, and the fraction is not cancelled
+    ∷ case (size 10 20) (all 10 20) (confined (all 5 10) 20 40) (confined (all 5 10) 10 20)
+    ∷ case (size 20 10) (all 20 10) (confined (all 10 5) 20 40) (confined (all 10 5) 20 40)
+    -- and the bottom one before the left one
+    ∷ case (size 12 30) (corners 6 20 6 20 20 20 4 40) (confined (corners 3 10 3 10 10 10 2 20) 30 60) (confined (corners 3 10 3 10 10 10 2 20) 12 24)
     ∷ []
 
 -- the case with what the definitions make of its radii
@@ -70,7 +80,7 @@ abbrev computed : Case → Case
 computed c = case (c .box) (c .radii) (confine (c .radii) (c .box)) (confineW3c (c .radii) (c .box))
 
 cases-hold : map computed cases ≡ cases
-unfolding confine confineW3c reduced scaled scaledCorner someOver tighter furtherOver overlap
+unfolding confine confineW3c reduced reducedBy scaled scaledCorner someOver tighter furtherOver overlap
 cases-hold = refl
 
 -- ---- ties: four edges, and the edge that decides each rule

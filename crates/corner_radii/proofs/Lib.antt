@@ -1,9 +1,10 @@
 -- `Cases` computes document 01's cases f and g and the ends of the ranges; `Fields` equates radii by their corners;
--- `CrateRule` and `W3cRule` have the laws of the two rules, among them that the W3C rule makes every edge fit; `Bounds`
--- says how large radii are after each change; `Checks` tells what a passed check says.
+-- `Scaled` has the laws of radii times L / S, `W3cRule` that the W3C rule makes every edge fit, `Fraction` what the fraction
+-- of either rule says; `Bounds` says how large radii are after each change; `Checks` tells what a passed check says.
 pub mod Cases
 pub mod Fields
-pub mod CrateRule
+pub mod Scaled
 pub mod W3cRule
+pub mod Fraction
 pub mod Bounds
 pub mod Checks

@@ -1,6 +1,6 @@
--- The W3C rule: the tightest edge overlaps where some edge does, and scaling by it makes every edge fit.
+-- The W3C rule: the tightest edge overlaps where some edge does, and reducing by it makes every edge fit.
 -- Assumes nothing.
-use mathlib.Core.Path.{_≡_, refl, sym, ap, _∙_}
+use mathlib.Core.Path.{_≡_, refl, sym, ap, subst, _∙_}
 use mathlib.Core.Bool.{Bool, true, false, cond}
 use Prim.Native.Nat.{ℕ, _+_, _*_, _/_, _≤_, _<_}
 use native.Mathlib.Nat.{mul-comm, add-mul, le-of-mul-le-mul-right, div-mul-le-self}
@@ -9,15 +9,18 @@ use borrow.Author.Tests.{ltb-true}
 use Rattle.geometry.specs.declared.Size.{Size}
 use Rattle.corner.specs.Edge.{S, L, over, tightest, someOver, FitsEdges}
 use Rattle.corner.specs.Corner.{scaledCorner}
-use Rattle.corner.proofs.Tightest.{tightest-smallest, none-over-fits, fits-none-over, some-over-by-tightest}
+use Rattle.corner.proofs.Tightest.{tightest-smallest, none-over-fits, some-over-by-tightest}
 use Rattle.corner_radii.specs.declared.CornerRadii.{CornerRadii}
-use Rattle.corner_radii.specs.CornerRadii.{edges, scaled, reduced, confineW3c}
+use Rattle.corner_radii.specs.declared.ConfinedRadii.{ConfinedRadii}
+use Rattle.corner_radii.specs.CornerRadii.{edges, scaled, reducedBy, unreduced, reduced, confineW3c}
+use Rattle.corner_radii.proofs.Scaled.{scaled-by-one}
 
 -- so the rule goes by the tightest edge as the crate rule does by its own
 pub w3c-by-tightest : (r : CornerRadii) (s : Size) → confineW3c r s ≡ reduced (tightest (edges r s)) r
 unfolding confineW3c reduced
 w3c-by-tightest r s =
-    ap (λ (t : Bool). cond t (scaled (tightest (edges r s)) r) r) (some-over-by-tightest (edges r s))
+    let e = tightest (edges r s) in
+    ap (λ (t : Bool). cond t (reducedBy (L e) (S e) r) (unreduced r)) (some-over-by-tightest (edges r s))
 
 -- ---- after it every edge has S ≤ L
 scaled-sum-fits : (a b l s room : ℕ) → 0 < s → l * (a + b) ≤ room * s → a * l / s + b * l / s ≤ room
@@ -30,7 +33,7 @@ scaled-sum-fits a b l s room p h = le-of-mul-le-mul-right times-s p
         omega (arith, add-mul (a * l / s) (b * l / s) s, add-mul a b l, mul-comm l (a + b))
 
 scaled-fits : (r : CornerRadii) (s : Size) → over (tightest (edges r s)) ≡ true
-    → FitsEdges (edges (scaled (tightest (edges r s)) r) s)
+    → FitsEdges (edges (scaled (L (tightest (edges r s))) (S (tightest (edges r s))) r) s)
 unfolding scaled scaledCorner
 scaled-fits r s t =
     let b = tightest-smallest (edges r s) in
@@ -43,24 +46,19 @@ scaled-fits r s t =
       left = scaled-sum-fits _ _ _ _ _ p (b .left .ratio);
     }
 
-pub w3c-fits-edges : (r : CornerRadii) (s : Size) → FitsEdges (edges (confineW3c r s) s)
-unfolding confineW3c
+pub w3c-fits-edges : (r : CornerRadii) (s : Size) → FitsEdges (edges (confineW3c r s .radii) s)
+unfolding confineW3c reducedBy
 w3c-fits-edges r s =
-    let by-tightest = sym (some-over-by-tightest (edges r s)) in
-    by-test (someOver (edges r s)) (λ e. scaled-fits r s (by-tightest ∙ e)) (none-over-fits (edges r s))
+    by-test (someOver (edges r s)) (λ e. scaled-fits r s (sym (some-over-by-tightest (edges r s)) ∙ e))
+    (λ e. subst Fits (sym (scaled-by-one r)) (none-over-fits (edges r s) e))
   where
-    reduced-radii : CornerRadii
-    reduced-radii = scaled (tightest (edges r s)) r
+    Fits : CornerRadii → Type 0
+    Fits q = FitsEdges (edges q s)
 
-    by-test : (t : Bool) → (t ≡ true → FitsEdges (edges reduced-radii s)) → (t ≡ false → FitsEdges (edges r s))
-        → FitsEdges (edges (cond t reduced-radii r) s)
+    confined : ConfinedRadii
+    confined = reducedBy (L (tightest (edges r s))) (S (tightest (edges r s))) r
+
+    by-test : (t : Bool) → (t ≡ true → Fits (confined .radii)) → (t ≡ false → Fits (unreduced r .radii))
+        → Fits (cond t confined (unreduced r) .radii)
     by-test true f g = f refl
     by-test false f g = g refl
-
--- radii that fit stay, so confining again changes nothing
-pub w3c-fitting-stay : (r : CornerRadii) (s : Size) → FitsEdges (edges r s) → confineW3c r s ≡ r
-unfolding confineW3c
-w3c-fitting-stay r s f = rw (fits-none-over (edges r s) f)
-
-pub w3c-confine-twice : (r : CornerRadii) (s : Size) → confineW3c (confineW3c r s) s ≡ confineW3c r s
-w3c-confine-twice r s = w3c-fitting-stay (confineW3c r s) s (w3c-fits-edges r s)

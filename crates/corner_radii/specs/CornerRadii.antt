@@ -1,8 +1,8 @@
 -- Document 01: the corner radii of a box as 'The records' limits them, 'Rectangle and offset' offsets them and 'Corners'
--- confines them (`corner_radii.rs`).
+-- confines them (`corner_radii.rs`); document 02, 'Two': confined radii have their fraction.
 -- Assumes nothing.
 use mathlib.Core.Bool.{cond}
-use Prim.Native.Nat.{_+_}
+use Prim.Native.Nat.{ℕ, _+_}
 use lib.IntN.{ℤ}
 use Rattle.geometry.specs.declared.Size.{Size}
 use Rattle.refusal.specs.declared.Checked.{Checked}
@@ -11,9 +11,10 @@ use Rattle.refusal.specs.Refusal.{refuseIf, orElse, above}
 use Rattle.geometry.specs.Limits.{maxRadius}
 use Rattle.corner.specs.declared.edge.Edge.{Edge}
 use Rattle.corner.specs.declared.edge.Edges.{Edges}
-use Rattle.corner.specs.Edge.{over, mostOver, tightest, someOver}
+use Rattle.corner.specs.Edge.{S, L, over, mostOver, tightest, someOver}
 use Rattle.corner.specs.Corner.{offsetCorner, scaledCorner}
 use Rattle.corner_radii.specs.declared.CornerRadii.{CornerRadii}
+use Rattle.corner_radii.specs.declared.ConfinedRadii.{ConfinedRadii}
 
 -- one change made at each corner
 abbrev pub eachCorner : (Size → Size) → CornerRadii → CornerRadii
@@ -56,19 +57,29 @@ edges r s =
       left = record { radii = r .«top_left» .height + r .«bottom_left» .height; length = s .height };
     }
 
--- every radius, by the same edge
-unfoldable pub scaled : Edge → CornerRadii → CornerRadii
-scaled e r = eachCorner (scaledCorner e) r
+-- every radius r becomes floor(r × L / S)
+unfoldable pub scaled : ℕ → ℕ → CornerRadii → CornerRadii
+scaled l s r = eachCorner (scaledCorner l s) r
 
--- an edge with S > L scales every radius, any other none
-unfoldable pub reduced : Edge → CornerRadii → CornerRadii
-reduced e r = cond (over e) (scaled e r) r
+-- the radii reduced by L over S, and L and S with them, not cancelled
+unfoldable pub reducedBy : ℕ → ℕ → CornerRadii → ConfinedRadii
+reducedBy l s r = record { radii = scaled l s r; length = l; sum = s }
 
--- the crate rule (`confine`): the first edge with the largest S − L above 0 scales every radius
-unfoldable pub confine : CornerRadii → Size → CornerRadii
+-- nothing is reduced: 1 over 1
+abbrev pub unreduced : CornerRadii → ConfinedRadii
+unreduced r = reducedBy 1 1 r
+
+-- an edge with S > L reduces every radius, any other none
+unfoldable pub reduced : Edge → CornerRadii → ConfinedRadii
+reduced e r = cond (over e) (reducedBy (L e) (S e) r) (unreduced r)
+
+-- the crate rule (`confine`): the first edge with the largest S − L above 0 reduces every radius
+unfoldable pub confine : CornerRadii → Size → ConfinedRadii
 confine r s = reduced (mostOver (edges r s)) r
 
 -- the W3C rule (CSS Backgrounds and Borders Module Level 3, overlapping curves; rounding down is ours): if some S > L,
--- the edge with the smallest L / S scales every radius
-unfoldable pub confineW3c : CornerRadii → Size → CornerRadii
-confineW3c r s = cond (someOver (edges r s)) (scaled (tightest (edges r s)) r) r
+-- the first edge with the smallest L / S reduces every radius
+unfoldable pub confineW3c : CornerRadii → Size → ConfinedRadii
+confineW3c r s =
+    let e = tightest (edges r s) in
+    cond (someOver (edges r s)) (reducedBy (L e) (S e) r) (unreduced r)

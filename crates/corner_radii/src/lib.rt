@@ -1,8 +1,8 @@
 // The four corner radii of a box, how they are offset, and the two rules that confine them, after
 // embedded-graphics 0.8.2 `rounded_rectangle/corner_radii.rs`, and `rounded_rectangle/mod.rs`
-// (`OffsetOutline`) for the offset. The W3C rule is not in the source. Each rule finds the edge that
-// decides and scales by it; the Rust keeps that edge in three mutable locals. The Rust's builder is
-// left out.
+// (`OffsetOutline`) for the offset. The W3C rule is not in the source, nor is the fraction that both
+// rules answer. Each rule finds the edge that decides and scales by it; the Rust keeps that edge in
+// three mutable locals. The Rust's builder is left out.
 use corner::edge::Edge;
 use corner::edge::Edges;
 use corner::offset_corner;
@@ -25,6 +25,14 @@ pub struct CornerRadii {
     pub top_right: Size,
     pub bottom_right: Size,
     pub bottom_left: Size,
+}
+
+// Radii confined to a box, and the fraction by which they were reduced: the length L of the edge that
+// decided and the sum S of the given radii along it, not cancelled; 1 and 1 where nothing was reduced.
+pub struct ConfinedRadii {
+    pub radii: CornerRadii,
+    pub length: u32,
+    pub sum: u32,
 }
 
 // Refusal 2 of one corner.
@@ -97,7 +105,7 @@ impl CornerRadii {
         requires { ⌜ RadiiUpTo wideRadius self ⌝ }
         requires { ⌜ BoundedEdge edge ⌝ }
         requires { ⌜ 0 < edge .radii ⌝ }
-        ensures { λ r. ⌜ r ≡ scaled edge self ⌝ }
+        ensures { λ r. ⌜ r ≡ scaled (edge .length) (edge .radii) self ⌝ }
     {
         CornerRadii {
             top_left: scale_corner(self.top_left, edge),
@@ -107,21 +115,29 @@ impl CornerRadii {
         }
     }
 
-    // The radii scaled by the edge that decides, if they overlap on it.
-    fn reduce(self, edge: Edge) -> CornerRadii
+    // The radii scaled by the edge that decides, if they overlap on it, with its L and S.
+    fn reduce(self, edge: Edge) -> ConfinedRadii
         requires { ⌜ RadiiUpTo wideRadius self ⌝ }
         requires { ⌜ BoundedEdge edge ⌝ }
         ensures { λ r. ⌜ r ≡ reduced edge self ⌝ }
     {
         if edge.length < edge.radii {
-            self.scale(edge)
+            ConfinedRadii {
+                radii: self.scale(edge),
+                length: edge.length,
+                sum: edge.radii,
+            }
         } else {
-            self
+            ConfinedRadii {
+                radii: self,
+                length: 1,
+                sum: 1,
+            }
         }
     }
 
     // The crate rule.
-    pub fn confine(self, size: Size) -> CornerRadii
+    pub fn confine(self, size: Size) -> ConfinedRadii
         requires { ⌜ RadiiUpTo wideRadius self ⌝ }
         requires { ⌜ SizeUpTo wideStrokeSide size ⌝ }
         ensures { λ r. ⌜ r ≡ CornerRadii·confine self size ⌝ }
@@ -131,7 +147,7 @@ impl CornerRadii {
     }
 
     // The W3C rule.
-    pub fn confine_w3c(self, size: Size) -> CornerRadii
+    pub fn confine_w3c(self, size: Size) -> ConfinedRadii
         requires { ⌜ RadiiUpTo wideRadius self ⌝ }
         requires { ⌜ SizeUpTo wideStrokeSide size ⌝ }
         ensures { λ r. ⌜ r ≡ confineW3c self size ⌝ }
