@@ -22,15 +22,23 @@ static const char *const names[] = {
 /* What is changed in the arguments: one of them gets the table's value. A length of the sheet, of a list or
  * of a buffer is the length that the call is told. UNEVEN_BOX, BORDERED and OBLONG are another figure, another
  * style and a canvas 8 by 2, for which numbers exchanged with each other would show. NINE_BY_TWO is a canvas whose
- * rows have a bit more than a byte. PICTURE is another file to read. The last three change two arguments, so that
- * two refusals apply: the canvas gets the table's length where there is no `out`, and where the file is cut off; or
- * `out` gets it where the file is cut off. */
+ * rows have a bit more than a byte. CORNERS is a box with other radii, PICTURE another file to read. The last three
+ * change two arguments, so that two refusals apply: the canvas gets the table's length where there is no `out`, and
+ * where the file is cut off; or `out` gets it where the file is cut off. */
 enum change {
-    AS_IS, UNEVEN_BOX, BORDERED, OBLONG, NINE_BY_TWO, KIND, X, WIDTH, RADIUS, FIGURE_LENGTH, STROKE, FILL,
+    AS_IS, UNEVEN_BOX, BORDERED, OBLONG, NINE_BY_TWO, CORNERS, KIND, X, WIDTH, RADIUS, FIGURE_LENGTH, STROKE, FILL,
     STROKE_WIDTH, ALIGNMENT, STYLE_LENGTH, ASKED, CENTER_X, CENTER_WIDTH, CANVAS_WIDTH, CANVAS_LENGTH, LIST_LENGTH,
     FILE_LENGTH, OUT_LENGTH, ANSWERS_LENGTH, SHEET_COUNT, SHEET_NEXT_ROW, SHEET_LAYER_KIND, SHEET_LENGTH,
     LAYER, CALL_KIND, CALL_LAYER, CALLS_LENGTH, PICTURE, CANVAS_LENGTH_WITHOUT_OUT, CANVAS_LENGTH_CUT_OFF,
     OUT_LENGTH_CUT_OFF
+};
+
+/* The boxes with other radii, by what is of note in them: radii that touch and fit, so that none is reduced; no
+ * column, so that L is 0; a ratio that is less than another by little; and two edges that are equal, of which the
+ * first decides. By the crate's rule those have the same overlap S - L, by the W3C's the same ratio L / S. */
+enum corners {
+    TOUCHING, WITHOUT_COLUMN, NEARLY_EQUAL, OVERLAP_TOP_RIGHT, OVERLAP_RIGHT_BOTTOM, OVERLAP_BOTTOM_LEFT,
+    RATIO_TOP_RIGHT, RATIO_RIGHT_BOTTOM, RATIO_BOTTOM_LEFT
 };
 
 /* The files to read, by what is of note in them. Those of BITS are P4, all others P5 or nothing that is read. */
@@ -112,10 +120,21 @@ static const check checks[] = {
 
     {CONFINED_RADII, AS_IS, 0, 0},
     {CONFINED_RADII, UNEVEN_BOX, 0, 0},
+    {CONFINED_RADII, KIND, WUNQABER_W3C_BOX, 0},
+    {CONFINED_RADII, CORNERS, TOUCHING, 0},
+    {CONFINED_RADII, CORNERS, WITHOUT_COLUMN, 0},
+    {CONFINED_RADII, CORNERS, NEARLY_EQUAL, 0},
+    {CONFINED_RADII, CORNERS, OVERLAP_TOP_RIGHT, 0},
+    {CONFINED_RADII, CORNERS, OVERLAP_RIGHT_BOTTOM, 0},
+    {CONFINED_RADII, CORNERS, OVERLAP_BOTTOM_LEFT, 0},
+    {CONFINED_RADII, CORNERS, RATIO_TOP_RIGHT, 0},
+    {CONFINED_RADII, CORNERS, RATIO_RIGHT_BOTTOM, 0},
+    {CONFINED_RADII, CORNERS, RATIO_BOTTOM_LEFT, 0},
+    {CONFINED_RADII, OUT_LENGTH, 10, 0},
     {CONFINED_RADII, WIDTH, 1025, 1},
     {CONFINED_RADII, RADIUS, 1025, 2},
     {CONFINED_RADII, X, -4097, 3},
-    {CONFINED_RADII, OUT_LENGTH, 7, 13},
+    {CONFINED_RADII, OUT_LENGTH, 9, 13},
     {CONFINED_RADII, KIND, 3, 100},
     {CONFINED_RADII, KIND, WUNQABER_ELLIPSE, 101},
 
@@ -254,6 +273,31 @@ static const wunqaber_figure uneven_box = {WUNQABER_CRATE_BOX, 5, 7, 10, 100, {1
 static const wunqaber_style filled = {WUNQABER_ABSENT, 9, 0, WUNQABER_CENTER};
 static const wunqaber_style bordered = {40, 9, 1, WUNQABER_INSIDE};
 
+/* The boxes with other radii, and what they give. Of two equal edges the other rule would take the second. */
+static const struct {
+    wunqaber_figure box;
+    int32_t confined[10];
+} corners[] = {
+    [TOUCHING] =
+        {{WUNQABER_CRATE_BOX, 0, 0, 10, 100, {5, 50, 5, 50, 5, 50, 5, 50}}, {5, 50, 5, 50, 5, 50, 5, 50, 1, 1}},
+    [WITHOUT_COLUMN] = {{WUNQABER_W3C_BOX, 0, 0, 0, 9, {4, 1, 0, 2, 0, 3, 0, 4}}, {0, 0, 0, 0, 0, 0, 0, 0, 0, 4}},
+    [NEARLY_EQUAL] =
+        {{WUNQABER_W3C_BOX, 0, 0, 1023, 1024, {1021, 0, 1024, 1023, 0, 1024, 0, 0}},
+         {510, 0, 512, 511, 0, 512, 0, 0, 1024, 2047}},
+    [OVERLAP_TOP_RIGHT] =
+        {{WUNQABER_CRATE_BOX, 0, 0, 20, 10, {13, 8, 13, 8, 13, 8, 13, 8}}, {10, 6, 10, 6, 10, 6, 10, 6, 20, 26}},
+    [OVERLAP_RIGHT_BOTTOM] =
+        {{WUNQABER_CRATE_BOX, 0, 0, 10, 20, {1, 3, 1, 13, 8, 13, 8, 4}}, {0, 2, 0, 10, 6, 10, 6, 3, 20, 26}},
+    [OVERLAP_BOTTOM_LEFT] =
+        {{WUNQABER_CRATE_BOX, 0, 0, 20, 10, {1, 8, 1, 1, 13, 1, 13, 8}}, {0, 6, 0, 0, 10, 0, 10, 6, 20, 26}},
+    [RATIO_TOP_RIGHT] =
+        {{WUNQABER_W3C_BOX, 0, 0, 10, 15, {10, 15, 10, 15, 10, 15, 10, 15}}, {5, 7, 5, 7, 5, 7, 5, 7, 10, 20}},
+    [RATIO_RIGHT_BOTTOM] =
+        {{WUNQABER_W3C_BOX, 0, 0, 15, 10, {1, 2, 1, 10, 15, 10, 15, 3}}, {0, 1, 0, 5, 7, 5, 7, 1, 10, 20}},
+    [RATIO_BOTTOM_LEFT] =
+        {{WUNQABER_W3C_BOX, 0, 0, 10, 15, {1, 15, 1, 1, 10, 1, 10, 15}}, {0, 7, 0, 0, 5, 0, 5, 7, 10, 20}},
+};
+
 /* The canvas that is written as P4, and the rasters of it: 4 by 4, 8 by 2 and 9 by 2. The rasters to read have other
  * filling bits, of which nothing may be seen. */
 static const uint8_t dotted[] = {0, 1, 255, 0, 7, 0, 0, 128, 2, 0, 3, 0, 0, 5, 0, 4, 90, 9};
@@ -369,6 +413,7 @@ static void change(const check *c, arguments *a, buffers *b)
         a->height = 2;
         a->canvas_length = 18;
         break;
+    case CORNERS: a->figure = corners[value].box; break;
     case KIND: a->figure.kind = value; break;
     case X: a->figure.x = value; break;
     case WIDTH: a->figure.width = value; break;
@@ -530,18 +575,20 @@ static uint32_t make_typed(enum call call, const arguments *a, buffers *b)
         return answer;
     }
     case CONFINED_RADII: {
-        wunqaber_radii radii;
+        wunqaber_confined confined;
 
-        memcpy(&radii, out, sizeof radii);
-        answer = wunqaber_confine_radii(&a->figure, &radii);
-        out[0] = radii.top_left_width;
-        out[1] = radii.top_left_height;
-        out[2] = radii.top_right_width;
-        out[3] = radii.top_right_height;
-        out[4] = radii.bottom_right_width;
-        out[5] = radii.bottom_right_height;
-        out[6] = radii.bottom_left_width;
-        out[7] = radii.bottom_left_height;
+        memcpy(&confined, out, sizeof confined);
+        answer = wunqaber_confine_radii(&a->figure, &confined);
+        out[0] = confined.radii.top_left_width;
+        out[1] = confined.radii.top_left_height;
+        out[2] = confined.radii.top_right_width;
+        out[3] = confined.radii.top_right_height;
+        out[4] = confined.radii.bottom_right_width;
+        out[5] = confined.radii.bottom_right_height;
+        out[6] = confined.radii.bottom_left_width;
+        out[7] = confined.radii.bottom_left_height;
+        out[8] = confined.length;
+        out[9] = confined.sum;
         return answer;
     }
     case ELLIPSE_WITH_CENTER: {
@@ -661,6 +708,23 @@ static void written_canvas(const check *c, buffers *b)
     b->out[1] = pictures[picture].height;
 }
 
+/* The radii as confined to the box, then L and S. */
+static void written_radii(const check *c, buffers *b)
+{
+    static const int32_t by_crate[] = {7, 50, 7, 50, 7, 50, 7, 50, 100, 120};
+    static const int32_t by_w3c[] = {5, 33, 5, 33, 5, 33, 5, 33, 10, 18};
+
+    switch (c->change) {
+    case UNEVEN_BOX:
+        memcpy(b->out, uneven_box.radii, sizeof uneven_box.radii);
+        b->out[8] = b->out[9] = 1;
+        break;
+    case CORNERS: memcpy(b->out, corners[c->value].confined, sizeof by_crate); break;
+    case KIND: memcpy(b->out, by_w3c, sizeof by_w3c); break;
+    default: memcpy(b->out, by_crate, sizeof by_crate);
+    }
+}
+
 /* What each call writes into the buffers where it is accepted. */
 static void written(const check *c, buffers *b)
 {
@@ -668,7 +732,6 @@ static void written(const check *c, buffers *b)
     static const int32_t points[] = {1, 0, 2, 0, 0, 1, 1, 1, 2, 1, 3, 1, 0, 2, 1, 2, 2, 2, 3, 2, 1, 3, 2, 3};
     static const int32_t offset[] = {WUNQABER_ELLIPSE, -1, -1, 6, 6};
     static const int32_t offset_box[] = {WUNQABER_CRATE_BOX, 4, 6, 12, 102, 2, 12, 3, 13, 4, 14, 5, 15};
-    static const int32_t radii[] = {7, 50, 7, 50, 7, 50, 7, 50};
     static const int32_t about[] = {WUNQABER_ELLIPSE, 4, 4, 4, 3};
     static const int32_t styled[] = {1, 0, 0, 0, 4, 4, 4};
     static const int32_t styled_border[] = {1, 0, 1, 1, 3, 3, 4};
@@ -693,7 +756,7 @@ static void written(const check *c, buffers *b)
         else
             memcpy(b->out, offset, sizeof offset);
         break;
-    case CONFINED_RADII: memcpy(b->out, uneven ? uneven_box.radii : radii, sizeof radii); break;
+    case CONFINED_RADII: written_radii(c, b); break;
     case ELLIPSE_WITH_CENTER:
         memcpy(b->out, about, sizeof about);
         if (c->change == CENTER_X)

@@ -33,12 +33,13 @@ pub const OUTSIDE: i32 = 2;
 
 pub const ABSENT: i32 = -1;
 
-/// How many numbers a figure, a style, a layer, a sheet and a call in a list have.
+/// How many numbers a figure, a style, a layer, a sheet and a call in a list have, and confined radii with L and S.
 pub const FIGURE_LENGTH: usize = 13;
 pub const STYLE_LENGTH: usize = 4;
 pub const LAYER_LENGTH: usize = FIGURE_LENGTH + STYLE_LENGTH + 1;
 pub const SHEET_LENGTH: usize = 3 + 16 * LAYER_LENGTH;
 pub const CALL_LENGTH: usize = 20;
+pub const CONFINED_LENGTH: usize = 10;
 
 mod linked {
     extern "C" {

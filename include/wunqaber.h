@@ -87,7 +87,9 @@ typedef struct {
 } wunqaber_call;
 
 /* What calls give: a point; a row, whose run has the columns from start up to but not end; a styled row with
- * three such runs; a rectangle; the radii of a box, corner by corner; the size of a picture that is read. */
+ * three such runs; a rectangle; the radii of a box, corner by corner; those as confined to the box, with the length
+ * of the edge that decided and the sum of the two radii given along it, 1 and 1 where no radius was reduced; the size
+ * of a picture that is read. */
 typedef struct {
     int32_t x, y;
 } wunqaber_point;
@@ -110,6 +112,11 @@ typedef struct {
 } wunqaber_radii;
 
 typedef struct {
+    wunqaber_radii radii;
+    int32_t length, sum;
+} wunqaber_confined;
+
+typedef struct {
     int32_t width, height;
 } wunqaber_size;
 
@@ -126,6 +133,7 @@ WUNQABER_HAS(wunqaber_scanline, 3);
 WUNQABER_HAS(wunqaber_styled_scanline, 7);
 WUNQABER_HAS(wunqaber_rectangle, 4);
 WUNQABER_HAS(wunqaber_radii, 8);
+WUNQABER_HAS(wunqaber_confined, 10);
 WUNQABER_HAS(wunqaber_size, 2);
 #undef WUNQABER_HAS
 
@@ -156,7 +164,9 @@ uint32_t wunqaber_points(const int32_t *figure, size_t figure_length, int32_t *l
 uint32_t wunqaber_offset(const int32_t *figure, size_t figure_length, int32_t k,
                          int32_t *out, size_t out_length);
 
-/* Eight numbers: the radii as confined to the box; or 101. Refused by 1, 2, 3, 13. */
+/* Ten numbers: the eight radii as confined to the box; then the length L of the edge that decided, and the sum S of
+ * the two radii given along it; or 101. Each radius is the one given times L / S, rounded down. L and S are not
+ * cancelled, and are 1 and 1 where no radius was reduced; S is never 0. Refused by 1, 2, 3, 13. */
 uint32_t wunqaber_confined_radii(const int32_t *figure, size_t figure_length,
                                  int32_t *out, size_t out_length);
 
@@ -253,10 +263,10 @@ static inline uint32_t wunqaber_grow(const wunqaber_figure *figure, int32_t k, w
     return answer;
 }
 
-/* The radii as confined to the box; or 101. */
-static inline uint32_t wunqaber_confine_radii(const wunqaber_figure *figure, wunqaber_radii *radii)
+/* The radii as confined to the box, and by which fraction, length / sum; or 101. */
+static inline uint32_t wunqaber_confine_radii(const wunqaber_figure *figure, wunqaber_confined *confined)
 {
-    return wunqaber_confined_radii(WUNQABER_CONST_NUMBERS(*figure), WUNQABER_NUMBERS(*radii));
+    return wunqaber_confined_radii(WUNQABER_CONST_NUMBERS(*figure), WUNQABER_NUMBERS(*confined));
 }
 
 /* The ellipse of a size about the centre (x, y). Its radii are 0, so that it can be handed on. */

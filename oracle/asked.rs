@@ -7,6 +7,7 @@ use crate::{
     original::Original,
     records::{attempt, Answers, Figure, Kind, Style},
     reference::{canvas_refusal, Reference},
+    wunqaber::CONFINED_LENGTH,
 };
 
 #[derive(Clone, Copy, PartialEq, Debug)]
@@ -15,6 +16,7 @@ pub enum Ask {
     Row(i64),
     Points,
     Offset(i64),
+    /// the radii alone, which both sides say
     Confine,
     StyledRow(Style, i64),
     StyledBox(Style),
@@ -82,7 +84,7 @@ impl Ask {
             Offset(k) => {
                 lines::query("offset", &[figure, Number(*k), room(if f.kind == Kind::Ellipse { 5 } else { 13 })])
             }
-            Confine => lines::query("confined_radii", &[figure, room(8)]),
+            Confine => lines::query("confined_radii", &[figure, room(CONFINED_LENGTH)]),
             StyledRow(s, y) => lines::query("styled_row", &[figure, Numbers(&style_numbers(s)), Number(*y), room(7)]),
             StyledBox(s) => lines::query("styled_bounding_box", &[figure, Numbers(&style_numbers(s)), room(4)]),
             Paint(s, w, h) => {

@@ -44,10 +44,36 @@ pub struct Report {
     /// per query: the smallest inputs with different answers
     different: BTreeMap<&'static str, Vec<(i64, String)>>,
     forecasts: BTreeMap<&'static str, Forecast>,
+    decisions: Decisions,
     /// `draw` beside `paint`, both of the original: no demand, only a note
     draw_equal: u64,
     draw_other: u64,
     draw_smallest: Option<(i64, String)>,
+}
+
+/// How often the radii of a box were confined, by its rule and by how its deciding edge came to decide.
+#[derive(Default)]
+pub struct Decisions(BTreeMap<(&'static str, &'static str), u64>);
+
+impl Decisions {
+    pub fn note(&mut self, f: &Figure) {
+        *self.0.entry((name(f), decision(f))).or_default() += 1;
+    }
+
+    pub fn print(&self) {
+        for ((rule, decision), count) in &self.0 {
+            println!("confined, {rule}, {decision}: {count}");
+        }
+    }
+
+    /// What was met less often than this, if anything.
+    pub fn missed(&self, least: u64) -> Option<String> {
+        let mut all = ["box", "W3C box"].into_iter().flat_map(|rule| DECISIONS.map(|decision| (rule, decision)));
+        all.find_map(|(rule, decision)| {
+            let met = self.0.get(&(rule, decision)).copied().unwrap_or(0);
+            (met < least).then(|| format!("{rule}, {decision}: {met}"))
+        })
+    }
 }
 
 fn size_of(f: &Figure) -> i64 {
@@ -187,8 +213,17 @@ impl Report {
         self.check("offset", f, Ask::Offset(k), attempt(|| Original.offset(f, k)), Reference.offset(f, k));
     }
 
+    /// The radii, and of a box L and S. Those the original does not say: the reference's are held against another wording
+    /// of the rule, and the original's radii against what they make of the given ones.
     fn confine(&mut self, f: &Figure) {
-        self.check("confine", f, Ask::Confine, attempt(|| Original.confine(f)), Reference.confine(f));
+        let original = attempt(|| Original.confine(f));
+        if let Some(c) = reference::confined(f) {
+            self.decisions.note(f);
+            let made = f.radii.map(|(a, b)| (a * c.l / c.s, b * c.l / c.s));
+            let said = original.clone().map(|radii| (radii, fraction(f)));
+            self.check("fraction", f, Ask::Confine, said, (Some(made), (c.l, c.s)));
+        }
+        self.check("confine", f, Ask::Confine, original, Reference.confine(f));
     }
 
     /// Every styled row, two above and below, and the styled bounding box.
@@ -258,21 +293,19 @@ impl Report {
         }
     }
 
-    /// A W3C box is not in the original. Its rule is held against another wording of it, and its
+    /// A W3C box is not in the original. Its rule, L and S too, is held against another wording of it, and its
     /// rows, points and contained points against the original's box of the confined radii, which
     /// the crate's rule leaves as they are.
     fn w3c(&mut self, of: &Figure, k: i64, fully: bool) {
         let f = Figure { kind: Kind::W3c, ..*of };
-        let sums = |r: &[(i64, i64); 4]| {
-            [(r[0].0 + r[1].0, f.w), (r[1].1 + r[2].1, f.h), (r[2].0 + r[3].0, f.w), (r[3].1 + r[0].1, f.h)]
-        };
-        let confined = Reference.confine(&f).unwrap();
+        self.decisions.note(&f);
+        let c = reference::confined(&f).unwrap();
         // the largest whole number that is at most r * L / S for every edge with S > 0
-        let edges = sums(&f.radii);
-        let least = |r: i64| edges.iter().filter(|(s, _)| *s > 0).map(|(s, l)| r * l / s).min().unwrap_or(r);
-        let other = if edges.iter().any(|(s, l)| s > l) { f.radii.map(|(a, b)| (least(a), least(b))) } else { f.radii };
-        let fits = sums(&confined).iter().all(|(s, l)| s <= l);
-        self.check("w3c rule", &f, Ask::Confine, Ok((other, true)), (confined, fits));
+        let given = edges(&f);
+        let least = |r: i64| given.iter().filter(|(_, s)| *s > 0).map(|(l, s)| r * l / s).min().unwrap_or(r);
+        let other = if given.iter().any(|(l, s)| s > l) { f.radii.map(|(a, b)| (least(a), least(b))) } else { f.radii };
+        let fits = edges(&Figure { radii: c.radii, ..f }).iter().all(|(l, s)| s <= l);
+        self.check("w3c rule", &f, Ask::Confine, Ok((other, fraction(&f), true)), (c.radii, (c.l, c.s), fits));
 
         // offset by k: the area of a stroke or fill
         let grown = Reference.offset(&f, k);
@@ -322,6 +355,7 @@ impl Report {
                 println!("DIFFERENT {query}: {text}");
             }
         }
+        self.decisions.print();
         self.print_panics();
         println!("findings held against the original:");
         for (what, f) in &self.forecasts {
@@ -349,6 +383,54 @@ impl Report {
             println!("    shrunk {shrunk}");
         }
     }
+}
+
+/// L and S of each edge: top, right, bottom, left.
+fn edges(f: &Figure) -> [(i64, i64); 4] {
+    let [tl, tr, br, bl] = f.radii;
+    [(f.w, tl.0 + tr.0), (f.h, tr.1 + br.1), (f.w, br.0 + bl.0), (f.h, bl.1 + tl.1)]
+}
+
+/// The edges of which the first decides, each with its place in the order; none where no S is above L. Worded otherwise than
+/// in reference.rs: by the crate's rule they are those with the least L − S; by the W3C's those with the least L / S, where
+/// all are brought to one denominator, the product of the sums.
+fn deciding(f: &Figure) -> Vec<(usize, (i64, i64))> {
+    let over: Vec<_> = edges(f).into_iter().enumerate().filter(|(_, (l, s))| s > l).collect();
+    let product: i64 = over.iter().map(|(_, (_, s))| s).product();
+    let measure = |(l, s): (i64, i64)| match f.kind {
+        Kind::W3c => l * (product / s),
+        _ => l - s,
+    };
+    let least = over.iter().map(|(_, edge)| measure(*edge)).min();
+    over.into_iter().filter(|(_, edge)| Some(measure(*edge)) == least).collect()
+}
+
+/// L and S of the edge that decides, or 1 and 1.
+fn fraction(f: &Figure) -> (i64, i64) {
+    deciding(f).first().map_or((1, 1), |(_, edge)| *edge)
+}
+
+/// How an edge comes to decide: alone, or as the first of edges that are equal by the rule. Where those have the same L and S,
+/// nothing shows which it was.
+const DECISIONS: [&str; 6] = [
+    "nothing reduced",
+    "one edge",
+    "one of equal edges with the same L and S",
+    "top, before an equal edge with another L or S",
+    "right, before an equal edge with another L or S",
+    "bottom, before an equal edge with another L or S",
+];
+
+fn decision(f: &Figure) -> &'static str {
+    let at = match deciding(f)[..] {
+        [] => 0,
+        [_] => 1,
+        [(place, first), ref rest @ ..] => match rest.iter().all(|(_, edge)| *edge == first) {
+            true => 2,
+            false => 3 + place,
+        },
+    };
+    DECISIONS[at]
 }
 
 /// What findings.rs says of `contains`.
@@ -533,6 +615,38 @@ impl Rng {
             radii = radii.map(|(a, b)| (b, a));
         }
         crate_box(self.within(-9, 9), self.within(-9, 9), w, h, radii)
+    }
+
+    /// A box with sides up to the longest, of whose edges some are equal by a rule: those have the same S − L (crate), or the
+    /// same L / S (W3C). Others miss that by one, or have less; and where S is L or less nothing is reduced.
+    pub fn equal_edges(&mut self, longest: i64) -> Figure {
+        let (w, h, across, down) = match self.within(0, 1) {
+            0 => {
+                let (w, h) = (self.side() % (longest + 1), self.side() % (longest + 1));
+                let over = if self.within(0, 3) == 0 { self.within(0, 1024) } else { self.within(-1, 9) };
+                (w, h, w + over, h + over)
+            }
+            _ => {
+                let sum = self.within(1, 40);
+                let length = self.within(0, sum.min(longest));
+                let most = (2048 / sum).min(longest / length.max(1));
+                let (m, n) = (self.within(1, most), self.within(1, most));
+                (length * m, length * n, sum * m, sum * n)
+            }
+        };
+        let mut pair = |sum: i64| {
+            let sum = match self.within(0, 5) {
+                0 | 1 | 2 => sum,
+                3 => sum + self.within(-1, 1),
+                _ => self.within(0, sum.max(0)),
+            };
+            let sum = sum.clamp(0, 2048);
+            let first = self.within((sum - 1024).max(0), sum.min(1024));
+            (first, sum - first)
+        };
+        let (top, right, bottom, left) = (pair(across), pair(down), pair(across), pair(down));
+        let radii = [(top.0, left.0), (top.1, right.0), (bottom.0, right.1), (bottom.1, left.1)];
+        crate_box(self.place(), self.place(), w, h, radii)
     }
 
     /// A coordinate that may be asked: near an end of the box, near the figure, and anywhere.
@@ -869,6 +983,15 @@ fn random_radii(r: &mut Report, rng: &mut Rng, count: u64) {
     }
 }
 
+/// Only confinement, of boxes whose edges are equal.
+fn random_equal_edges(r: &mut Report, rng: &mut Rng, count: u64) {
+    for n in 0..count {
+        let f = rng.equal_edges(if n % 2 == 0 { 20 } else { 1024 });
+        r.confine(&f);
+        r.w3c(&f, rng.within(-9, 9), false);
+    }
+}
+
 /// Lists of add and paint calls: sheet against book, and the canvas against the original.
 fn scripts(r: &mut Report, rng: &mut Rng, count: u64) {
     let mut accepted = 0u64;
@@ -943,48 +1066,78 @@ const fn unpainted(width: i64, align: i64) -> Style {
 #[rustfmt::skip]
 pub const FIXED: &[(Figure, Ask, Said)] = &[
     // b, c, d, e
-    (ellipse(0, 0, 2, 7), Row(0), Same(&[0, 2])),
-    (ellipse(0, 0, 2, 7), Row(6), Same(&[0, 2])),
+    (ellipse(0, 0, 2, 7), Row(0), Same(&[0, 0, 2])),
+    (ellipse(0, 0, 2, 7), Row(6), Same(&[6, 0, 2])),
     (ellipse(0, 0, 2, 8), Row(0), Nothing),
     (ellipse(0, 0, 2, 8), Row(4), Nothing),
-    (ellipse(0, 0, 4, 31), Row(30), Same(&[1, 3])),
+    (ellipse(0, 0, 4, 31), Row(30), Same(&[30, 1, 3])),
     (ellipse(0, 0, 4, 32), Row(16), Nothing),
     // f, g
     (crate_box(0, 0, 10, 100, [(9, 60); 4]), Confine, Same(&[7, 50, 7, 50, 7, 50, 7, 50])),
-    (crate_box(0, 0, 10, 100, [(9, 60); 4]), Row(0), Same(&[6, 4])),
+    (crate_box(0, 0, 10, 100, [(9, 60); 4]), Row(0), Same(&[0, 6, 4])),
     (crate_box(0, 0, 10, 100, [(9, 60); 4]), Points, Same(&[])),
     (Figure { kind: Kind::W3c, ..crate_box(0, 0, 10, 100, [(9, 60); 4]) }, Confine, Lacks(&[5, 33, 5, 33, 5, 33, 5, 33])),
     // h, i
-    (crate_box(0, 0, 10, 40, [(1, 20); 4]), StyledRow(unpainted(0, 1), 0), Same(&[0, 1, 1, 9, 9, 10])),
-    (crate_box(0, 0, 4, 10, corner(0, 0)), StyledRow(unpainted(2, 0), 5), Same(&[0, 0, 0, 4, 4, 4])),
-    (crate_box(0, 0, 4, 10, corner(0, 0)), StyledRow(unpainted(2, 0), 1), Same(&[0, 4, 4, 4, 4, 4])),
+    (crate_box(0, 0, 10, 40, [(1, 20); 4]), StyledRow(unpainted(0, 1), 0), Same(&[0, 0, 1, 1, 9, 9, 10])),
+    (crate_box(0, 0, 4, 10, corner(0, 0)), StyledRow(unpainted(2, 0), 5), Same(&[5, 0, 0, 0, 4, 4, 4])),
+    (crate_box(0, 0, 4, 10, corner(0, 0)), StyledRow(unpainted(2, 0), 1), Same(&[1, 0, 4, 4, 4, 4, 4])),
     // j
     (ellipse(0, 0, 0, 0), StyledBox(unpainted(2, 2)), Same(&[-1, -1, 4, 4])),
     (ellipse(0, 0, 5, 5), StyledBox(unpainted(2, 2)), Same(&[-2, -2, 9, 9])),
     (crate_box(0, 0, 5, 5, corner(0, 0)), Offset(2), Same(&[1, -2, -2, 9, 9, 2, 2, 2, 2, 2, 2, 2, 2])),
     // k: Center width 1 leaves the stroke area, and takes 1 from each side of the fill area
     (ellipse(0, 0, 5, 5), StyledBox(unpainted(1, 1)), Same(&[0, 0, 5, 5])),
-    (crate_box(0, 0, 5, 5, corner(0, 0)), StyledRow(unpainted(1, 1), 2), Same(&[0, 1, 1, 4, 4, 5])),
+    (crate_box(0, 0, 5, 5, corner(0, 0)), StyledRow(unpainted(1, 1), 2), Same(&[2, 0, 1, 1, 4, 4, 5])),
     // oval
     (ellipse(0, 0, 4, 4), Paint(Style { fill: Some(9), ..unpainted(0, 1) }, 4, 4), Same(&[0, 9, 9, 0, 9, 9, 9, 9, 9, 9, 9, 9, 0, 9, 9, 0])),
     // where the Rust does not finish
-    (ellipse(0, 0, 256, 257), Row(0), Panics(&[117, 139])),
-    (ellipse(0, 0, 207, 225), Row(0), Panics(&[94, 113])),
-    (ellipse(0, 0, 215, 216), Row(0), Same(&[97, 118])),
-    (ellipse(0, 0, 216, 217), Row(0), Panics(&[98, 118])),
+    (ellipse(0, 0, 256, 257), Row(0), Panics(&[0, 117, 139])),
+    (ellipse(0, 0, 207, 225), Row(0), Panics(&[0, 94, 113])),
+    (ellipse(0, 0, 215, 216), Row(0), Same(&[0, 97, 118])),
+    (ellipse(0, 0, 216, 217), Row(0), Panics(&[0, 98, 118])),
     (ellipse(0, 0, 5, 6), Contains(5464, 0), Panics(&[0])),
     (ellipse(0, 0, 5, 6), Contains(5463, 0), Same(&[0])),
-    (ellipse(0, 0, 256, 181), Row(0), Same(&[115, 141])),
-    (ellipse(0, 0, 256, 182), Row(0), Panics(&[115, 141])),
-    (ellipse(0, 0, 1024, 45), Row(0), Same(&[405, 619])),
-    (ellipse(0, 0, 1024, 46), Row(0), Panics(&[406, 618])),
+    (ellipse(0, 0, 256, 181), Row(0), Same(&[0, 115, 141])),
+    (ellipse(0, 0, 256, 182), Row(0), Panics(&[0, 115, 141])),
+    (ellipse(0, 0, 1024, 45), Row(0), Same(&[0, 405, 619])),
+    (ellipse(0, 0, 1024, 46), Row(0), Panics(&[0, 406, 618])),
     (crate_box(0, 0, 118, 139, corner(118, 139)), Contains(117, 138), Panics(&[1])),
-    (crate_box(0, 0, 104, 112, corner(104, 112)), Row(0), Panics(&[94, 104])),
-    (crate_box(0, 0, 122, 136, corner(1, 136)), Row(0), Panics(&[0, 122])),
-    (crate_box(21, 21, 256, 251, [(914, 914), (0, 0), (1021, 1024), (0, 0)]), StyledRow(unpainted(12, 2), 100), Panics(&[61, 74, 74, 264, 264, 274])),
+    (crate_box(0, 0, 104, 112, corner(104, 112)), Row(0), Panics(&[0, 94, 104])),
+    (crate_box(0, 0, 122, 136, corner(1, 136)), Row(0), Panics(&[0, 0, 122])),
+    (crate_box(21, 21, 256, 251, [(914, 914), (0, 0), (1021, 1024), (0, 0)]), StyledRow(unpainted(12, 2), 100), Panics(&[100, 61, 74, 74, 264, 264, 274])),
     // a box without columns has none to test, though its corner is (105, 120)
     (crate_box(0, 0, 0, 120, corner(903, 1024)), Confine, Same(&[105, 120, 0, 0, 0, 0, 0, 0])),
-    (crate_box(0, 0, 0, 120, corner(903, 1024)), Row(0), Same(&[0, 0])),
+    (crate_box(0, 0, 0, 120, corner(903, 1024)), Row(0), Same(&[0, 0, 0])),
+];
+
+/// L and S of boxes by the crate's rule and by the W3C's, worked out by hand.
+#[rustfmt::skip]
+pub const FRACTIONS: &[(Figure, (i64, i64), (i64, i64))] = &[
+    // f, g
+    (crate_box(0, 0, 10, 100, [(9, 60); 4]), (100, 120), (10, 18)),
+    // no radii; radii that fill every edge; one number more
+    (crate_box(0, 0, 7, 5, corner(0, 0)), (1, 1), (1, 1)),
+    (crate_box(0, 0, 10, 100, [(5, 50); 4]), (1, 1), (1, 1)),
+    (crate_box(0, 0, 10, 100, [(5, 50), (6, 50), (5, 50), (5, 50)]), (10, 11), (10, 11)),
+    (crate_box(0, 0, 10, 10, [(0, 9), (0, 0), (0, 0), (0, 8)]), (10, 17), (10, 17)),
+    // S − L is 6: on every edge; on right and bottom; on bottom and left; on top and left
+    (crate_box(0, 0, 20, 10, [(13, 8); 4]), (20, 26), (10, 16)),
+    (crate_box(0, 0, 10, 20, [(1, 3), (1, 13), (8, 13), (8, 4)]), (20, 26), (10, 16)),
+    (crate_box(0, 0, 20, 10, [(1, 8), (1, 1), (13, 1), (13, 8)]), (20, 26), (10, 16)),
+    (crate_box(0, 0, 20, 10, [(13, 8), (13, 1), (1, 1), (1, 8)]), (20, 26), (10, 16)),
+    // L / S is a half on the same edges
+    (crate_box(0, 0, 10, 15, [(10, 15); 4]), (15, 30), (10, 20)),
+    (crate_box(0, 0, 15, 10, [(1, 2), (1, 10), (15, 10), (15, 3)]), (15, 30), (10, 20)),
+    (crate_box(0, 0, 10, 15, [(1, 15), (1, 1), (10, 1), (10, 15)]), (15, 30), (10, 20)),
+    (crate_box(0, 0, 10, 15, [(10, 15), (10, 1), (1, 1), (1, 15)]), (15, 30), (10, 20)),
+    // 1024 / 2047 is less than 1023 / 2045: 1024 * 2045 and 1023 * 2047 differ by 1
+    (crate_box(0, 0, 1023, 1024, [(1021, 0), (1024, 1023), (0, 1024), (0, 0)]), (1024, 2047), (1024, 2047)),
+    (crate_box(0, 0, 1024, 1024, [(1024, 1024); 4]), (1024, 2048), (1024, 2048)),
+    // L is 0: all such ratios are equal, however large S is
+    (crate_box(0, 0, 0, 120, corner(903, 1024)), (120, 1024), (0, 903)),
+    (crate_box(0, 0, 0, 9, [(1, 0), (2, 0), (3, 0), (4, 0)]), (0, 7), (0, 3)),
+    (crate_box(0, 0, 0, 0, [(0, 2), (0, 1), (5, 3), (4, 6)]), (0, 9), (0, 4)),
+    (crate_box(0, 0, 1, 1, [(1, 1); 4]), (1, 2), (1, 2)),
 ];
 
 /// Boxes whose rows the sentence on box rows foretells a panic for, and there is none: no column, no row.
@@ -1011,6 +1164,18 @@ fn fixed(r: &mut Report) {
         }
     }
     NOTHING_TO_TEST.iter().for_each(|f| r.rows(f));
+    for (f, by_crate, by_w3c) in FRACTIONS {
+        for (kind, said) in [(Kind::Crate, by_crate), (Kind::W3c, by_w3c)] {
+            let f = Figure { kind, ..*f };
+            if reference::confined(&f).map(|c| (c.l, c.s)) == Some(*said) {
+                r.equal("fixed", 1);
+            } else {
+                r.differs("fixed", &f, 0, format!("{}: the reference says another L or S", Ask::Confine.line(&f)));
+            }
+        }
+        r.confine(f);
+        r.w3c(f, 0, false);
+    }
     // a
     for (w, t) in [0, 1, 3, 8, 14, 25].into_iter().enumerate() {
         if reference::threshold(w as i64) == t {
@@ -1019,6 +1184,13 @@ fn fixed(r: &mut Report) {
             r.differs("fixed", &NONE, 0, format!("case a, side {w}"));
         }
     }
+}
+
+/// Whether all fixed cases come out as they stand here.
+pub fn fixed_as_said() -> bool {
+    let mut r = Report::default();
+    fixed(&mut r);
+    r.different.is_empty()
 }
 
 pub fn run(seed: u64, effort: u64) -> bool {
@@ -1072,6 +1244,7 @@ pub fn run(seed: u64, effort: u64) -> bool {
     part("boxes, sides 0..12, all radii 0..6, random", &mut |r| random_small(r, &mut rng, 10_000 * effort));
     part("narrow boxes, random", &mut |r| random_narrow(r, &mut rng, 500 * effort));
     part("radii up to the limits, random", &mut |r| random_radii(r, &mut rng, 20_000 * effort));
+    part("boxes with equal edges, random", &mut |r| random_equal_edges(r, &mut Rng(seed), 20_000 * effort));
     part("figures up to the limits, random", &mut |r| random_large(r, &mut rng, 1_000 * effort));
     part("scripts, random", &mut |r| scripts(r, &mut rng, 100 * effort));
     r.print()

@@ -1,27 +1,30 @@
 //! The library that C and Rust programs link (include/wunqaber.h), held call by call against what it must
 //! answer, on any numbers: 100, 101 and the lowest refusal by the header and the reference; values by the
-//! ORIGINAL where it finishes, else by the reference, which also has what the original lacks (W3C boxes,
-//! sheets, lists of calls, files). Answers, values and every number and byte of every buffer are compared, with
-//! some right behind the part that is lent for values, and for files before it too; after a refusal none may differ. The
-//! first difference is printed whole, with the call as a line that `replay` reads, and ends the program with status 1.
+//! ORIGINAL where it finishes, else by the reference, which also has what the original lacks (W3C boxes, L and S of
+//! confined radii, sheets, lists of calls, files). Answers, values and every number and byte of every buffer are
+//! compared, with some right behind the part that is lent for values, and for files before it too; after a refusal none
+//! may differ. The first difference is printed whole, with the call as a line that `replay` reads, and ends the program
+//! with status 1.
 
 use crate::{
     asked::Ask::{self, *},
-    compare::Report,
+    compare::{Decisions, Report},
     lines::{
         self,
         Argument::{self, Bytes, Number, Numbers},
     },
     netpbm,
     numbers::{
-        figure_numbers, given_figure, opened, place_of, radii_numbers, read_calls, read_figure, read_sheet, read_style,
-        style_numbers, styled_numbers,
+        confined_numbers, given_figure, opened, place_of, read_calls, read_figure, read_sheet, read_style, style_numbers,
+        styled_numbers,
     },
     original::Original,
-    records::{attempt, first_lent, lowest, Answers, Figure, Kind, Style},
-    reference::{self, asked_refusal, canvas_refusal, figure_refusal, offset_refusal, style_refusal, Reference, Sheet},
+    records::{attempt, first_lent, lowest, Answers, Figure, Kind},
+    reference::{
+        self, asked_refusal, canvas_refusal, figure_refusal, offset_refusal, style_refusal, Confined, Reference, Sheet,
+    },
     stored::{Chosen, CALLS, CALLS_OF_C},
-    wunqaber::{self as library, CALL_LENGTH, FIGURE_LENGTH, NOTHING, NO_RECORD, SHEET_LENGTH},
+    wunqaber::{self as library, CALL_LENGTH, CONFINED_LENGTH, NOTHING, NO_RECORD, SHEET_LENGTH},
 };
 use std::{collections::BTreeMap, fmt::Debug, process::exit};
 
@@ -66,6 +69,8 @@ pub struct Held {
     counts: BTreeMap<&'static str, Counts>,
     /// where the original does not finish
     panics: Report,
+    /// the boxes whose radii, L and S were compared
+    decisions: Decisions,
     /// calls for `replay`, if any are to be stored
     pub chosen: Option<Chosen>,
 }
@@ -232,11 +237,16 @@ impl Held {
         self.values("offset", room, wanted, |out| library::offset(n, k, out), &[Numbers(n), Number(by_k)]);
     }
 
+    /// The radii go by the original where it has the box; L and S by the reference.
     pub fn confined_radii(&mut self, n: &[i32], room: usize) {
         let wanted = read_figure(n).ok_or(NO_RECORD).and_then(|f| {
             refused_or(&[figure_refusal(&f)])?;
             let (radii, by) = self.by(&f, Confine, || Original.confine(&f), || Reference.confine(&f));
-            Ok((radii_numbers(&radii.ok_or(NOTHING)?), by))
+            let (radii, confined) = radii.zip(reference::confined(&f)).ok_or(NOTHING)?;
+            if room >= CONFINED_LENGTH {
+                self.decisions.note(&f);
+            }
+            Ok((confined_numbers(&Confined { radii, ..confined }), by))
         });
         self.values("confined_radii", room, wanted, |out| library::confined_radii(n, out), &[Numbers(n)]);
     }
@@ -457,6 +467,7 @@ impl Held {
         }
         println!("{:<20} {:>15} {:>14} {:>10}", "all", sum.original, sum.reference, sum.all_refused());
         println!("refused by number: {:?}", sum.refused);
+        self.decisions.print();
         self.panics.print_panics();
         let panics: u64 = self.panics.tallies.values().map(|t| t.panics).sum();
         // Where the original panics the reference stands in for it: that is to stay the exception.
@@ -465,6 +476,14 @@ impl Held {
             exit(1);
         }
         println!("{} comparisons equal, 0 different; {panics} panics of the original", sum.all());
+    }
+
+    /// Ends the program where boxes whose deciding edge came to decide in some way were confined less often.
+    pub fn each_decision_met(&self, least: u64) {
+        if let Some(missed) = self.decisions.missed(least) {
+            println!("DIFFERENT: too few boxes were confined, {missed}");
+            exit(1);
+        }
     }
 
     /// Ends the program where a call was not compared with each number that it can answer, at least so often.

@@ -2,15 +2,24 @@
 
 use crate::{
     records::{Figure, Kind, Style},
-    reference::Call,
+    reference::{Call, Confined},
     wunqaber::{
-        ABSENT, CALL_LENGTH, CRATE_BOX, ELLIPSE, FIGURE_LENGTH, LAYER_LENGTH, SHEET_LENGTH, STYLE_LENGTH, W3C_BOX,
+        ABSENT, CALL_LENGTH, CONFINED_LENGTH, CRATE_BOX, ELLIPSE, FIGURE_LENGTH, LAYER_LENGTH, SHEET_LENGTH,
+        STYLE_LENGTH, W3C_BOX,
     },
 };
 
 pub fn radii_numbers(radii: &[(i64, i64); 4]) -> [i32; 8] {
     let [a, b, c, d] = radii.map(|(w, h)| (w as i32, h as i32));
     [a.0, a.1, b.0, b.1, c.0, c.1, d.0, d.1]
+}
+
+/// The radii, then L and S of the edge that decided.
+pub fn confined_numbers(c: &Confined) -> [i32; CONFINED_LENGTH] {
+    let mut n = [0; CONFINED_LENGTH];
+    n[..8].copy_from_slice(&radii_numbers(&c.radii));
+    n[8..].copy_from_slice(&[c.l as i32, c.s as i32]);
+    n
 }
 
 pub fn figure_numbers(f: &Figure) -> [i32; FIGURE_LENGTH] {

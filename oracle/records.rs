@@ -58,6 +58,7 @@ pub trait Answers {
     fn row(&self, f: &Figure, y: i64) -> Option<(i64, i64)>;
     fn points(&self, f: &Figure) -> Vec<i32>;
     fn offset(&self, f: &Figure, k: i64) -> Figure;
+    /// The radii alone: L and S of the edge that decided are not the original's to say (`reference::confined`).
     fn confine(&self, f: &Figure) -> Option<[(i64, i64); 4]>;
     fn srow(&self, f: &Figure, s: &Style, y: i64) -> Option<[i64; 6]>;
     fn bbox(&self, f: &Figure, s: &Style) -> (i64, i64, i64, i64);

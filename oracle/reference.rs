@@ -149,6 +149,14 @@ fn in_ellipse(r: Rect, px: i64, py: i64) -> bool {
 
 pub type Radii = [(i64, i64); 4]; // top-left, top-right, bottom-right, bottom-left
 
+/// What a rule gives (document 02): "radii, L and S, unreduced, of the deciding edge".
+#[derive(Clone, Copy, PartialEq, Eq, Debug)]
+pub struct Confined {
+    pub radii: Radii,
+    pub l: i64,
+    pub s: i64,
+}
+
 /// "S is the sum of the two radii along an edge, L its length; edges in the order top, right,
 /// bottom, left."
 fn edges(r: &Radii, w: i64, h: i64) -> [(i64, i64); 4] {
@@ -160,31 +168,36 @@ fn edges(r: &Radii, w: i64, h: i64) -> [(i64, i64); 4] {
     ]
 }
 
-fn scaled(r: &Radii, l: i64, s: i64) -> Radii {
-    r.map(|(a, b)| ((a * l).div_euclid(s), (b * l).div_euclid(s)))
+/// S and L where no edge decides: "1 over 1 when nothing was reduced".
+const NOTHING_REDUCED: (i64, i64) = (1, 1);
+
+/// Every radius r as "floor(r × L / S)", with S and L of the deciding edge or 1 and 1.
+fn scaled(r: &Radii, (s, l): (i64, i64)) -> Confined {
+    let radii = r.map(|(a, b)| ((a * l).div_euclid(s), (b * l).div_euclid(s)));
+    Confined { radii, l, s }
 }
 
 /// "Crate rule: the first edge with the largest S − L above 0 scales every radius r to
 /// floor(r × L / S)."
-fn confine_crate(r: &Radii, w: i64, h: i64) -> Radii {
+fn confine_crate(r: &Radii, w: i64, h: i64) -> Confined {
     let edges = edges(r, w, h);
     let largest = edges.iter().map(|(s, l)| s - l).max().unwrap();
     if largest <= 0 {
-        return *r;
+        return scaled(r, NOTHING_REDUCED);
     }
-    let (s, l) = *edges.iter().find(|(s, l)| s - l == largest).unwrap();
-    scaled(r, l, s)
+    scaled(r, *edges.iter().find(|(s, l)| s - l == largest).unwrap())
 }
 
 /// "W3C rule: if some S > L, every r becomes floor(r × L / S) for the edge with the smallest L / S,
-/// compared exactly, among those with S > 0."
-fn confine_w3c(r: &Radii, w: i64, h: i64) -> Radii {
+/// compared exactly, among those with S > 0." And "of equal W3C ratios the first edge in order"
+/// (document 02).
+fn confine_w3c(r: &Radii, w: i64, h: i64) -> Confined {
     let edges = edges(r, w, h);
     if !edges.iter().any(|(s, l)| s > l) {
-        return *r;
+        return scaled(r, NOTHING_REDUCED);
     }
     // L1 / S1 <= L2 / S2 exactly when L1 * S2 <= L2 * S1
-    let (s, l) = *edges
+    let edge = edges
         .iter()
         .filter(|(s, _)| *s > 0)
         .find(|(s, l)| {
@@ -194,7 +207,16 @@ fn confine_w3c(r: &Radii, w: i64, h: i64) -> Radii {
                 .all(|(s2, l2)| l * s2 <= l2 * s)
         })
         .unwrap();
-    scaled(r, l, s)
+    scaled(r, *edge)
+}
+
+/// A box's radii as its rule confines them, with L and S; none for an ellipse.
+pub fn confined(f: &Figure) -> Option<Confined> {
+    match f.kind {
+        Kind::Ellipse => None,
+        Kind::Crate => Some(confine_crate(&f.radii, f.w, f.h)),
+        Kind::W3c => Some(confine_w3c(&f.radii, f.w, f.h)),
+    }
 }
 
 fn grown(r: &Radii, k: i64) -> Radii {
@@ -227,7 +249,7 @@ pub fn area(f: &Figure, k: i64) -> Area {
     let rect = offset_rect(rect_of(f), k);
     let radii = match f.kind {
         Kind::Ellipse => [(0, 0); 4],
-        Kind::Crate => confine_crate(&grown(&f.radii, k), rect.w, rect.h),
+        Kind::Crate => confine_crate(&grown(&f.radii, k), rect.w, rect.h).radii,
         Kind::W3c => three_steps(f, k, rect),
     };
     // "Each corner's quadrant is the rectangle of its confined radii in that corner of the box; its
@@ -269,8 +291,8 @@ pub fn area(f: &Figure, k: i64) -> Area {
 }
 
 fn three_steps(f: &Figure, k: i64, rect: Rect) -> Radii {
-    let once = confine_w3c(&f.radii, f.w, f.h);
-    confine_w3c(&grown(&once, k), rect.w, rect.h)
+    let once = confine_w3c(&f.radii, f.w, f.h).radii;
+    confine_w3c(&grown(&once, k), rect.w, rect.h).radii
 }
 
 /// "The stroke area is the figure offset by the outside width, the fill area by minus the inside
@@ -495,11 +517,7 @@ impl Answers for Reference {
     }
 
     fn confine(&self, f: &Figure) -> Option<[(i64, i64); 4]> {
-        match f.kind {
-            Kind::Ellipse => None,
-            Kind::Crate => Some(confine_crate(&f.radii, f.w, f.h)),
-            Kind::W3c => Some(confine_w3c(&f.radii, f.w, f.h)),
-        }
+        confined(f).map(|c| c.radii)
     }
 
     fn srow(&self, f: &Figure, s: &Style, y: i64) -> Option<[i64; 6]> {

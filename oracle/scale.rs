@@ -16,7 +16,7 @@ use crate::{
     original::Original,
     records::{first_lent, Answers, Figure, Kind, Style},
     reference::{self, area, stroke_area, Book, Call, Reference},
-    wunqaber::{self as library, FIGURE_LENGTH, NOTHING, SHEET_LENGTH},
+    wunqaber::{self as library, CONFINED_LENGTH, FIGURE_LENGTH, NOTHING, SHEET_LENGTH},
 };
 use std::time::Instant;
 
@@ -91,7 +91,7 @@ impl Held {
         self.contains_all(f, 2);
         self.points(&n, 3, 1);
         self.points(&n, -1, 2);
-        self.confined_radii(&n, 8);
+        self.confined_radii(&n, CONFINED_LENGTH);
         for k in -8..=8 {
             self.offset(&n, k, FIGURE_LENGTH);
         }
@@ -108,7 +108,7 @@ impl Held {
         let n = figure_numbers(f);
         self.rows(f);
         self.points(&n, 0, 1);
-        self.confined_radii(&n, 8);
+        self.confined_radii(&n, CONFINED_LENGTH);
         self.offset(&n, k, FIGURE_LENGTH);
         self.styled(f, s);
     }
@@ -277,7 +277,7 @@ fn any_numbers(r: &mut Held, rng: &mut Rng) {
     r.row(&n, y, some_room(rng, 3));
     r.offset(&n, k, some_room(rng, 13));
     r.offset(&n, rng.within(-256, 256) as i32, some_room(rng, 5));
-    r.confined_radii(&n, some_room(rng, 8));
+    r.confined_radii(&n, some_room(rng, CONFINED_LENGTH as i64));
     r.ellipse_with_center(x, y, side(rng), side(rng), some_room(rng, 5));
     r.styled_row(&n, &s, y, some_room(rng, 7));
     r.styled_bounding_box(&n, &s, some_room(rng, 4));
@@ -377,7 +377,7 @@ fn large(r: &mut Held, rng: &mut Rng, n: u64) {
     let s = rng.style();
     let numbers = figure_numbers(&f);
     r.rows(&f);
-    r.confined_radii(&numbers, 8);
+    r.confined_radii(&numbers, CONFINED_LENGTH);
     r.styled(&f, &s);
     for k in [rng.within(-256, 256), rng.within(-6, 6), 256, -256] {
         r.offset(&numbers, k as i32, FIGURE_LENGTH);
@@ -393,6 +393,22 @@ fn large(r: &mut Held, rng: &mut Rng, n: u64) {
         // so that the canvas shows some of it
         let seen = Figure { x: rng.within(-f.w, w).max(-4096), y: rng.within(-f.h, h).max(-4096), ..f };
         r.paint(&seen, &s, w, h);
+    }
+}
+
+/// Boxes of which some edges are equal, by both rules: the radii with L and S, into a list that may be too short; of every
+/// eighth, which are small, the rest too.
+fn equal_edges(r: &mut Held, rng: &mut Rng, styles: &[Style], count: usize) {
+    for n in 0..count {
+        if n % 8 == 0 {
+            r.both_rules(&rng.equal_edges(20), n / 8, styles);
+            continue;
+        }
+        let f = rng.equal_edges(1024);
+        for kind in [Kind::Crate, Kind::W3c] {
+            let room = CONFINED_LENGTH as i64 + rng.of(&[0, 0, 0, 0, 1, 2, -1, -2]);
+            r.confined_radii(&figure_numbers(&Figure { kind, ..f }), room as usize);
+        }
     }
 }
 
@@ -448,7 +464,7 @@ pub fn round(r: &mut Held, rng: &mut Rng, at: u64) {
     }
     for _ in 0..300 {
         let f = figure_numbers(&any_figure(rng));
-        r.confined_radii(&f, 8);
+        r.confined_radii(&f, CONFINED_LENGTH);
         r.offset(&f, rng.within(-256, 256) as i32, FIGURE_LENGTH);
         r.ellipse_with_center(rng.within(-5000, 5000) as i32, rng.within(-20, 20) as i32, side(rng), side(rng), 5);
     }
@@ -508,6 +524,7 @@ pub fn run(seed: u64, effort: u64, seconds: u64) {
             }
         })
     });
+    part("boxes with equal edges, both rules", &mut |r| equal_edges(r, &mut Rng(seed), &styles, 100_000));
     part("first row of all ellipse sizes and of all top-left corners", &mut |r| {
         for w in 0..=reference::MAX_SIDE {
             for h in 0..=reference::MAX_SIDE {
@@ -537,5 +554,6 @@ pub fn run(seed: u64, effort: u64, seconds: u64) {
     println!("seed {seed}, {rounds} random rounds of {effort}");
     // the parts with files are as long however slow the machine is
     r.each_answer_met(|call| if ["write_p4", "read_netpbm"].contains(&call) { 1000 } else { 1 });
+    r.each_decision_met(1000);
     r.print();
 }

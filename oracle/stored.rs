@@ -4,7 +4,7 @@
 
 use crate::{
     asked::Ask,
-    compare::{self, crate_box, ellipse, styles, Rng, FIXED, NOTHING_TO_TEST},
+    compare::{self, crate_box, ellipse, styles, Rng, FIXED, FRACTIONS, NOTHING_TO_TEST},
     held::{given_room, By, Held, BYTE_MARK, LENT, MARK, WRITE_P4, WRITE_P5},
     lines::{
         self,
@@ -16,7 +16,7 @@ use crate::{
     records::{first_lent, Answers, Figure, Kind, Plain, Style},
     reference::{plain_refusal, Call, Reference},
     scale::{each_number_of_a_sheet, round},
-    wunqaber::{CALL_LENGTH, DONE, FIGURE_LENGTH, NO_RECORD, SHEET_LENGTH},
+    wunqaber::{CALL_LENGTH, CONFINED_LENGTH, DONE, FIGURE_LENGTH, NO_RECORD, SHEET_LENGTH},
 };
 use std::{collections::BTreeMap, fs, process::exit};
 
@@ -28,7 +28,7 @@ pub const CALLS: &[(&str, &str, &[u32], usize)] = &[
     ("row", "the y and the run of a row: y, figure, out", &[0, 1, 2, 3, 4, 13, 100, 101], 7),
     ("points", "all points as pairs: figure, list, out", &[0, 1, 2, 3, 13, 100], 4),
     ("offset", "the figure offset by k: k, figure, out", &[0, 1, 2, 3, 5, 13, 100], 7),
-    ("confined_radii", "the radii as confined to the box: figure, out", &[0, 1, 2, 3, 13, 100, 101], 7),
+    ("confined_radii", "the radii as confined to the box, and L and S: figure, out", &[0, 1, 2, 3, 13, 100, 101], 7),
     ("ellipse_with_center", "the ellipse about a centre: x, y, width, height, out", &[0, 1, 3, 13], 16),
     ("styled_row", "the y, left stroke, fill and right stroke of a row: y, figure, style, out", &[0, 1, 2, 3, 4, 5, 13, 100, 101], 7),
     ("styled_bounding_box", "what a styled figure keeps to: figure, style, out", &[0, 1, 2, 3, 5, 13, 100], 7),
@@ -60,7 +60,7 @@ const OTHER_WORDS: &[(&str, &str)] = &[
     ("row 0 [] []", "100"),
     ("contains -1 0 [1 4294967295 0 1+0*2 0*8] [0]", "0 [1 -1 0 1*2 0*8] [1]"),
     ("contains 4294967295 0 [1 -1 0 1+0*2 0*8] [0]", "0 [1 -1 0 1*2 0*8] [1]"),
-    ("confined_radii [1 0*2 9*2 1+1*8] [4294967290+3*9]", "0 [1 0*2 9*2 1 2 3 4 5 6 7 8] [0 1 2 3*2 4 5 6 18]"),
+    ("confined_radii [1 0*2 9*2 1+1*8] [4294967290+3*11]", "0 [1 0*2 9*2 1 2 3 4 5 6 7 8] [0 1 2 3*2 4 5 6 9 12 24]"),
     ("run_calls 8 7 [] [5*200] {0*56}", "0 [5*200] #3670017"),
     ("write_p5 2 2 [0] {250+4*3 255*1} {1+0*15}", "0 [15] #132711162 #444925117"),
     ("write_p4 3 2 [0] {0+1*3 255*1 0*2} {9*9}", "0 [9] #51380483 #146211326"),
@@ -274,7 +274,7 @@ fn ask(r: &mut Held, f: &Figure, ask: &Ask) {
         Ask::Row(y) => r.row(&n, y as i32, 3),
         Ask::Points => r.points(&n, 0, 1),
         Ask::Offset(k) => r.offset(&n, k as i32, FIGURE_LENGTH),
-        Ask::Confine => r.confined_radii(&n, 8),
+        Ask::Confine => r.confined_radii(&n, CONFINED_LENGTH),
         Ask::StyledRow(s, y) => r.styled_row(&n, &style_numbers(&s), y as i32, 7),
         Ask::StyledBox(s) => r.styled_bounding_box(&n, &style_numbers(&s), 4),
         // on zeros, and 8 bytes that are not lent
@@ -292,7 +292,7 @@ fn any_call(r: &mut Held, at: usize, n: &[i32], s: &[i32]) {
         1 => r.row(n, 3, 3),
         2 => r.points(n, 0, 1),
         3 => r.offset(n, 1, FIGURE_LENGTH),
-        4 => r.confined_radii(n, 8),
+        4 => r.confined_radii(n, CONFINED_LENGTH),
         styled => styled_call(r, styled, n, s),
     }
 }
@@ -394,11 +394,13 @@ fn rooms(r: &mut Held) {
             r.row(&n, 3, room(3));
             r.row(&n, 99, room(3));
             r.offset(&n, -1, room(offset));
-            r.confined_radii(&n, room(8));
+            r.confined_radii(&n, room(CONFINED_LENGTH));
             r.styled_row(&n, &style, 3, room(7));
             r.styled_bounding_box(&n, &style, room(4));
             r.ellipse_with_center(-2, 3, f.w as u32 + more as u32, 6, room(5));
         }
+        // the radii alone are not given
+        r.confined_radii(&n, 8);
     }
     // as many points as `replay` has room for
     for (w, h, spare) in [(32, 32, 0), (32, 32, -1), (31, 33, 2), (1, 1024, 0)] {
@@ -773,7 +775,13 @@ pub fn run(folder: &str) {
     let mut r = Held::default();
     r.chosen = Some(Chosen { always: true, ..Chosen::default() });
     let mut rng = Rng(1);
+    assert!(compare::fixed_as_said(), "oracle: a fixed case does not come out as it stands in compare.rs");
     FIXED.iter().for_each(|(f, asked, _)| ask(&mut r, f, asked));
+    for (f, ..) in FRACTIONS {
+        for kind in [Kind::Crate, Kind::W3c] {
+            ask(&mut r, &Figure { kind, ..*f }, &Ask::Confine);
+        }
+    }
     NOTHING_TO_TEST.iter().for_each(|f| r.row(&figure_numbers(f), f.y as i32, 2));
     limits(&mut r);
     rooms(&mut r);

@@ -18,7 +18,6 @@ FOR_READERS = {
     'sheet-rules-kept', 'host-demand3', 'sheet-comes-to-the-same',  # README, 'What is proved'
     'add-told-seven', 'paint-told-seven',  # docs/ARCHITECTURE.md, 'Where the demands are stated'
     'most-over-largest',  # the crate rule's edge is one whose radii overlap most
-    'confine-fitting-stay', 'w3c-confine-twice',  # radii that fit stay, under either rule
     'w3c-within-box',  # under the W3C's rule no corner is larger than the box
     'rows-all-inside',  # the first row decides for all rows of an ellipse
     'length-decimal-least',  # every number has a digit

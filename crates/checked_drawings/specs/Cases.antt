@@ -60,12 +60,12 @@ cases =
     ∷ case (rowsOf (rectangle 2 8)) (numbers (0 ∷ 0 ∷ []))
     ∷ case (rowsOf (rectangle 4 31)) (numbers (31 ∷ 31 ∷ []))
     ∷ case (rowsOf (rectangle 4 32)) (numbers (0 ∷ 0 ∷ []))
-    -- f: the radii, row 0 (its y, start and end), the number of points
-    ∷ case (confinedValues (CrateBox (box 10 100 9 60))) (numbers (7 ∷ 50 ∷ 7 ∷ 50 ∷ 7 ∷ 50 ∷ 7 ∷ 50 ∷ []))
+    -- f: the radii and the fraction (document 02, 'Two'), row 0 (its y, start and end), the number of points
+    ∷ case (confinedValues (CrateBox (box 10 100 9 60))) (numbers (7 ∷ 50 ∷ 7 ∷ 50 ∷ 7 ∷ 50 ∷ 7 ∷ 50 ∷ 100 ∷ 120 ∷ []))
     ∷ case (rowValues (pos 0) (row (CrateBox (box 10 100 9 60)) (pos 0))) (numbers (0 ∷ 6 ∷ 4 ∷ []))
     ∷ case (numbers (length (points (CrateBox (box 10 100 9 60))) ∷ [])) (numbers (0 ∷ []))
     -- g
-    ∷ case (confinedValues (W3cBox (box 10 100 9 60))) (numbers (5 ∷ 33 ∷ 5 ∷ 33 ∷ 5 ∷ 33 ∷ 5 ∷ 33 ∷ []))
+    ∷ case (confinedValues (W3cBox (box 10 100 9 60))) (numbers (5 ∷ 33 ∷ 5 ∷ 33 ∷ 5 ∷ 33 ∷ 5 ∷ 33 ∷ 10 ∷ 18 ∷ []))
     -- h: y, left stroke, fill, right stroke
     ∷ case (styledRowValues (pos 0) (styledRow (CrateBox (box 10 40 1 20)) (stroked 0 Center) (pos 0)))
     (numbers (0 ∷ 0 ∷ 1 ∷ 1 ∷ 9 ∷ 9 ∷ 10 ∷ []))

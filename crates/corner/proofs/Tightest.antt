@@ -162,7 +162,7 @@ none-over-fits es e =
       left = ltb-false _ _ (neither-right (over (es .bottom)) _ e₃);
     }
 
-pub fits-none-over : (es : Edges) → FitsEdges es → someOver es ≡ false
+fits-none-over : (es : Edges) → FitsEdges es → someOver es ≡ false
 unfolding someOver
 fits-none-over es f = simp (le-ltb _ _ (f .top), le-ltb _ _ (f .right), le-ltb _ _ (f .bottom), le-ltb _ _ (f .left))
 

@@ -1,6 +1,6 @@
 -- Radii times L / S, floored: 1 over 1 changes none, and where L ≤ S none grows.
 -- Assumes nothing.
-use mathlib.Core.Path.{_≡_, refl}
+use mathlib.Core.Path.{_≡_}
 use Prim.Native.Nat.{ℕ, _*_, _/_, _≤_}
 use native.Mathlib.Nat.{mul-comm, mul-le-mul-left, div-le-of-le-mul}
 use native.Mathlib.Omega.{arith}

@@ -17,16 +17,17 @@ use Rattle.rectangle.specs.Calls.{rectangleValues}
 use Rattle.geometry.specs.Checks.{sizeCheck, positionCheck}
 use Rattle.rectangle.specs.Bounds.{Bounded}
 use Rattle.rectangle.specs.Rectangle.{withCenter}
-use Rattle.rounded_rectangle.specs.declared.RoundedRectangle.{RoundedRectangle}
+use Rattle.rounded_rectangle.specs.declared.ConfinedBox.{ConfinedBox}
 use Rattle.shape.proofs.Within.{own-box-passed, own-rectangle-passed}
 pub use Rattle.shape.proofs.Within.{point-wider, size-wider, own-area, own-box-bounded, area-bounded}
 pub use Rattle.shape.proofs.Within.{area-box-bounded, offset-area, offset-box-bounded, confined-bounded, confined-w3c-bounded}
+pub use Rattle.shape.proofs.Within.{confined-w3c-twice}
 use Rattle.figure.specs.declared.Figure.{Figure}
 use Rattle.figure.specs.declared.Figure.the-variants.{Ellipse, CrateBox, W3cBox}
 use Rattle.shape.specs.declared.Shape.the-variants as shape-of
 use Rattle.figure.specs.Figure.{ownRectangle, confined, confinedW3c, shape}
 use Rattle.figure.specs.Bounds.{OwnFigure, BoundedFigure}
-use Rattle.figure.specs.Calls.{sidesCheck, cornersCheck, placeCheck, figureCheck, radiiValues, figureValues, confinedValues}
+use Rattle.figure.specs.Calls.{sidesCheck, cornersCheck, placeCheck, figureCheck, confinedRadiiValues, figureValues, confinedValues}
 
 -- each of the three checks has passed
 pub record FigureChecked (f : Figure) : Type 0 where
@@ -68,15 +69,15 @@ no-corners (Ellipse q) r e = refl
 no-corners (CrateBox b) r e = let z : _≡_ {A = ℕ} 0 1 = cc in absurd (omega arith)
 no-corners (W3cBox b) r e = let z : _≡_ {A = ℕ} 0 1 = cc in absurd (omega arith)
 
-pub shape-corners : (f : Figure) (q : RoundedRectangle) → shape f ≡ shape-of.RoundedBox q
-    → answered (radiiValues (q .corners)) ≡ answered (confinedValues f)
+pub shape-corners : (f : Figure) (q : ConfinedBox) → shape f ≡ shape-of.RoundedBox q
+    → answered (confinedRadiiValues (q .corners)) ≡ answered (confinedValues f)
 shape-corners (Ellipse r) q e = let z : _≡_ {A = ℕ} 0 1 = cc in absurd (omega arith)
 shape-corners (CrateBox b) q e =
     let is : confined b ≡ q = cc in
-    ap (λ (p : RoundedRectangle). answered (radiiValues (p .corners))) (sym is)
+    ap (λ (p : ConfinedBox). answered (confinedRadiiValues (p .corners))) (sym is)
 shape-corners (W3cBox b) q e =
     let is : confinedW3c b ≡ q = cc in
-    ap (λ (p : RoundedRectangle). answered (radiiValues (p .corners))) (sym is)
+    ap (λ (p : ConfinedBox). answered (confinedRadiiValues (p .corners))) (sym is)
 
 -- the check of an ellipse about a centre
 abbrev pub centerAnswer : Point → Size → Checked

@@ -2,7 +2,7 @@
 -- Assumes nothing.
 use Rattle.figure.specs.declared.Figure.{Figure}
 use Rattle.figure.specs.declared.Figure.the-variants.{Ellipse, CrateBox, W3cBox}
-pub use Rattle.shape.specs.BoxBounds.{widePosition, wideOwnSide, wideOffset, OwnRectangle, OwnBox, wideAreaPosition, AreaRectangle, AreaBox}
+pub use Rattle.shape.specs.BoxBounds.{widePosition, wideOwnSide, wideOffset, OwnRectangle, OwnBox, wideAreaPosition, AreaRectangle, AreaBox, ConfinedAreaBox}
 -- a shape of one of these areas
 pub use Rattle.shape.specs.Bounds.{BoundedShape}
 

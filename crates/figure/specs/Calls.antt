@@ -15,6 +15,7 @@ use Rattle.scanline.specs.declared.Scanline.{Scanline}
 use Rattle.scanline.specs.declared.Row.{Row}
 use Rattle.scanline.specs.declared.Row.the-variants as row-of
 use Rattle.corner_radii.specs.declared.CornerRadii.{CornerRadii}
+use Rattle.corner_radii.specs.declared.ConfinedRadii.{ConfinedRadii}
 use Rattle.corner_radii.specs.CornerRadii.{radiiCheck}
 use Rattle.figure.specs.declared.Figure.{Figure}
 use Rattle.figure.specs.declared.Figure.the-variants.{Ellipse, CrateBox, W3cBox}
@@ -79,6 +80,10 @@ sizeValues s = pos (s .width) ∷ pos (s .height) ∷ []
 abbrev pub radiiValues : CornerRadii → List ℤ
 radiiValues r = sizeValues (r .«top_left») ++ sizeValues (r .«top_right») ++ sizeValues (r .«bottom_right») ++ sizeValues (r .«bottom_left»)
 
+-- confined radii: the radii, then L and S of their fraction
+abbrev pub confinedRadiiValues : ConfinedRadii → List ℤ
+confinedRadiiValues c = radiiValues (c .radii) ++ pos (c .length) ∷ pos (c .sum) ∷ []
+
 -- a figure: 0, 1 or 2 for its kind, then its rectangle and a box's radii
 abbrev pub figureValues : Figure → List ℤ
 figureValues (Ellipse r) = pos 0 ∷ rectangleValues r
@@ -93,7 +98,7 @@ figureOutcome (figure-answer.Answered f) = answered (figureValues f)
 abbrev pub radiiOutcome : RadiiAnswer → Outcome
 radiiOutcome (radii-answer.Refused refusal) = refused (number refusal)
 radiiOutcome radii-answer.NoCorners = answered []
-radiiOutcome (radii-answer.Radii r) = answered (radiiValues r)
+radiiOutcome (radii-answer.Radii c) = answered (confinedRadiiValues c)
 
 -- ---- the calls
 -- `contains`: 1, 2, 3, 4
@@ -108,11 +113,11 @@ rowCall f y = unless (orElse (figureCheck f) (askedCheck y)) (rowValues y (row f
 abbrev pub figureOffsetCall : Figure → ℤ → Outcome
 figureOffsetCall f k = unless (orElse (figureCheck f) (offsetCheck k)) (figureValues (offset f k))
 
--- the confined radii: 1, 2, 3
+-- the confined radii with their fraction: 1, 2, 3
 abbrev pub confinedValues : Figure → List ℤ
 confinedValues (Ellipse r) = []
-confinedValues (CrateBox b) = radiiValues (confined b .corners)
-confinedValues (W3cBox b) = radiiValues (confinedW3c b .corners)
+confinedValues (CrateBox b) = confinedRadiiValues (confined b .corners)
+confinedValues (W3cBox b) = confinedRadiiValues (confinedW3c b .corners)
 
 abbrev pub confinedRadiiCall : Figure → Outcome
 confinedRadiiCall f = unless (figureCheck f) (confinedValues f)

@@ -2,7 +2,7 @@
 // that applies.
 use crate::Figure;
 use crate::Shape;
-use corner_radii::CornerRadii;
+use corner_radii::ConfinedRadii;
 use geometry::Point;
 use geometry::Size;
 use geometry::check_offset;
@@ -36,7 +36,7 @@ pub enum FigureAnswer {
 pub enum RadiiAnswer {
     Refused(Refusal),
     NoCorners,
-    Radii(CornerRadii),
+    Radii(ConfinedRadii),
 }
 
 impl Figure {
@@ -76,7 +76,7 @@ impl Figure {
         FigureAnswer::Answered(self.offset_by(k))
     }
 
-    // The radii as they are confined to the box. Refused by 1, 2 and 3.
+    // The radii as they are confined to the box, with L and S. Refused by 1, 2 and 3.
     pub fn confined_radii(self) -> RadiiAnswer
         ensures { λ r. ⌜ radiiOutcome r ≡ confinedRadiiCall self ⌝ }
     {

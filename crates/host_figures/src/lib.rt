@@ -12,9 +12,9 @@ use host_answers::NO_RECORD;
 use host_answers::NOTHING;
 use host_records::figure_of;
 use host_records::is_figure;
+use host_values::put_confined_radii;
 use host_values::put_figure;
 use host_values::put_flag;
-use host_values::put_radii;
 use host_values::put_row;
 ghost use Rattle.host_answers.specs.HostAnswers.{Tells};
 ghost use Rattle.host_figures.specs.Figures.{containsSaid, rowSaid, offsetSaid, confinedRadiiSaid, ellipseWithCenterSaid};
@@ -59,7 +59,7 @@ pub fn offset(figure: &[i32], k: i32, out: &mut [i32]) -> u32
     }
 }
 
-// The radii as confined to the box. Refused by 1, 2, 3 and 13.
+// The radii as confined to the box, with L and S. Refused by 1, 2, 3 and 13.
 pub fn confined_radii(figure: &[i32], out: &mut [i32]) -> u32
     ensures { λ r. ⌜ Tells (confinedRadiiSaid (now (figure .entry))) (now (out .entry)) r (now (out .exit)) ⌝ }
 {
@@ -69,7 +69,7 @@ pub fn confined_radii(figure: &[i32], out: &mut [i32]) -> u32
     match figure_of(figure).confined_radii() {
         RadiiAnswer::Refused(refusal) => refusal.number(),
         RadiiAnswer::NoCorners => NOTHING,
-        RadiiAnswer::Radii(corners) => put_radii(corners, out),
+        RadiiAnswer::Radii(confined) => put_confined_radii(confined, out),
     }
 }
 

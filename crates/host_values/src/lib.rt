@@ -1,4 +1,5 @@
 // The values of the calls' answers put into a host's list.
+use corner_radii::ConfinedRadii;
 use corner_radii::CornerRadii;
 use figure::Figure;
 use host_answers::held;
@@ -14,14 +15,16 @@ ghost use lib.IntN.{pos};
 ghost use Rattle.refusal.specs.Refusal.{answered};
 ghost use Rattle.host_answers.specs.HostAnswers.{heldBy32, Tells};
 ghost use Rattle.rectangle.specs.Calls.{rectangleValues};
-ghost use Rattle.figure.specs.Calls.{flag, scanlineValues, radiiValues, figureValues};
+ghost use Rattle.figure.specs.Calls.{flag, scanlineValues, radiiValues, confinedRadiiValues, figureValues};
 ghost use Rattle.styled.specs.Calls.{styledScanlineValues};
 
 // How many numbers a figure has before its radii, and how many its radii have (specs of `host_records`,
-// which is not needed here for anything else).
+// which is not needed here for anything else); and how many a fraction has.
 const PLAIN_LENGTH: usize = 5;
 
 const RADII_LENGTH: usize = 8;
+
+const FRACTION_LENGTH: usize = 2;
 
 // A number.
 pub fn put_count(n: u32, out: &mut [i32]) -> u32
@@ -99,11 +102,15 @@ fn radii_numbers(corners: CornerRadii) -> [i32; RADII_LENGTH]
     ]
 }
 
-// The radii.
-pub fn put_radii(corners: CornerRadii, out: &mut [i32]) -> u32
-    ensures { λ r. ⌜ Tells (answered (radiiValues corners)) (now (out .entry)) r (now (out .exit)) ⌝ }
+// The confined radii, then L and S.
+pub fn put_confined_radii(confined: ConfinedRadii, out: &mut [i32]) -> u32
+    ensures { λ r. ⌜ Tells (answered (confinedRadiiValues confined)) (now (out .entry)) r (now (out .exit)) ⌝ }
 {
-    let values = radii_numbers(corners);
+    let radii = radii_numbers(confined.radii);
+    let fraction = [held(confined.length), held(confined.sum)];
+    let mut values = [0i32; RADII_LENGTH + FRACTION_LENGTH];
+    put_from(&mut values, 0, &radii);
+    put_from(&mut values, RADII_LENGTH, &fraction);
     put_numbers(out, &values)
 }
 

@@ -1,3 +1,4 @@
 pub mod Quadrants
 pub mod RoundedRectangle
+pub mod ConfinedBox
 pub mod Relative

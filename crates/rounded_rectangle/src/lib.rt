@@ -1,10 +1,11 @@
-// The rounded box whose radii are confined: its test and its rows, after embedded-graphics 0.8.2
+// The rounded box, and its test and its rows once its radii are confined, after embedded-graphics 0.8.2
 // `rounded_rectangle/mod.rs` (`RoundedRectangleContains`) and `points.rs` (`Scanlines`). Columns and
 // rows are counted from the box's corners, unsigned; signed numbers come in with the asked point or
 // row, and go out with the run.
 use corner_quadrant::EllipseQuadrant;
 use corner_quadrant::in_quadrant;
 use corner_quadrant::side_inset;
+use corner_radii::ConfinedRadii;
 use corner_radii::CornerRadii;
 use ellipse_search::ANYWHERE;
 use geometry::Point;
@@ -20,12 +21,18 @@ ghost use Rattle.geometry.specs.Bounds.{widePoint, wideSide, PointNear, SizeUpT
 ghost use Rattle.scanline.specs.Points.{RowWithin};
 ghost use Rattle.corner.specs.Bounds.{wideRadius, wideStrokeSide};
 ghost use Rattle.corner_radii.specs.Bounds.{RadiiUpTo};
-ghost use Rattle.rounded_rectangle.specs.RoundedRectangle.{contains as RoundedRectangle·contains, row as RoundedRectangle·row};
+ghost use Rattle.rounded_rectangle.specs.ConfinedBox.{reducedBox, contains as ConfinedBox·contains, row as ConfinedBox·row};
 ghost use Rattle.rounded_rectangle.specs.Relative.{BoundedBox, ReadyBox, radii, containsAt, rowInsets, runBetween};
 
 pub struct RoundedRectangle {
     pub rectangle: Rectangle,
     pub corners: CornerRadii,
+}
+
+// A box whose radii are confined to its size, with their fraction.
+pub struct ConfinedBox {
+    pub rectangle: Rectangle,
+    pub corners: ConfinedRadii,
 }
 
 // A box made ready for many tests: its size and its quadrants.
@@ -44,17 +51,19 @@ pub struct Insets {
 }
 
 impl RoundedRectangleContains {
-    pub fn new(size: Size, corners: CornerRadii) -> RoundedRectangleContains
+    // The quadrants go by the radii alone.
+    pub fn new(size: Size, corners: ConfinedRadii) -> RoundedRectangleContains
         requires { ⌜ SizeUpTo wideStrokeSide size ⌝ }
-        requires { ⌜ RadiiUpTo wideRadius corners ⌝ }
-        ensures { λ r. ⌜ (r .size ≡ size) × (radii r ≡ corners) × ReadyBox r ⌝ }
+        requires { ⌜ RadiiUpTo wideRadius (corners .radii) ⌝ }
+        ensures { λ r. ⌜ (r .size ≡ size) × (radii r ≡ corners .radii) × ReadyBox r ⌝ }
     {
+        let radii = corners.radii;
         RoundedRectangleContains {
             size: size,
-            top_left: EllipseQuadrant::new(corners.top_left),
-            top_right: EllipseQuadrant::new(corners.top_right),
-            bottom_right: EllipseQuadrant::new(corners.bottom_right),
-            bottom_left: EllipseQuadrant::new(corners.bottom_left),
+            top_left: EllipseQuadrant::new(radii.top_left),
+            top_right: EllipseQuadrant::new(radii.top_right),
+            bottom_right: EllipseQuadrant::new(radii.bottom_right),
+            bottom_left: EllipseQuadrant::new(radii.bottom_left),
         }
     }
 
@@ -132,12 +141,25 @@ pub fn run_between(left: i32, width: u32, insets: Insets) -> Range
     }
 }
 
-impl RoundedRectangle {
+impl ConfinedBox {
+    // The box with these radii for its own, without their fraction.
+    pub fn reduced(self) -> RoundedRectangle
+        ensures { λ r. ⌜ r ≡ reducedBox self ⌝ }
+    {
+        let rectangle = self.rectangle;
+        let corners = self.corners;
+        let radii = corners.radii;
+        RoundedRectangle {
+            rectangle: rectangle,
+            corners: radii,
+        }
+    }
+
     // `RoundedRectangleContains::contains`, at any point.
     pub fn contains(self, point: Point) -> bool
-        requires { ⌜ BoundedBox self ⌝ }
+        requires { ⌜ BoundedBox (reducedBox self) ⌝ }
         requires { ⌜ PointNear widePoint point ⌝ }
-        ensures { λ r. ⌜ r ≡ RoundedRectangle·contains self (point .x) (point .y) ⌝ }
+        ensures { λ r. ⌜ r ≡ ConfinedBox·contains self (point .x) (point .y) ⌝ }
     {
         let rectangle = self.rectangle;
         let top_left = rectangle.top_left;
@@ -154,9 +176,9 @@ impl RoundedRectangle {
 
     // The row at y.
     pub fn row(self, y: i32) -> Row
-        requires { ⌜ BoundedBox self ⌝ }
+        requires { ⌜ BoundedBox (reducedBox self) ⌝ }
         requires { ⌜ Near widePoint y ⌝ }
-        ensures { λ r. ⌜ (r ≡ RoundedRectangle·row self y) × RowWithin (self .rectangle .«top_left» .x) (self .rectangle .size .width) r ⌝ }
+        ensures { λ r. ⌜ (r ≡ ConfinedBox·row self y) × RowWithin (self .rectangle .«top_left» .x) (self .rectangle .size .width) r ⌝ }
     {
         let rectangle = self.rectangle;
         let top_left = rectangle.top_left;

@@ -1,5 +1,5 @@
 -- Bounds: a box or rectangle that passes its check is within the wide bounds of a figure's own numbers; an offset area of it, and a
--- confined box, are within those of an area.
+-- confined box, are within those of an area. And what the W3C rule has confined stays when it is confined again.
 -- Assumes nothing.
 use mathlib.Core.Path.{_≡_}
 use Prim.Native.Nat.{ℕ, _+_, _≤_}
@@ -21,10 +21,12 @@ use Rattle.corner.specs.Bounds.{wideRadius}
 use Rattle.corner_radii.specs.CornerRadii.{radiiCheck}
 use Rattle.corner_radii.proofs.Bounds.{confine-up-to, w3c-up-to, offset-up-to, radii-up-to-wider}
 use Rattle.corner_radii.proofs.Checks.{radii-passed}
+use Rattle.corner_radii.proofs.Fraction.{w3c-confine-twice}
 use Rattle.rounded_rectangle.specs.declared.RoundedRectangle.{RoundedRectangle}
 use Rattle.rounded_rectangle.specs.Relative.{BoundedBox}
+use Rattle.rounded_rectangle.specs.ConfinedBox.{reducedBox}
 use Rattle.shape.specs.BoxRules.{confined, confinedW3c, offsetBox}
-use Rattle.shape.specs.BoxBounds.{widePosition, wideOwnSide, wideOffset, OwnRectangle, OwnBox, AreaRectangle, AreaBox}
+use Rattle.shape.specs.BoxBounds.{widePosition, wideOwnSide, wideOffset, OwnRectangle, OwnBox, AreaRectangle, AreaBox, ConfinedAreaBox}
 
 -- ---- wider bounds
 near-wider : {m n : ℕ} {z : ℤ} → m ≤ n → Near m z → Near n z
@@ -91,16 +93,22 @@ offset-box-bounded b k o near =
           (offset-up-to wideOwnSide wideOffset (b .corners) k (o .corners) near);
     }
 
-pub confined-bounded : (b : RoundedRectangle) → AreaBox b → AreaBox (confined b)
+pub confined-bounded : (b : RoundedRectangle) → AreaBox b → ConfinedAreaBox (confined b)
 unfolding confined
 confined-bounded b o =
     record { rectangle = o .rectangle; corners = confine-up-to wideRadius (b .corners) (b .rectangle .size) (o .corners) }
 
-pub confined-w3c-bounded : (b : RoundedRectangle) → AreaBox b → AreaBox (confinedW3c b)
+pub confined-w3c-bounded : (b : RoundedRectangle) → AreaBox b → ConfinedAreaBox (confinedW3c b)
 unfolding confinedW3c
 confined-w3c-bounded b o =
     record { rectangle = o .rectangle; corners = w3c-up-to wideRadius (b .corners) (b .rectangle .size) (o .corners) }
 
-pub confined-w3c-own : (b : RoundedRectangle) → OwnBox b → OwnBox (confinedW3c b)
+pub confined-w3c-own : (b : RoundedRectangle) → OwnBox b → OwnBox (reducedBox (confinedW3c b))
 unfolding confinedW3c
 confined-w3c-own b o = record { rectangle = o .rectangle; corners = w3c-up-to wideOwnSide (b .corners) (b .rectangle .size) (o .corners) }
+
+-- ---- confined again
+pub confined-w3c-twice : (b : RoundedRectangle)
+    → reducedBox (confinedW3c (reducedBox (confinedW3c b))) ≡ reducedBox (confinedW3c b)
+unfolding confinedW3c
+confined-w3c-twice b i = record { rectangle = b .rectangle; corners = w3c-confine-twice (b .corners) (b .rectangle .size) i }

@@ -7,6 +7,8 @@ use Rattle.geometry.specs.Bounds.{PointNear, SizeUpTo}
 use Rattle.corner.specs.Bounds.{wideRadius, wideStrokeSide}
 use Rattle.corner_radii.specs.Bounds.{RadiiUpTo}
 use Rattle.rounded_rectangle.specs.declared.RoundedRectangle.{RoundedRectangle}
+use Rattle.rounded_rectangle.specs.declared.ConfinedBox.{ConfinedBox}
+use Rattle.rounded_rectangle.specs.ConfinedBox.{reducedBox}
 
 -- a figure's own numbers, before any offset
 abbrev pub widePosition : ℕ
@@ -37,3 +39,6 @@ pub record AreaRectangle (r : Rectangle) : Type 0 where
 pub record AreaBox (b : RoundedRectangle) : Type 0 where
   pub rectangle : AreaRectangle (b .rectangle)
   pub corners : RadiiUpTo wideRadius (b .corners)
+
+abbrev pub ConfinedAreaBox : ConfinedBox → Type 0
+ConfinedAreaBox b = AreaBox (reducedBox b)

@@ -4,14 +4,27 @@ use lib.IntN.{ℤ}
 use Rattle.rectangle.specs.Rectangle.{offset as Rectangle·offset}
 use Rattle.corner_radii.specs.CornerRadii.{offset as CornerRadii·offset, confine, confineW3c}
 use Rattle.rounded_rectangle.specs.declared.RoundedRectangle.{RoundedRectangle}
+use Rattle.rounded_rectangle.specs.declared.ConfinedBox.{ConfinedBox}
+use Rattle.rounded_rectangle.specs.ConfinedBox.{reducedBox}
 
 -- a box with its radii confined to its size, by the crate rule and by the W3C rule
-unfoldable pub confined : RoundedRectangle → RoundedRectangle
+unfoldable pub confined : RoundedRectangle → ConfinedBox
 confined b = record { rectangle = b .rectangle; corners = confine (b .corners) (b .rectangle .size) }
 
-unfoldable pub confinedW3c : RoundedRectangle → RoundedRectangle
+unfoldable pub confinedW3c : RoundedRectangle → ConfinedBox
 confinedW3c b = record { rectangle = b .rectangle; corners = confineW3c (b .corners) (b .rectangle .size) }
 
 -- a box offset like a crate box: the rectangle about its centre, the radii by k, not confined
 unfoldable pub offsetBox : RoundedRectangle → ℤ → RoundedRectangle
 offsetBox b k = record { rectangle = Rectangle·offset (b .rectangle) k; corners = CornerRadii·offset (b .corners) k }
+
+-- a W3C box offset: confined, offset like a crate box, confined again
+abbrev pub offsetW3cBox : RoundedRectangle → ℤ → ConfinedBox
+offsetW3cBox b k = confinedW3c (offsetBox (reducedBox (confinedW3c b)) k)
+
+-- the box of an area's rows, where the area is a crate box or a W3C box offset by k: its own rule confines the radii
+abbrev pub crateArea : RoundedRectangle → ℤ → RoundedRectangle
+crateArea b k = reducedBox (confined (offsetBox b k))
+
+abbrev pub w3cArea : RoundedRectangle → ℤ → RoundedRectangle
+w3cArea b k = reducedBox (confinedW3c (reducedBox (offsetW3cBox b k)))

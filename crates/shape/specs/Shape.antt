@@ -10,7 +10,7 @@ use Rattle.scanline.specs.declared.Row.{Row}
 use Rattle.scanline.specs.Points.{pointsFrom}
 use Rattle.ellipse.specs.Ellipse.{contains as Ellipse·contains}
 use Rattle.ellipse_rows.specs.EllipsePoints.{row as Ellipse·row}
-use Rattle.rounded_rectangle.specs.RoundedRectangle.{contains as RoundedRectangle·contains, row as RoundedRectangle·row}
+use Rattle.rounded_rectangle.specs.ConfinedBox.{contains as ConfinedBox·contains, row as ConfinedBox·row}
 use Rattle.shape.specs.declared.Shape.{Shape}
 use Rattle.shape.specs.declared.Shape.the-variants as shape-of
 
@@ -21,12 +21,12 @@ rectangle (shape-of.RoundedBox b) = b .rectangle
 -- `contains`, by the figure's kind
 abbrev pub containsShape : Shape → Point → Bool
 containsShape (shape-of.Ellipse r) p = Ellipse·contains r p
-containsShape (shape-of.RoundedBox b) p = RoundedRectangle·contains b (p .x) (p .y)
+containsShape (shape-of.RoundedBox b) p = ConfinedBox·contains b (p .x) (p .y)
 
 -- the row at y, by the figure's kind; 'no row' where the figure lacks it
 abbrev pub rowOfShape : Shape → ℤ → Row
 rowOfShape (shape-of.Ellipse r) y = Ellipse·row r y
-rowOfShape (shape-of.RoundedBox b) y = RoundedRectangle·row b y
+rowOfShape (shape-of.RoundedBox b) y = ConfinedBox·row b y
 
 -- the points, row by row, up to the first empty row
 unfoldable pub pointsOfShape : Shape → List Point

@@ -1,33 +1,34 @@
-// What is done with a box before its rows are asked for: its radii confined by either rule, and
-// its offset. After embedded-graphics 0.8.2 `rounded_rectangle/mod.rs` (`OffsetOutline`,
+// What is done with a box before its rows are asked for: its radii confined by either rule, which
+// hands their fraction on with them, and its offset. After embedded-graphics 0.8.2 `rounded_rectangle/mod.rs` (`OffsetOutline`,
 // `confine_radii`); the W3C rule is not in the source.
+use rounded_rectangle::ConfinedBox;
 use rounded_rectangle::RoundedRectangle;
 ghost use mathlib.Core.Path.{_≡_};
 ghost use Rattle.signed.specs.Signed.{Near};
-ghost use Rattle.shape.specs.BoxBounds.{wideOffset, OwnBox, AreaBox};
-ghost use Rattle.shape.specs.BoxRules.{confined as BoxRules·confined, confinedW3c, offsetBox};
+ghost use Rattle.shape.specs.BoxBounds.{wideOffset, OwnBox, AreaBox, ConfinedAreaBox};
+ghost use Rattle.shape.specs.BoxRules.{confined as BoxRules·confined, confinedW3c, offsetBox, offsetW3cBox};
 
 // A box with its radii confined by the crate rule.
-pub fn confined(b: RoundedRectangle) -> RoundedRectangle
+pub fn confined(b: RoundedRectangle) -> ConfinedBox
     requires { ⌜ AreaBox b ⌝ }
     ensures { λ r. ⌜ r ≡ BoxRules·confined b ⌝ }
 {
     let rectangle = b.rectangle;
     let corners = b.corners;
-    RoundedRectangle {
+    ConfinedBox {
         rectangle: rectangle,
         corners: corners.confine(rectangle.size),
     }
 }
 
 // The same by the W3C rule.
-pub fn confined_w3c(b: RoundedRectangle) -> RoundedRectangle
+pub fn confined_w3c(b: RoundedRectangle) -> ConfinedBox
     requires { ⌜ AreaBox b ⌝ }
     ensures { λ r. ⌜ r ≡ confinedW3c b ⌝ }
 {
     let rectangle = b.rectangle;
     let corners = b.corners;
-    RoundedRectangle {
+    ConfinedBox {
         rectangle: rectangle,
         corners: corners.confine_w3c(rectangle.size),
     }
@@ -48,10 +49,10 @@ pub fn offset_box(b: RoundedRectangle, k: i32) -> RoundedRectangle
 }
 
 // A W3C box offset: confined, offset like a crate box, and confined again.
-pub fn offset_w3c_box(b: RoundedRectangle, k: i32) -> RoundedRectangle
+pub fn offset_w3c_box(b: RoundedRectangle, k: i32) -> ConfinedBox
     requires { ⌜ OwnBox b ⌝ }
     requires { ⌜ Near wideOffset k ⌝ }
-    ensures { λ r. ⌜ (r ≡ confinedW3c (offsetBox (confinedW3c b) k)) × AreaBox r ⌝ }
+    ensures { λ r. ⌜ (r ≡ offsetW3cBox b k) × ConfinedAreaBox r ⌝ }
 {
-    confined_w3c(offset_box(confined_w3c(b), k))
+    confined_w3c(offset_box(confined_w3c(b).reduced(), k))
 }

@@ -4,7 +4,7 @@
 // checks; those that a host calls are in `figure`.
 use geometry::Point;
 use rectangle::Rectangle;
-use rounded_rectangle::RoundedRectangle;
+use rounded_rectangle::ConfinedBox;
 use scanline::Row;
 
 pub mod box_rules;
@@ -19,7 +19,7 @@ ghost use Rattle.shape.specs.Shape.{rectangle as Shape·rectangle, conta
 // A figure whose radii are confined: what rows and tests go by.
 pub enum Shape {
     Ellipse(Rectangle),
-    RoundedBox(RoundedRectangle),
+    RoundedBox(ConfinedBox),
 }
 
 impl Shape {

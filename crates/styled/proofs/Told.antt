@@ -5,7 +5,7 @@ use mathlib.Core.Logic.{_⊎_, ⊎-elim}
 use Prim.Native.Nat.{ℕ}
 use lib.IntN.{ℤ, pos, negℤ}
 use Rattle.rounded_rectangle.specs.declared.RoundedRectangle.{RoundedRectangle}
-use Rattle.shape.specs.BoxRules.{confined, confinedW3c, offsetBox}
+use Rattle.shape.specs.BoxRules.{crateArea, w3cArea}
 use Rattle.figure.specs.declared.Figure.{Figure}
 use Rattle.figure.specs.declared.Figure.the-variants.{CrateBox, W3cBox}
 use Rattle.figure.specs.Bounds.{OwnBox, OwnFigure}
@@ -25,26 +25,23 @@ own-box f b is own = ⊎-elim (λ e. subst OwnFigure e own) (λ e. subst OwnFigu
 
 module _ (b : RoundedRectangle) (style : Style) (y : ℤ) (r : StraightRow) (outside inside : ℕ)
     (outside-is : outside ≡ outsideStrokeWidth style) (inside-is : inside ≡ insideStrokeWidth style) where
-  crate-told : Told r (boxStyledRow (confined (offsetBox b (pos outside))) (confined (offsetBox b (negℤ (pos inside)))) y)
+  crate-told : Told r (boxStyledRow (crateArea b (pos outside)) (crateArea b (negℤ (pos inside))) y)
       → Told r (styledRow (CrateBox b) style y)
   unfolding styledRowOfShapes
   crate-told =
       subst (Told r)
-      (λ i. boxStyledRow (confined (offsetBox b (pos (outside-is i)))) (confined (offsetBox b (negℤ (pos (inside-is i))))) y)
+      (λ i. boxStyledRow (crateArea b (pos (outside-is i))) (crateArea b (negℤ (pos (inside-is i)))) y)
 
-  w3c-told : Told r (boxStyledRow (confinedW3c (confinedW3c (offsetBox (confinedW3c b) (pos outside))))
-      (confinedW3c (confinedW3c (offsetBox (confinedW3c b) (negℤ (pos inside))))) y)
+  w3c-told : Told r (boxStyledRow (w3cArea b (pos outside)) (w3cArea b (negℤ (pos inside))) y)
       → Told r (styledRow (W3cBox b) style y)
   unfolding styledRowOfShapes
   w3c-told =
       subst (Told r)
-      (λ i. boxStyledRow (confinedW3c (confinedW3c (offsetBox (confinedW3c b) (pos (outside-is i)))))
-      (confinedW3c (confinedW3c (offsetBox (confinedW3c b) (negℤ (pos (inside-is i)))))) y)
+      (λ i. boxStyledRow (w3cArea b (pos (outside-is i))) (w3cArea b (negℤ (pos (inside-is i)))) y)
 
   pub figure-told : (f : Figure) → IsBox f b
-      → Told r (boxStyledRow (confined (offsetBox b (pos outside))) (confined (offsetBox b (negℤ (pos inside)))) y)
-      → Told r (boxStyledRow (confinedW3c (confinedW3c (offsetBox (confinedW3c b) (pos outside))))
-      (confinedW3c (confinedW3c (offsetBox (confinedW3c b) (negℤ (pos inside))))) y)
+      → Told r (boxStyledRow (crateArea b (pos outside)) (crateArea b (negℤ (pos inside))) y)
+      → Told r (boxStyledRow (w3cArea b (pos outside)) (w3cArea b (negℤ (pos inside))) y)
       → Told r (styledRow f style y)
   figure-told f is crate w3c =
       ⊎-elim (λ e. subst (λ (g : Figure). Told r (styledRow g style y)) (sym e) (crate-told crate))

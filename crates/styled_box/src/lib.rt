@@ -4,7 +4,7 @@
 use box_fill::Hints;
 use ellipse_search::ANYWHERE;
 use rectangle::Rectangle;
-use rounded_rectangle::RoundedRectangle;
+use rounded_rectangle::ConfinedBox;
 use rounded_rectangle::RoundedRectangleContains;
 use rounded_rectangle::run_between;
 use scanline::Place;
@@ -14,7 +14,8 @@ ghost use mathlib.Core.Path.{_≡_};
 ghost use Prim.Native.Nat.{_<_};
 ghost use Rattle.signed.specs.Signed.{Near};
 ghost use Rattle.geometry.specs.Bounds.{widePoint};
-ghost use Rattle.figure.specs.Bounds.{AreaBox};
+ghost use Rattle.rounded_rectangle.specs.ConfinedBox.{reducedBox};
+ghost use Rattle.figure.specs.Bounds.{ConfinedAreaBox};
 ghost use Rattle.styled_row.specs.StyledRow.{boxStyledRow};
 ghost use Rattle.styled_box.specs.ReadyBox.{noHints, strokeBox, fillBox, ReadyStyledBox, Alike};
 
@@ -55,10 +56,10 @@ impl RowHints {
 }
 
 impl StyledBox {
-    pub fn new(area: RoundedRectangle, inner: RoundedRectangle) -> StyledBox
-        requires { ⌜ AreaBox area ⌝ }
-        requires { ⌜ AreaBox inner ⌝ }
-        ensures { λ r. ⌜ (strokeBox r ≡ area) × (fillBox r ≡ inner) × ReadyStyledBox r ⌝ }
+    pub fn new(area: ConfinedBox, inner: ConfinedBox) -> StyledBox
+        requires { ⌜ ConfinedAreaBox area ⌝ }
+        requires { ⌜ ConfinedAreaBox inner ⌝ }
+        ensures { λ r. ⌜ (strokeBox r ≡ reducedBox area) × (fillBox r ≡ reducedBox inner) × ReadyStyledBox r ⌝ }
     {
         let stroke_rectangle = area.rectangle;
         let stroke_corners = area.corners;

@@ -12,6 +12,7 @@ use ellipse_styled::hollow_runs;
 use geometry::Size;
 use geometry_range::Range;
 use rectangle::Rectangle;
+use rounded_rectangle::ConfinedBox;
 use rounded_rectangle::RoundedRectangle;
 use rounded_rectangle::RoundedRectangleContains;
 use scanline::Place;
@@ -19,7 +20,6 @@ use scanline::Row;
 use scanline::StyledRow;
 use scanline::StyledRuns;
 use shape::box_rules::confined;
-use shape::box_rules::confined_w3c;
 use shape::box_rules::offset_box;
 use shape::box_rules::offset_w3c_box;
 ghost use mathlib.Core.Path.{_≡_};
@@ -33,12 +33,13 @@ ghost use Rattle.scanline.specs.Places.{findFrom};
 ghost use Rattle.ellipse.specs.Relative.{containsOf, wideDistance};
 ghost use Rattle.ellipse_search.specs.Search.{columnInside};
 ghost use Rattle.rounded_rectangle.specs.Relative.{BoundedBox};
+ghost use Rattle.rounded_rectangle.specs.ConfinedBox.{reducedBox};
 ghost use Rattle.box_fill.specs.BoxFill.{fillRun};
 ghost use Rattle.box_fill.specs.Relative.{NearRun};
 ghost use Rattle.ellipse_styled.specs.EllipseStyled.{aroundFill, ellipseStyledRow};
 ghost use Rattle.ellipse_styled.specs.Relative.{runsFrom};
-ghost use Rattle.shape.specs.BoxRules.{confined as BoxRules·confined, confinedW3c, offsetBox};
-ghost use Rattle.figure.specs.Bounds.{wideOffset, OwnRectangle, OwnBox, AreaBox};
+ghost use Rattle.shape.specs.BoxRules.{crateArea, w3cArea};
+ghost use Rattle.figure.specs.Bounds.{wideOffset, OwnRectangle, OwnBox, ConfinedAreaBox};
 ghost use Rattle.styled_row.specs.StyledRow.{boxStyledRow};
 
 // The stroke area's run around a fill.
@@ -60,11 +61,11 @@ pub fn around_fill(run: Range, fill: Range) -> StyledRuns
 
 // The fill of the row at y of a fill area, where `run` is the stroke area's. Off the fill area's rows
 // there is none.
-fn fill_alone(b: RoundedRectangle, y: i32, run: Range) -> Range
-    requires { ⌜ BoundedBox b ⌝ }
+fn fill_alone(b: ConfinedBox, y: i32, run: Range) -> Range
+    requires { ⌜ BoundedBox (reducedBox b) ⌝ }
     requires { ⌜ Near widePoint y ⌝ }
     requires { ⌜ NearRun run ⌝ }
-    ensures { λ r. ⌜ r ≡ fillRun b y run ⌝ }
+    ensures { λ r. ⌜ r ≡ fillRun (reducedBox b) y run ⌝ }
 {
     let rectangle = b.rectangle;
     let top_left = rectangle.top_left;
@@ -90,11 +91,11 @@ fn fill_alone(b: RoundedRectangle, y: i32, run: Range) -> Range
 }
 
 // The styled row at y of a box with these areas.
-fn box_row(area: RoundedRectangle, fill: RoundedRectangle, y: i32) -> StyledRow
-    requires { ⌜ AreaBox area ⌝ }
-    requires { ⌜ AreaBox fill ⌝ }
+fn box_row(area: ConfinedBox, fill: ConfinedBox, y: i32) -> StyledRow
+    requires { ⌜ ConfinedAreaBox area ⌝ }
+    requires { ⌜ ConfinedAreaBox fill ⌝ }
     requires { ⌜ Near widePoint y ⌝ }
-    ensures { λ r. ⌜ r ≡ boxStyledRow area fill y ⌝ }
+    ensures { λ r. ⌜ r ≡ boxStyledRow (reducedBox area) (reducedBox fill) y ⌝ }
 {
     let Row::Run(run) = area.row(y) else {
         return StyledRow::NoRow;
@@ -156,22 +157,21 @@ pub fn crate_row_at(b: RoundedRectangle, outward: i32, inward: i32, y: i32) -> S
     requires { ⌜ OwnBox b ⌝ }
     requires { ⌜ Near wideOffset outward × Near wideOffset inward ⌝ }
     requires { ⌜ Near widePoint y ⌝ }
-    ensures { λ r. ⌜ r ≡ boxStyledRow (BoxRules·confined (offsetBox b outward)) (BoxRules·confined (offsetBox b inward)) y ⌝ }
+    ensures { λ r. ⌜ r ≡ boxStyledRow (crateArea b outward) (crateArea b inward) y ⌝ }
 {
     let area = confined(offset_box(b, outward));
     let inner = confined(offset_box(b, inward));
     box_row(area, inner, y)
 }
 
-// The same of a W3C box.
+// The same of a W3C box. Its offset has confined it, and confining it again would change no radius.
 pub fn w3c_row_at(b: RoundedRectangle, outward: i32, inward: i32, y: i32) -> StyledRow
     requires { ⌜ OwnBox b ⌝ }
     requires { ⌜ Near wideOffset outward × Near wideOffset inward ⌝ }
     requires { ⌜ Near widePoint y ⌝ }
-    ensures { λ r. ⌜ r ≡ boxStyledRow (confinedW3c (confinedW3c (offsetBox (confinedW3c b) outward)))
-        (confinedW3c (confinedW3c (offsetBox (confinedW3c b) inward))) y ⌝ }
+    ensures { λ r. ⌜ r ≡ boxStyledRow (w3cArea b outward) (w3cArea b inward) y ⌝ }
 {
-    let area = confined_w3c(offset_w3c_box(b, outward));
-    let inner = confined_w3c(offset_w3c_box(b, inward));
+    let area = offset_w3c_box(b, outward);
+    let inner = offset_w3c_box(b, inward);
     box_row(area, inner, y)
 }

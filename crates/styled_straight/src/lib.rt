@@ -18,7 +18,7 @@ ghost use Rattle.signed.specs.Signed.{Near};
 ghost use Rattle.geometry.specs.Bounds.{widePoint};
 ghost use Rattle.corner_radii.specs.declared.CornerRadii.{CornerRadii};
 ghost use Rattle.shape.specs.BoxBounds.{wideOffset, OwnBox, AreaRectangle};
-ghost use Rattle.shape.specs.BoxRules.{confined, confinedW3c, offsetBox};
+ghost use Rattle.shape.specs.BoxRules.{crateArea, w3cArea};
 ghost use Rattle.styled_row.specs.StyledRow.{boxStyledRow};
 ghost use Rattle.styled_straight.specs.StraightRow.{boxWith, Reach, Told};
 
@@ -90,9 +90,8 @@ pub fn straight_row(b: RoundedRectangle, outside: u32, inside: u32, y: i32) -> S
     requires { ⌜ OwnBox b ⌝ }
     requires { ⌜ (outside ≤ wideOffset) × (inside ≤ wideOffset) ⌝ }
     requires { ⌜ Near widePoint y ⌝ }
-    ensures { λ r. ⌜ Told r (boxStyledRow (confined (offsetBox b (pos outside))) (confined (offsetBox b (negℤ (pos inside)))) y) ⌝ }
-    ensures { λ r. ⌜ Told r (boxStyledRow (confinedW3c (confinedW3c (offsetBox (confinedW3c b) (pos outside))))
-        (confinedW3c (confinedW3c (offsetBox (confinedW3c b) (negℤ (pos inside))))) y) ⌝ }
+    ensures { λ r. ⌜ Told r (boxStyledRow (crateArea b (pos outside)) (crateArea b (negℤ (pos inside))) y) ⌝ }
+    ensures { λ r. ⌜ Told r (boxStyledRow (w3cArea b (pos outside)) (w3cArea b (negℤ (pos inside))) y) ⌝ }
 {
     let rectangle = b.rectangle;
     let corners = b.corners;

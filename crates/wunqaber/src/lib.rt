@@ -47,7 +47,7 @@ pub extern "C" fn wunqaber_offset(figure: &[i32], k: i32, out: &mut [i32]) -> u3
     host_figures::offset(figure, k, out)
 }
 
-// The radii as confined to the box. Refused by 1, 2, 3 and 13.
+// The radii as confined to the box, with L and S. Refused by 1, 2, 3 and 13.
 #[no_mangle]
 pub extern "C" fn wunqaber_confined_radii(figure: &[i32], out: &mut [i32]) -> u32
     ensures { λ r. ⌜ Tells (confinedRadiiSaid (now (figure .entry))) (now (out .entry)) r (now (out .exit)) ⌝ }

@@ -48,11 +48,11 @@ number-requires c κs = search needs
 enum-told : tie.Need-enum-told
 enum-told c = search needs
 
-enum-known-corners : tie.Need-enum-known-corners
-enum-known-corners c = search needs
+enum-known-confined : tie.Need-enum-known-confined
+enum-known-confined c = search needs
 
-put-radii-requires : tie.Need-put-radii-requires
-put-radii-requires c κs = search needs
+put-confined-radii-requires : tie.Need-put-confined-radii-requires
+put-confined-radii-requires c κs = search needs
 
 returns-2 : tie.Need-returns-2
 returns-2 c =
@@ -73,10 +73,10 @@ same-length c = search needs
 
 returns-4 : tie.Need-returns-4
 returns-4 c =
-    let at-corners = c .before .before .before .before .corners in
+    let at-confined = c .before .before .before .before .confined in
     rw (is-one (c .before .before .before .before .before .before .before .before))
-    (tells-as (sym (ap (λ (a : RadiiAnswer). radiiOutcome a) (at-corners .given .1)) ∙ says
-    (c .before .before .before .before .before .before)) (c .before .put-radii .ensures))
+    (tells-as (sym (ap (λ (a : RadiiAnswer). radiiOutcome a) (at-confined .given .1)) ∙ says
+    (c .before .before .before .before .before .before)) (c .before .put-confined-radii .ensures))
 
 pub confined-radii-spec : {M : Type 1} → statement M
 confined-radii-spec =
@@ -89,8 +89,8 @@ confined-radii-spec =
     enum-known-refusal
     number-requires
     enum-told
-    enum-known-corners
-    put-radii-requires
+    enum-known-confined
+    put-confined-radii-requires
     returns-2
     returns-3
     same-length

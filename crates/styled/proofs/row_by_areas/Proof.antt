@@ -13,7 +13,7 @@ use Rattle.signed.specs.Signed.{Near}
 use Rattle.signed.proofs.Laws.{int, positive-of-opposite, negative-of-opposite}
 use Rattle.rectangle.specs.Rectangle.{offset as Rectangle·offset}
 use Rattle.ellipse_styled.specs.EllipseStyled.{ellipseStyledRow}
-use Rattle.shape.specs.BoxRules.{confined, confinedW3c, offsetBox}
+use Rattle.shape.specs.BoxRules.{crateArea, w3cArea}
 use Rattle.figure.specs.declared.Figure.{Figure}
 use Rattle.figure.specs.Bounds.{wideOffset, OwnFigure}
 use Rattle.styled_row.specs.StyledRow.{boxStyledRow, styledRowOfShapes}
@@ -164,8 +164,8 @@ returns-2 c =
     let figure = c .before .before .figure2 .given in
     let args = start after .args in
     c .crate-row-at .ensures
-    ∙ (λ i. boxStyledRow (confined (offsetBox (figure .0 .0) (outward-held after i)))
-    (confined (offsetBox (figure .0 .0) (inward-held after i))) (toZ-ofZ (start after .pre .1 .1 .fits) i))
+    ∙ (λ i. boxStyledRow (crateArea (figure .0 .0) (outward-held after i))
+    (crateArea (figure .0 .0) (inward-held after i)) (toZ-ofZ (start after .pre .1 .1 .fits) i))
     ∙ ap (λ (f : Figure). styledRow f (args .style) (args .y)) (sym (figure .1))
 
 returns-3 : tie.Need-returns-3
@@ -175,8 +175,7 @@ returns-3 c =
     let figure = c .before .before .figure3 .given in
     let args = start after .args in
     c .w3c-row-at .ensures
-    ∙ (λ i. boxStyledRow (confinedW3c (confinedW3c (offsetBox (confinedW3c (figure .0 .0)) (outward-held after i))))
-    (confinedW3c (confinedW3c (offsetBox (confinedW3c (figure .0 .0)) (inward-held after i))))
+    ∙ (λ i. boxStyledRow (w3cArea (figure .0 .0) (outward-held after i)) (w3cArea (figure .0 .0) (inward-held after i))
     (toZ-ofZ (start after .pre .1 .1 .fits) i))
     ∙ ap (λ (f : Figure). styledRow f (args .style) (args .y)) (sym (figure .1))
 

@@ -8,8 +8,7 @@ use mir.Facts.{toZ-ofZ}
 use Rattle.scanline.specs.declared.Row.{Row}
 use Rattle.scanline.specs.declared.StyledRow.the-variants.{Runs}
 use Rattle.scanline.specs.Points.{RowWithin}
-use Rattle.rounded_rectangle.specs.RoundedRectangle.{row as RoundedRectangle·row}
-use Rattle.rounded_rectangle.specs.Quadrants.{left, width}
+use Rattle.rounded_rectangle.specs.ConfinedBox.{reducedBox, row as ConfinedBox·row}
 use Rattle.box_fill.specs.BoxFill.{fillRun}
 use Rattle.ellipse_styled.specs.EllipseStyled.{aroundFill, styledBy}
 use Rattle.figure.proofs.Within.{area-box-bounded}
@@ -19,8 +18,8 @@ use Rattle.styled_row.proofs.box_row.Statement.{statement}
 use Rattle.styled_row.proofs.box_row.Tie as tie
 
 -- the stroke area's row is the definition's
-row-is : (c : tie.After-row) (told : Row) → c .row .result ≡ told → told ≡ RoundedRectangle·row (c .before .args .area) (c .before .args .y)
-row-is c told is = sym is ∙ c .row .ensures .0 ∙ ap (RoundedRectangle·row (c .before .args .area)) (toZ-ofZ (c .before .pre .1 .1 .fits))
+row-is : (c : tie.After-row) (told : Row) → c .row .result ≡ told → told ≡ ConfinedBox·row (c .before .args .area) (c .before .args .y)
+row-is c told is = sym is ∙ c .row .ensures .0 ∙ ap (ConfinedBox·row (c .before .args .area)) (toZ-ofZ (c .before .pre .1 .1 .fits))
 
 row-requires : tie.Need-row-requires
 row-requires c κs = search needs
@@ -36,7 +35,8 @@ returns : tie.Need-returns
 unfolding boxStyledRow
 returns c =
     let args = c .before .before .before .args in
-    ap (λ (r : Row). styledBy r (fillRun (args .fill) (args .y))) (row-is (c .before .before) _ (c .enum-told .given .1))
+    let fill = reducedBox (args .fill) in
+    ap (λ (r : Row). styledBy r (fillRun fill (args .y))) (row-is (c .before .before) _ (c .enum-told .given .1))
 
 fill-alone-requires : tie.Need-fill-alone-requires
 fill-alone-requires c κs =
@@ -44,7 +44,8 @@ fill-alone-requires c κs =
     let entry = c .before .before .before .before in
     let area = entry .pre .0 .rectangle in
     let near = entry .pre .1 .1 in
-    let ends = subst (RowWithin (left (entry .args .area)) (width (entry .args .area))) (c .before .run .given .1) (at-row .ensures .1) in (
+    let r = entry .args .area .rectangle in
+    let ends = subst (RowWithin (r .«top_left» .x) (r .size .width)) (c .before .run .given .1) (at-row .ensures .1) in (
       area-box-bounded _ (entry .pre .1 .0),
       (
         rw (toZ-ofZ (near .fits)) near,
@@ -65,9 +66,10 @@ returns-2 c =
     let entry = c .before .before .before .before .before .before in
     let args = entry .args in
     let run = c .before .before .before .run .given in
+    let fill = reducedBox (args .fill) in
     ap Runs (c .around-fill .ensures ∙ ap (aroundFill (run .0 .0))
-    (c .before .fill-alone .ensures ∙ ap (λ (z : ℤ). fillRun (args .fill) z (run .0 .0)) (toZ-ofZ (entry .pre .1 .1 .fits))))
-    ∙ ap (λ (r : Row). styledBy r (fillRun (args .fill) (args .y))) (row-is (c .before .before .before .before .before) _ (run .1))
+    (c .before .fill-alone .ensures ∙ ap (λ (z : ℤ). fillRun fill z (run .0 .0)) (toZ-ofZ (entry .pre .1 .1 .fits))))
+    ∙ ap (λ (r : Row). styledBy r (fillRun fill (args .y))) (row-is (c .before .before .before .before .before) _ (run .1))
 
 pub box-row-spec : {M : Type 1} → statement M
 box-row-spec =

@@ -3,8 +3,9 @@
 use borrow.Author.Needs.{needs}
 use mathlib.Core.Path.{_≡_, sym, ap, subst, _∙_}
 use mir.Facts.{toZ-ofZ}
+use Rattle.rounded_rectangle.specs.ConfinedBox.{reducedBox}
 use Rattle.shape.specs.BoxRules.{confined, offsetBox}
-use Rattle.figure.specs.Bounds.{AreaBox}
+use Rattle.figure.specs.Bounds.{AreaBox, ConfinedAreaBox}
 use Rattle.figure.proofs.Within.{offset-box-bounded, confined-bounded}
 use Rattle.styled_row.specs.StyledRow.{boxStyledRow}
 use Rattle.styled_row.proofs.crate_row_at.Statement.{statement}
@@ -45,10 +46,10 @@ confined-requires-2 c κs = inner-bounded c
 box-row-requires : tie.Need-box-row-requires
 box-row-requires c κs =
     let near = start (c .before) .pre .1 .1 in (
-      subst AreaBox (sym (c .before .before .confined .ensures))
+      subst ConfinedAreaBox (sym (c .before .before .confined .ensures))
           (confined-bounded _ (outer-bounded (c .before .before .before))),
       (
-        subst AreaBox (sym (c .confined2 .ensures)) (confined-bounded _ (inner-bounded (c .before))),
+        subst ConfinedAreaBox (sym (c .confined2 .ensures)) (confined-bounded _ (inner-bounded (c .before))),
         rw
             (toZ-ofZ (near .fits)) near,
       ),
@@ -59,8 +60,8 @@ returns c =
     let made = c .before in
     c .box-row .ensures
     ∙ (λ i.
-    boxStyledRow ((made .before .before .confined .ensures ∙ ap confined (outer-is (made .before .before .before))) i)
-    ((made .confined2 .ensures ∙ ap confined (inner-is (made .before))) i)
+    boxStyledRow (reducedBox ((made .before .before .confined .ensures ∙ ap confined (outer-is (made .before .before .before))) i))
+    (reducedBox ((made .confined2 .ensures ∙ ap confined (inner-is (made .before))) i))
     (toZ-ofZ (start (made .before) .pre .1 .1 .fits) i))
 
 pub crate-row-at-spec : {M : Type 1} → statement M

@@ -12,6 +12,7 @@ use Rattle.scanline.specs.declared.Place.the-variants.{At}
 use Rattle.scanline.specs.Places.{Placed}
 use Rattle.scanline.proofs.Placed.{placed-told}
 use Rattle.rounded_rectangle.specs.Quadrants.{top, height}
+use Rattle.rounded_rectangle.specs.ConfinedBox.{reducedBox}
 use Rattle.box_fill.specs.Relative.{rowFill}
 use Rattle.box_fill.proofs.Rows.{fill-off-rows, fill-relative}
 use Rattle.styled_row.proofs.fill_alone.Statement.{statement}
@@ -22,7 +23,7 @@ abbrev entry : tie.After-place-of → tie.Start
 entry c = c .before .before .before .before .before
 
 row-place : (c : tie.After-place-of) (told : Place) → c .place-of .result ≡ told
-    → Placed (top (entry c .args .b)) (height (entry c .args .b)) (entry c .args .y) told
+    → Placed (top (reducedBox (entry c .args .b))) (height (reducedBox (entry c .args .b))) (entry c .args .y) told
 row-place c told is = placed-told _ _ _ (entry c .pre .0 .at .y .fits) (entry c .pre .1 .0 .fits) (c .place-of .ensures) is
 
 place-of-requires : tie.Need-place-of-requires
@@ -44,7 +45,8 @@ returns c =
     let after = c .before .before .before in
     let args = entry after .args in
     let end = toZ-ofZ (entry after .pre .1 .1 .end .fits) in
-    range-by-fields end end ∙ fill-off-rows (args .b) (args .y) (args .run) (row-place after _ (c .before .enum-told .given .1))
+    range-by-fields end end
+    ∙ fill-off-rows (reducedBox (args .b)) (args .y) (args .run) (row-place after _ (c .before .enum-told .given .1))
 
 new-requires : tie.Need-new-requires
 new-requires c κs = search needs
@@ -73,7 +75,7 @@ returns-2 c =
     let args = entry after .args in
     c .before .row-fill .ensures
     ∙ (λ i. rowFill (made .1 i) (made .0 i) (toZ-ofZ (entry after .pre .0 .at .x .fits) i) (dy .0 .0) (args .run))
-    ∙ fill-relative (args .b) (args .y) (args .run) (dy .0 .0) (row-place after (At (dy .0 .0)) (dy .1))
+    ∙ fill-relative (reducedBox (args .b)) (args .y) (args .run) (dy .0 .0) (row-place after (At (dy .0 .0)) (dy .1))
 
 pub fill-alone-spec : {M : Type 1} → statement M
 fill-alone-spec =

@@ -2,12 +2,13 @@
 -- callee carry the bounds.
 -- Assumes nothing.
 use mathlib.Core.Path.{ap, sym, subst, _∙_}
-use lib.IntN.{ℤ}
 use mir.Facts.{toZ-ofZ}
 use Rattle.rectangle.specs.Rectangle.{offset as Rectangle·offset}
 use Rattle.figure.specs.declared.Figure.the-variants.{Ellipse, CrateBox, W3cBox}
 use Rattle.figure.specs.Bounds.{OwnFigure, AreaRectangle, AreaBox}
-use Rattle.figure.specs.Figure.{confinedW3c, offsetBox}
+use Rattle.rounded_rectangle.specs.declared.ConfinedBox.{ConfinedBox}
+use Rattle.rounded_rectangle.specs.ConfinedBox.{reducedBox}
+use Rattle.figure.specs.Figure.{offsetBox, offsetW3cBox}
 use Rattle.figure.proofs.Within.{own-area, area-bounded, offset-area, offset-box-bounded}
 use borrow.Author.Needs.{needs}
 use native.Mathlib.Omega.{arith}
@@ -42,6 +43,9 @@ offset-w3c-box-requires c κs =
     let near = entry .pre .1 in
     (subst OwnFigure (c .before .self3 .given .1) (entry .pre .0), omega (arith, int))
 
+reduced-requires : tie.Need-reduced-requires
+reduced-requires c κs = search needs
+
 returns : tie.Need-returns
 returns c =
     let entry = c .before .before .before .before in
@@ -64,10 +68,13 @@ returns-2 c =
 
 returns-3 : tie.Need-returns-3
 returns-3 c =
-    let entry = c .before .before .before .before in
-    let b = c .before .before .self3 .given .0 .0 in
-    let is = c .offset-w3c-box .ensures .0 ∙ ap (λ (k : ℤ). confinedW3c (offsetBox (confinedW3c b) k)) (toZ-ofZ (entry .fits .k)) in
-    (rw (c .before .before .self3 .given .1) (ap W3cBox is), c .offset-w3c-box .ensures .1)
+    let entry = c .before .before .before .before .before in
+    let b = c .before .before .before .self3 .given .0 .0 in
+    let made = c .before .offset-w3c-box .ensures in
+    let is = made .0 ∙ ap (offsetW3cBox b) (toZ-ofZ (entry .fits .k)) in (
+      rw (c .before .before .before .self3 .given .1) (ap W3cBox (c .reduced .ensures ∙ ap (λ (q : ConfinedBox). reducedBox q) is)),
+      subst AreaBox (sym (c .reduced .ensures)) (made .1),
+    )
 
 pub offset-by-spec : {M : Type 1} → statement M
 offset-by-spec =
@@ -79,6 +86,7 @@ offset-by-spec =
     offset-box-requires
     enum-known-self-3
     offset-w3c-box-requires
+    reduced-requires
     returns
     returns-2
     returns-3)

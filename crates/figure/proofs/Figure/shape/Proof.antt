@@ -2,7 +2,7 @@
 -- Assumes nothing.
 use mathlib.Core.Path.{ap, sym, subst}
 use Rattle.shape.specs.declared.Shape.the-variants.{RoundedBox}
-use Rattle.figure.specs.Bounds.{BoundedFigure, AreaBox}
+use Rattle.figure.specs.Bounds.{BoundedFigure, ConfinedAreaBox}
 use Rattle.figure.proofs.Within.{confined-bounded, confined-w3c-bounded}
 use borrow.Author.Needs.{needs}
 use Rattle.figure.proofs.Figure.shape.Statement.{statement}
@@ -30,14 +30,15 @@ returns-2 : tie.Need-returns-2
 returns-2 c =
     let at-pre = c .before .before .before .before .pre in (
       rw (c .before .before .self2 .given .1) (ap RoundedBox (c .confined .ensures)),
-      subst AreaBox (sym (c .confined .ensures)) (confined-bounded _ (subst BoundedFigure (c .before .before .self2 .given .1) (at-pre))),
+      subst ConfinedAreaBox (sym (c .confined .ensures))
+          (confined-bounded _ (subst BoundedFigure (c .before .before .self2 .given .1) (at-pre))),
     )
 
 returns-3 : tie.Need-returns-3
 returns-3 c =
     let at-pre = c .before .before .before .before .pre in (
       rw (c .before .before .self3 .given .1) (ap RoundedBox (c .confined-w3c .ensures)),
-      subst AreaBox (sym (c .confined-w3c .ensures))
+      subst ConfinedAreaBox (sym (c .confined-w3c .ensures))
           (confined-w3c-bounded _ (subst BoundedFigure (c .before .before .self3 .given .1) (at-pre))),
     )
 

@@ -21,7 +21,7 @@ new-requires-4 c κs = search needs
 returns : tie.Need-returns
 returns c =
     let at-new = c .before .before .before .new in
-    let entry = c .before .before .before .before in (
+    let entry = c .before .before .before .before .before in (
       refl,
       corner-radii-by-fields (at-new .ensures .0) (c .before .before .new2 .ensures .0) (c .before .new3 .ensures .0) (c .new4 .ensures .0),
       record {

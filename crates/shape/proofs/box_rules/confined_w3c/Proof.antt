@@ -2,7 +2,7 @@
 -- Assumes nothing.
 use mathlib.Core.Path.{refl}
 use Rattle.shape.specs.BoxRules.{confinedW3c}
-use Rattle.shape.proofs.Fields.{box-by-fields}
+use Rattle.shape.proofs.Fields.{confined-box-by-fields}
 use borrow.Author.Needs.{needs}
 use Rattle.shape.proofs.box_rules.confined_w3c.Statement.{statement}
 use Rattle.shape.proofs.box_rules.confined_w3c.Tie as tie
@@ -12,7 +12,7 @@ confine-w3c-requires c κs = search needs
 
 returns : tie.Need-returns
 unfolding confinedW3c
-returns c = box-by-fields refl (c .confine-w3c .ensures)
+returns c = confined-box-by-fields refl (c .confine-w3c .ensures)
 
 pub confined-w3c-spec : {M : Type 1} → statement M
 confined-w3c-spec = tie.close (tie.spec confine-w3c-requires returns)

@@ -1,4 +1,4 @@
--- `rounded_rectangle::RoundedRectangle::row` meets its contract: the place of the asked row says which case of `row` holds.
+-- `rounded_rectangle::ConfinedBox::row` meets its contract: the place of the asked row says which case of `row` holds.
 -- Assumes nothing.
 use mathlib.Core.Path.{sym, ap, subst, _∙_}
 use Prim.Native.Nat.{_≤_, _<_}
@@ -14,8 +14,8 @@ use Rattle.rounded_rectangle.proofs.Rows.{row-out, row-placed, between-
 use borrow.Author.Needs.{needs}
 use native.Mathlib.Omega.{arith}
 use Rattle.signed.proofs.Laws.{int}
-use Rattle.rounded_rectangle.proofs.RoundedRectangle.row.Statement.{statement}
-use Rattle.rounded_rectangle.proofs.RoundedRectangle.row.Tie as tie
+use Rattle.rounded_rectangle.proofs.ConfinedBox.row.Statement.{statement}
+use Rattle.rounded_rectangle.proofs.ConfinedBox.row.Tie as tie
 
 abbrev start-corners : tie.After-corners → tie.Start
 start-corners c = c .before .before .before .before .before .before .before .before .before

@@ -1,4 +1,4 @@
--- `rounded_rectangle::RoundedRectangle::contains` meets its contract: the places of the asked column and row say which case of
+-- `rounded_rectangle::ConfinedBox::contains` meets its contract: the places of the asked column and row say which case of
 -- `contains` holds.
 -- Assumes nothing.
 use mathlib.Core.Path.{sym, subst, _∙_}
@@ -12,8 +12,8 @@ use Rattle.rounded_rectangle.proofs.Contains.{contains-no-column, conta
 use borrow.Author.Needs.{needs}
 use native.Mathlib.Omega.{arith}
 use Rattle.signed.proofs.Laws.{int}
-use Rattle.rounded_rectangle.proofs.RoundedRectangle.contains.Statement.{statement}
-use Rattle.rounded_rectangle.proofs.RoundedRectangle.contains.Tie as tie
+use Rattle.rounded_rectangle.proofs.ConfinedBox.contains.Statement.{statement}
+use Rattle.rounded_rectangle.proofs.ConfinedBox.contains.Tie as tie
 
 abbrev start-corners : tie.After-corners → tie.Start
 start-corners c =
