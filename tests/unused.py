@@ -17,7 +17,7 @@ FOR_READERS = {
     'checked-drawings', 'own-drawings',  # the checked drawings of the scope, and our own
     'sheet-rules-kept', 'host-demand3', 'sheet-comes-to-the-same',  # README, 'What is proved'
     'add-told-seven', 'paint-told-seven',  # docs/ARCHITECTURE.md, 'Where the demands are stated'
-    'most-over-largest',  # the crate rule's edge is one whose radii overlap most
+    'area-is-offset',  # an area has the rows of the figure that an offset call gives
     'w3c-within-box',  # under the W3C's rule no corner is larger than the box
     'rows-all-inside',  # the first row decides for all rows of an ellipse
     'length-decimal-least',  # every number has a digit

@@ -1,6 +1,7 @@
 -- The edge that decides the crate rule is the one with the largest overlap of the four.
 -- Assumes nothing.
-use mathlib.Core.Path.{_≡_, subst}
+use mathlib.Core.Path.{_≡_, refl, subst}
+use mathlib.Core.Logic.{inl, inr}
 use Prim.Native.Nat.{_≤_, _<_}
 use native.Mathlib.Nat.{le-refl, le-trans}
 use native.Mathlib.Decide.{decLe}
@@ -8,7 +9,7 @@ use native.Mathlib.Omega.{arith}
 use borrow.Author.Tests.{lt-ltb, le-ltb}
 use Rattle.corner.specs.declared.edge.Edge.{Edge}
 use Rattle.corner.specs.declared.edge.Edges.{Edges}
-use Rattle.corner.specs.Edge.{S, L, overlap, furtherOver, mostOver, FitsEdges}
+use Rattle.corner.specs.Edge.{S, L, IsEdge, overlap, furtherOver, mostOver, FitsEdges}
 
 module _ (first next : Edge) where
   -- the arms of `furtherOver`
@@ -39,8 +40,12 @@ module _ (first next : Edge) where
   next-not-further : overlap next ≤ overlap (furtherOver first next)
   next-not-further = further-over-by-arms (λ e. overlap next ≤ overlap e) (λ l. le-refl _) (λ l. l)
 
+  -- and what holds of both holds of it
+  further-over-either : (Q : Edge → Type 0) → Q first → Q next → Q (furtherOver first next)
+  further-over-either Q f n = further-over-by-arms Q (λ _. n) (λ _. f)
+
   further-over-fits : S first ≤ L first → S next ≤ L next → S (furtherOver first next) ≤ L (furtherOver first next)
-  further-over-fits f n = further-over-by-arms (λ e. S e ≤ L e) (λ _. n) (λ _. f)
+  further-over-fits f n = further-over-either (λ e. S e ≤ L e) f n
 
 -- no edge has a larger S − L than the one that decides
 pub record LargestOverlap (e : Edge) (es : Edges) : Type 0 where
@@ -83,3 +88,10 @@ fits-by-most-over es l =
     let bottom = b .bottom in
     let left = b .left in
     record { top = omega arith; right = omega arith; bottom = omega arith; left = omega arith }
+
+-- it is one of the four
+pub most-over-is-edge : (es : Edges) → IsEdge (mostOver es) es
+most-over-is-edge es =
+    let two = further-over-either (es .top) (es .right) (λ e. IsEdge e es) (inl refl) (inr (inl refl)) in
+    let three = further-over-either _ (es .bottom) (λ e. IsEdge e es) two (inr (inr (inl refl))) in
+    further-over-either _ (es .left) (λ e. IsEdge e es) three (inr (inr (inr refl)))

@@ -1,6 +1,7 @@
 -- The edge that decides the W3C rule: no edge has a smaller L / S than the tightest, so it overlaps where some edge does.
 -- Assumes nothing.
 use mathlib.Core.Path.{_≡_, refl, sym, ap, subst}
+use mathlib.Core.Logic.{inl, inr}
 use mathlib.Core.Bool.{Bool, true, false, _||_, true≢false}
 use Prim.Native.Nat.{ℕ, _*_, _≤_, _<_}
 use native.Mathlib.Nat.{le-refl, le-of-lt, mul-comm, mul-le-mul-left, mul-le-mul-right, mul-right-comm, le-of-mul-le-mul-right, mul-lt-mul-of-pos-right}
@@ -9,7 +10,7 @@ use native.Mathlib.Omega.{arith}
 use borrow.Author.Tests.{lt-ltb, le-ltb, ltb-false, eq-eqb, ne-eqb}
 use Rattle.corner.specs.declared.edge.Edge.{Edge}
 use Rattle.corner.specs.declared.edge.Edges.{Edges}
-use Rattle.corner.specs.Edge.{S, L, over, tighter, tightest, someOver, FitsEdges}
+use Rattle.corner.specs.Edge.{S, L, IsEdge, over, tighter, tightest, someOver, FitsEdges}
 
 -- ---- the arms of `tighter`
 module _ (first next : Edge) where
@@ -98,9 +99,12 @@ module _ (first next : Edge) where
       none z (yes l) = omega arith
       none z (no l) = absurd (omega (arith, b .radii (omega arith)))
 
+  -- what holds of both holds of it
+  tighter-either : (Q : Edge → Type 0) → Q first → Q next → Q (tighter first next)
+  tighter-either Q f n = tighter-by-arms first next Q (λ _. f) (λ _ _. n) (λ _ _ _. n) (λ _ _ _. f)
+
   tighter-fits : S first ≤ L first → S next ≤ L next → S (tighter first next) ≤ L (tighter first next)
-  tighter-fits f n =
-      tighter-by-arms first next (λ e. S e ≤ L e) (λ _. f) (λ _ _. n) (λ _ _ _. n) (λ _ _ _. f)
+  tighter-fits f n = tighter-either (λ e. S e ≤ L e) f n
 
 -- where an edge fits, each with a larger ratio fits
 ratio-fits : {e f : Edge} → RatioAtMost e f → S e ≤ L e → S f ≤ L f
@@ -140,6 +144,13 @@ tightest-smallest es =
 
     of-three : (f : Edge) → RatioAtMost three f → RatioAtMost (tightest es) f
     of-three = tighter-at-most three (es .left)
+
+-- the tightest is one of the four
+pub tightest-is-edge : (es : Edges) → IsEdge (tightest es) es
+tightest-is-edge es =
+    let two = tighter-either (es .top) (es .right) (λ e. IsEdge e es) (inl refl) (inr (inl refl)) in
+    let three = tighter-either _ (es .bottom) (λ e. IsEdge e es) two (inr (inr (inl refl))) in
+    tighter-either _ (es .left) (λ e. IsEdge e es) three (inr (inr (inr refl)))
 
 -- ---- some S > L, asked of the tightest edge alone
 neither-left : (a b : Bool) → a || b ≡ false → a ≡ false

@@ -1,5 +1,7 @@
 -- Document 01, 'Corners': the edges of a box, and the edge that decides each rule (`corner_radii.rs`).
 -- Assumes nothing.
+use mathlib.Core.Path.{_≡_}
+use mathlib.Core.Logic.{_⊎_}
 use mathlib.Core.Bool.{Bool, cond, _&&_, _||_}
 use Prim.Native.Nat.{ℕ, _-_, _*_, _≤_}
 use lib.Dec.{ltb, eqb}
@@ -8,10 +10,14 @@ use Rattle.corner.specs.declared.edge.Edges.{Edges}
 
 -- S is the sum of the two radii along an edge, L its length
 abbrev pub S : Edge → ℕ
-S e = e .radii
+S e = e .sum
 
 abbrev pub L : Edge → ℕ
 L e = e .length
+
+-- an edge of the four
+abbrev pub IsEdge : Edge → Edges → Type 0
+IsEdge e es = (e ≡ es .top) ⊎ ((e ≡ es .right) ⊎ ((e ≡ es .bottom) ⊎ (e ≡ es .left)))
 
 -- S > L
 abbrev pub over : Edge → Bool

@@ -16,7 +16,7 @@ wideStrokeSide = 4608
 
 -- an edge of a box within these bounds
 pub record BoundedEdge (e : Edge) : Type 0 where
-  pub radii : e .radii ≤ 2 * wideRadius
+  pub sum : e .sum ≤ 2 * wideRadius
   pub length : e .length ≤ wideStrokeSide
 
 pub record BoundedEdges (e : Edges) : Type 0 where

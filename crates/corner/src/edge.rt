@@ -6,7 +6,7 @@ ghost use Rattle.corner.specs.Edge.{overlap as Edge·overlap, furtherOve
 
 // An edge of a box: the sum of the two radii along it, S, and its length, L.
 pub struct Edge {
-    pub radii: u32,
+    pub sum: u32,
     pub length: u32,
 }
 
@@ -22,8 +22,8 @@ pub struct Edges {
 fn overlap(edge: Edge) -> u32
     ensures { λ r. ⌜ r ≡ Edge·overlap edge ⌝ }
 {
-    if edge.length < edge.radii {
-        edge.radii - edge.length
+    if edge.length < edge.sum {
+        edge.sum - edge.length
     } else {
         0
     }
@@ -51,13 +51,13 @@ fn tighter(first: Edge, next: Edge) -> Edge
     ensures { λ r. ⌜ r ≡ Edge·tighter first next ⌝ }
     ensures { λ r. ⌜ BoundedEdge r ⌝ }
 {
-    if next.radii == 0 {
+    if next.sum == 0 {
         return first;
     }
-    if first.radii == 0 {
+    if first.sum == 0 {
         return next;
     }
-    if next.length * first.radii < first.length * next.radii {
+    if next.length * first.sum < first.length * next.sum {
         next
     } else {
         first

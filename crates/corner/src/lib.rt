@@ -17,12 +17,12 @@ ghost use Rattle.corner.specs.Corner.{offsetRadius, offsetCorner, scaled
 pub fn scale_corner(radius: Size, edge: Edge) -> Size
     requires { ⌜ SizeUpTo wideRadius radius ⌝ }
     requires { ⌜ BoundedEdge edge ⌝ }
-    requires { ⌜ 0 < edge .radii ⌝ }
-    ensures { λ r. ⌜ r ≡ scaledCorner (edge .length) (edge .radii) radius ⌝ }
+    requires { ⌜ 0 < edge .sum ⌝ }
+    ensures { λ r. ⌜ r ≡ scaledCorner (edge .length) (edge .sum) radius ⌝ }
 {
     Size {
-        width: radius.width * edge.length / edge.radii,
-        height: radius.height * edge.length / edge.radii,
+        width: radius.width * edge.length / edge.sum,
+        height: radius.height * edge.length / edge.sum,
     }
 }
 

@@ -13,7 +13,7 @@ use Rattle.corner.specs.Corner.{offsetRadius, offsetCorner}
 use Rattle.corner.proofs.Offset.{offset-radius-by-parts}
 use Rattle.corner_radii.specs.Bounds.{RadiiUpTo, SizeWithin, RadiiWithin}
 use Rattle.corner_radii.specs.CornerRadii.{equalRadii, eachCorner, offset, confine, confineW3c}
-use Rattle.corner_radii.proofs.W3cRule.{w3c-fits-edges}
+use Rattle.corner_radii.proofs.Rules.{w3c-fits-edges}
 use Rattle.corner_radii.proofs.Fraction.{fractions, fraction-within}
 
 -- ---- changes made at each corner

@@ -64,7 +64,8 @@ cases =
     ∷ case (size 10 30) (all 10 20) (confined (all 5 10) 10 20) (confined (all 5 10) 10 20)
     ∷ case (size 30 10) (all 20 10) (confined (all 15 7) 30 40) (confined (all 10 5) 10 20)
     -- a corner that the crate rule leaves wider than its box
-    ∷ case (size 10 100) (corners 30 0 0 100 0 100 0 0) (confined (corners 15 0 0 50 0 50 0 0) 100 200) (confined (corners 10 0 0 33 0 33 0 0) 10 30)
+    ∷ case (size 10 100) (corners 30 0 0 100 0 100 0 0) (confined (corners 15 0 0 50 0 50 0 0) 100 200)
+    (confined (corners 10 0 0 33 0 33 0 0) 10 30)
     -- the largest radii, and those of a stroke area
     ∷ case (size 1024 1024) (all 1024 1024) (confined (all 512 512) 1024 2048) (confined (all 512 512) 1024 2048)
     ∷ case (size 1536 1) (all 1280 1280) (confined (all 0 0) 1 2560) (confined (all 0 0) 1 2560)
@@ -72,7 +73,8 @@ cases =
     ∷ case (size 10 20) (all 10 20) (confined (all 5 10) 20 40) (confined (all 5 10) 10 20)
     ∷ case (size 20 10) (all 20 10) (confined (all 10 5) 20 40) (confined (all 10 5) 20 40)
     -- and the bottom one before the left one
-    ∷ case (size 12 30) (corners 6 20 6 20 20 20 4 40) (confined (corners 3 10 3 10 10 10 2 20) 30 60) (confined (corners 3 10 3 10 10 10 2 20) 12 24)
+    ∷ case (size 12 30) (corners 6 20 6 20 20 20 4 40) (confined (corners 3 10 3 10 10 10 2 20) 30 60)
+    (confined (corners 3 10 3 10 10 10 2 20) 12 24)
     ∷ []
 
 -- the case with what the definitions make of its radii
@@ -91,7 +93,7 @@ record Tie : Type 0 where
 
 -- S and L
 abbrev edge : ℕ → ℕ → Edge
-edge s l = record { radii = s; length = l }
+edge s l = record { sum = s; length = l }
 
 abbrev tie : Edge → Edge → Edge → Edge → Edge → Edge → Tie
 tie a b c d m t = record { among = record { top = a; right = b; bottom = c; left = d }; crate = m; w3c = t }

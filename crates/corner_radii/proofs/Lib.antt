@@ -1,10 +1,11 @@
 -- `Cases` computes document 01's cases f and g and the ends of the ranges; `Fields` equates radii by their corners;
--- `Scaled` has the laws of radii times L / S, `W3cRule` that the W3C rule makes every edge fit, `Fraction` what the fraction
--- of either rule says; `Bounds` says how large radii are after each change; `Checks` tells what a passed check says.
+-- `Scaled` has the laws of radii times L / S; `Rules` says by which edge each rule goes, and that the W3C rule makes every edge
+-- fit; `Fraction` what the fraction of either rule says; `Bounds` how large radii are after each change; `Checks` what a passed
+-- check says.
 pub mod Cases
 pub mod Fields
 pub mod Scaled
-pub mod W3cRule
+pub mod Rules
 pub mod Fraction
 pub mod Bounds
 pub mod Checks

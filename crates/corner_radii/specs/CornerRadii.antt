@@ -49,12 +49,12 @@ offset r k = eachCorner (offsetCorner k) r
 -- ---- 'Corners'
 -- the edges of a box, in the order top, right, bottom, left
 abbrev pub edges : CornerRadii → Size → Edges
-edges r s =
+edges r size =
     record {
-      top = record { radii = r .«top_left» .width + r .«top_right» .width; length = s .width };
-      right = record { radii = r .«top_right» .height + r .«bottom_right» .height; length = s .height };
-      bottom = record { radii = r .«bottom_left» .width + r .«bottom_right» .width; length = s .width };
-      left = record { radii = r .«top_left» .height + r .«bottom_left» .height; length = s .height };
+      top = record { sum = r .«top_left» .width + r .«top_right» .width; length = size .width };
+      right = record { sum = r .«top_right» .height + r .«bottom_right» .height; length = size .height };
+      bottom = record { sum = r .«bottom_left» .width + r .«bottom_right» .width; length = size .width };
+      left = record { sum = r .«top_left» .height + r .«bottom_left» .height; length = size .height };
     }
 
 -- every radius r becomes floor(r × L / S)
@@ -65,21 +65,21 @@ scaled l s r = eachCorner (scaledCorner l s) r
 unfoldable pub reducedBy : ℕ → ℕ → CornerRadii → ConfinedRadii
 reducedBy l s r = record { radii = scaled l s r; length = l; sum = s }
 
--- nothing is reduced: 1 over 1
-abbrev pub unreduced : CornerRadii → ConfinedRadii
-unreduced r = reducedBy 1 1 r
+-- nothing is reduced
+abbrev pub oneOverOne : CornerRadii → ConfinedRadii
+oneOverOne r = reducedBy 1 1 r
 
 -- an edge with S > L reduces every radius, any other none
 unfoldable pub reduced : Edge → CornerRadii → ConfinedRadii
-reduced e r = cond (over e) (reducedBy (L e) (S e) r) (unreduced r)
+reduced e r = cond (over e) (reducedBy (L e) (S e) r) (oneOverOne r)
 
 -- the crate rule (`confine`): the first edge with the largest S − L above 0 reduces every radius
 unfoldable pub confine : CornerRadii → Size → ConfinedRadii
-confine r s = reduced (mostOver (edges r s)) r
+confine r size = reduced (mostOver (edges r size)) r
 
 -- the W3C rule (CSS Backgrounds and Borders Module Level 3, overlapping curves; rounding down is ours): if some S > L,
 -- the first edge with the smallest L / S reduces every radius
 unfoldable pub confineW3c : CornerRadii → Size → ConfinedRadii
-confineW3c r s =
-    let e = tightest (edges r s) in
-    cond (someOver (edges r s)) (reducedBy (L e) (S e) r) (unreduced r)
+confineW3c r size =
+    let e = tightest (edges r size) in
+    cond (someOver (edges r size)) (reducedBy (L e) (S e) r) (oneOverOne r)

@@ -82,19 +82,19 @@ impl CornerRadii {
         let bottom_left = self.bottom_left;
         Edges {
             top: Edge {
-                radii: top_left.width + top_right.width,
+                sum: top_left.width + top_right.width,
                 length: size.width,
             },
             right: Edge {
-                radii: top_right.height + bottom_right.height,
+                sum: top_right.height + bottom_right.height,
                 length: size.height,
             },
             bottom: Edge {
-                radii: bottom_left.width + bottom_right.width,
+                sum: bottom_left.width + bottom_right.width,
                 length: size.width,
             },
             left: Edge {
-                radii: top_left.height + bottom_left.height,
+                sum: top_left.height + bottom_left.height,
                 length: size.height,
             },
         }
@@ -104,8 +104,8 @@ impl CornerRadii {
     fn scale(self, edge: Edge) -> CornerRadii
         requires { ⌜ RadiiUpTo wideRadius self ⌝ }
         requires { ⌜ BoundedEdge edge ⌝ }
-        requires { ⌜ 0 < edge .radii ⌝ }
-        ensures { λ r. ⌜ r ≡ scaled (edge .length) (edge .radii) self ⌝ }
+        requires { ⌜ 0 < edge .sum ⌝ }
+        ensures { λ r. ⌜ r ≡ scaled (edge .length) (edge .sum) self ⌝ }
     {
         CornerRadii {
             top_left: scale_corner(self.top_left, edge),
@@ -115,17 +115,18 @@ impl CornerRadii {
         }
     }
 
-    // The radii scaled by the edge that decides, if they overlap on it, with its L and S.
+    // The radii scaled by the edge that decides, with its L and S; as they are, with 1 and 1, if they
+    // do not overlap on it.
     fn reduce(self, edge: Edge) -> ConfinedRadii
         requires { ⌜ RadiiUpTo wideRadius self ⌝ }
         requires { ⌜ BoundedEdge edge ⌝ }
         ensures { λ r. ⌜ r ≡ reduced edge self ⌝ }
     {
-        if edge.length < edge.radii {
+        if edge.length < edge.sum {
             ConfinedRadii {
                 radii: self.scale(edge),
                 length: edge.length,
-                sum: edge.radii,
+                sum: edge.sum,
             }
         } else {
             ConfinedRadii {

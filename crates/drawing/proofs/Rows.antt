@@ -23,10 +23,10 @@ use Rattle.corner.specs.Bounds.{wideStrokeSide}
 use Rattle.rounded_rectangle.specs.declared.RoundedRectangle.{RoundedRectangle}
 use Rattle.figure.specs.declared.Figure.the-variants.{Ellipse, CrateBox, W3cBox}
 use Rattle.rounded_rectangle.specs.RoundedRectangle.{row as RoundedRectangle·row}
-use Rattle.rounded_rectangle.specs.ConfinedBox.{reducedBox}
+use Rattle.rounded_rectangle.specs.ConfinedBox.{plainBox}
 use Rattle.shape.specs.declared.Shape.{Shape}
 use Rattle.shape.specs.declared.Shape.the-variants as shape-of
-use Rattle.figure.specs.Figure.{confined, confinedW3c, offsetBox, shape}
+use Rattle.figure.specs.Figure.{confined, confinedW3c, offsetBox}
 use Rattle.figure.specs.Bounds.{wideAreaPosition, AreaRectangle}
 use Rattle.style.specs.declared.Style.{Style}
 use Rattle.style.specs.Style.{outsideStrokeWidth}
@@ -104,10 +104,10 @@ unfolding styledRowOfShapes
 off-shape-rows (shape-of.Ellipse area) (shape-of.Ellipse inner) y off = off-ellipse-rows area (inner .size) y off
 off-shape-rows (shape-of.Ellipse area) (shape-of.RoundedBox b) y off = refl
 off-shape-rows (shape-of.RoundedBox b) (shape-of.Ellipse inner) y off = refl
-off-shape-rows (shape-of.RoundedBox b) (shape-of.RoundedBox inner) y off = off-box-rows (reducedBox b) (reducedBox inner) y off
+off-shape-rows (shape-of.RoundedBox b) (shape-of.RoundedBox inner) y off = off-box-rows (plainBox b) (plainBox inner) y off
 
 pub sets-nothing-off-rows : (item : StyledFigure) (y : ℤ) (row : List ℕ) → hasRow drawing item y ≡ false → overpaintBy item y row ≡ row
 unfolding hasRow strokeRows overpaintBy
 sets-nothing-off-rows item y row off =
     ap (λ (r : StyledRow). overpaint (item .style) r row)
-    (off-shape-rows (shape (strokeArea (item .figure) (item .style))) (shape (fillArea (item .figure) (item .style))) y off)
+    (off-shape-rows (strokeArea (item .figure) (item .style)) (fillArea (item .figure) (item .style)) y off)

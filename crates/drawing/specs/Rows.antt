@@ -6,7 +6,6 @@ use Rattle.ellipse_rows.specs.EllipsePoints.{rowCount}
 use Rattle.figure.specs.declared.Figure.{Figure}
 use Rattle.shape.specs.declared.Shape.{Shape}
 use Rattle.shape.specs.declared.Shape.the-variants as shape-of
-use Rattle.figure.specs.Figure.{shape}
 use Rattle.style.specs.declared.Style.{Style}
 use Rattle.styled.specs.Styled.{strokeArea}
 use Rattle.drawing.specs.declared.StrokeRows.{StrokeRows}
@@ -26,4 +25,4 @@ rowsOfShape (shape-of.RoundedBox b) = boxRows (b .rectangle)
 
 -- the rows of a figure's stroke area
 unfoldable pub strokeRows : Figure → Style → StrokeRows
-strokeRows f style = rowsOfShape (shape (strokeArea f style))
+strokeRows f style = rowsOfShape (strokeArea f style)

@@ -21,7 +21,7 @@ use Rattle.rounded_rectangle.specs.declared.ConfinedBox.{ConfinedBox}
 use Rattle.shape.proofs.Within.{own-box-passed, own-rectangle-passed}
 pub use Rattle.shape.proofs.Within.{point-wider, size-wider, own-area, own-box-bounded, area-bounded}
 pub use Rattle.shape.proofs.Within.{area-box-bounded, offset-area, offset-box-bounded, confined-bounded, confined-w3c-bounded}
-pub use Rattle.shape.proofs.Within.{confined-w3c-twice}
+pub use Rattle.shape.proofs.Within.{confined-again-stays}
 use Rattle.figure.specs.declared.Figure.{Figure}
 use Rattle.figure.specs.declared.Figure.the-variants.{Ellipse, CrateBox, W3cBox}
 use Rattle.shape.specs.declared.Shape.the-variants as shape-of

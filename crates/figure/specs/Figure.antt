@@ -8,7 +8,7 @@ use Rattle.geometry.specs.declared.Point.{Point}
 use Rattle.rectangle.specs.declared.Rectangle.{Rectangle}
 use Rattle.rectangle.specs.Rectangle.{offset as Rectangle·offset}
 use Rattle.scanline.specs.declared.Row.{Row}
-use Rattle.rounded_rectangle.specs.ConfinedBox.{reducedBox}
+use Rattle.rounded_rectangle.specs.ConfinedBox.{plainBox}
 unfoldable pub use Rattle.shape.specs.BoxRules.{confined, confinedW3c, offsetBox}
 pub use Rattle.shape.specs.BoxRules.{offsetW3cBox}
 use Rattle.figure.specs.declared.Figure.{Figure}
@@ -29,7 +29,7 @@ ownRectangle (W3cBox b) = b .rectangle
 abbrev pub offset : Figure → ℤ → Figure
 offset (Ellipse r) k = Ellipse (Rectangle·offset r k)
 offset (CrateBox b) k = CrateBox (offsetBox b k)
-offset (W3cBox b) k = W3cBox (reducedBox (offsetW3cBox b k))
+offset (W3cBox b) k = W3cBox (plainBox (offsetW3cBox b k))
 
 -- the shape that a figure's rows and test go by: its radii are confined by its own rule. An offset W3C box is confined already, and
 -- confining it once more changes no radius (`w3c-confine-twice`)

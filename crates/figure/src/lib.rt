@@ -76,7 +76,7 @@ impl Figure {
         match self {
             Figure::Ellipse(rectangle) => Figure::Ellipse(rectangle::bounded::offset(rectangle, k)),
             Figure::CrateBox(b) => Figure::CrateBox(offset_box(b, k)),
-            Figure::W3cBox(b) => Figure::W3cBox(offset_w3c_box(b, k).reduced()),
+            Figure::W3cBox(b) => Figure::W3cBox(offset_w3c_box(b, k).plain()),
         }
     }
 

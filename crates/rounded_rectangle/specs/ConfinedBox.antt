@@ -1,5 +1,5 @@
--- Document 02, 'Two': a box, its quadrants and its rows take the confined radii with their fraction. The quadrants, the test and the
--- rows are those of its radii (`Quadrants`, `RoundedRectangle`); the fraction plays no part in them.
+-- Document 02, 'Two': the box that has its confined radii with their fraction, its test and its rows. They, and its quadrants, are
+-- those of the radii alone (`RoundedRectangle`, `Quadrants`): the fraction plays no part in them.
 -- Assumes nothing.
 use mathlib.Core.Bool.{Bool}
 use lib.IntN.{ℤ}
@@ -8,12 +8,14 @@ use Rattle.rounded_rectangle.specs.declared.RoundedRectangle.{RoundedRec
 use Rattle.rounded_rectangle.specs.declared.ConfinedBox.{ConfinedBox}
 use Rattle.rounded_rectangle.specs.RoundedRectangle.{contains as RoundedRectangle·contains, row as RoundedRectangle·row}
 
--- the box with these radii for its own
-abbrev pub reducedBox : ConfinedBox → RoundedRectangle
-reducedBox b = record { rectangle = b .rectangle; corners = b .corners .radii }
+-- the box with these radii for its own, without their fraction
+abbrev pub plainBox : ConfinedBox → RoundedRectangle
+plainBox b = record { rectangle = b .rectangle; corners = b .corners .radii }
 
+-- whether it contains (x, y)
 abbrev pub contains : ConfinedBox → ℤ → ℤ → Bool
-contains b x y = RoundedRectangle·contains (reducedBox b) x y
+contains b x y = RoundedRectangle·contains (plainBox b) x y
 
+-- its row at y
 abbrev pub row : ConfinedBox → ℤ → Row
-row b y = RoundedRectangle·row (reducedBox b) y
+row b y = RoundedRectangle·row (plainBox b) y

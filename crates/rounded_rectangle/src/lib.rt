@@ -21,7 +21,7 @@ ghost use Rattle.geometry.specs.Bounds.{widePoint, wideSide, PointNear, SizeUpT
 ghost use Rattle.scanline.specs.Points.{RowWithin};
 ghost use Rattle.corner.specs.Bounds.{wideRadius, wideStrokeSide};
 ghost use Rattle.corner_radii.specs.Bounds.{RadiiUpTo};
-ghost use Rattle.rounded_rectangle.specs.ConfinedBox.{reducedBox, contains as ConfinedBox·contains, row as ConfinedBox·row};
+ghost use Rattle.rounded_rectangle.specs.ConfinedBox.{plainBox, contains as ConfinedBox·contains, row as ConfinedBox·row};
 ghost use Rattle.rounded_rectangle.specs.Relative.{BoundedBox, ReadyBox, radii, containsAt, rowInsets, runBetween};
 
 pub struct RoundedRectangle {
@@ -143,8 +143,8 @@ pub fn run_between(left: i32, width: u32, insets: Insets) -> Range
 
 impl ConfinedBox {
     // The box with these radii for its own, without their fraction.
-    pub fn reduced(self) -> RoundedRectangle
-        ensures { λ r. ⌜ r ≡ reducedBox self ⌝ }
+    pub fn plain(self) -> RoundedRectangle
+        ensures { λ r. ⌜ r ≡ plainBox self ⌝ }
     {
         let rectangle = self.rectangle;
         let corners = self.corners;
@@ -157,7 +157,7 @@ impl ConfinedBox {
 
     // `RoundedRectangleContains::contains`, at any point.
     pub fn contains(self, point: Point) -> bool
-        requires { ⌜ BoundedBox (reducedBox self) ⌝ }
+        requires { ⌜ BoundedBox (plainBox self) ⌝ }
         requires { ⌜ PointNear widePoint point ⌝ }
         ensures { λ r. ⌜ r ≡ ConfinedBox·contains self (point .x) (point .y) ⌝ }
     {
@@ -176,7 +176,7 @@ impl ConfinedBox {
 
     // The row at y.
     pub fn row(self, y: i32) -> Row
-        requires { ⌜ BoundedBox (reducedBox self) ⌝ }
+        requires { ⌜ BoundedBox (plainBox self) ⌝ }
         requires { ⌜ Near widePoint y ⌝ }
         ensures { λ r. ⌜ (r ≡ ConfinedBox·row self y) × RowWithin (self .rectangle .«top_left» .x) (self .rectangle .size .width) r ⌝ }
     {

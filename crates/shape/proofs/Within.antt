@@ -1,7 +1,8 @@
 -- Bounds: a box or rectangle that passes its check is within the wide bounds of a figure's own numbers; an offset area of it, and a
--- confined box, are within those of an area. And what the W3C rule has confined stays when it is confined again.
+-- confined box, are within those of an area. And radii that the W3C rule has confined stay
+-- when they are confined again.
 -- Assumes nothing.
-use mathlib.Core.Path.{_≡_}
+use mathlib.Core.Path.{_≡_, refl}
 use Prim.Native.Nat.{ℕ, _+_, _≤_}
 use native.Mathlib.Omega.{arith}
 use lib.IntN.{ℤ}
@@ -24,8 +25,9 @@ use Rattle.corner_radii.proofs.Checks.{radii-passed}
 use Rattle.corner_radii.proofs.Fraction.{w3c-confine-twice}
 use Rattle.rounded_rectangle.specs.declared.RoundedRectangle.{RoundedRectangle}
 use Rattle.rounded_rectangle.specs.Relative.{BoundedBox}
-use Rattle.rounded_rectangle.specs.ConfinedBox.{reducedBox}
+use Rattle.rounded_rectangle.specs.ConfinedBox.{plainBox}
 use Rattle.shape.specs.BoxRules.{confined, confinedW3c, offsetBox}
+use Rattle.shape.proofs.Fields.{box-by-fields}
 use Rattle.shape.specs.BoxBounds.{widePosition, wideOwnSide, wideOffset, OwnRectangle, OwnBox, AreaRectangle, AreaBox, ConfinedAreaBox}
 
 -- ---- wider bounds
@@ -103,12 +105,12 @@ unfolding confinedW3c
 confined-w3c-bounded b o =
     record { rectangle = o .rectangle; corners = w3c-up-to wideRadius (b .corners) (b .rectangle .size) (o .corners) }
 
-pub confined-w3c-own : (b : RoundedRectangle) → OwnBox b → OwnBox (reducedBox (confinedW3c b))
+pub confined-w3c-own : (b : RoundedRectangle) → OwnBox b → OwnBox (plainBox (confinedW3c b))
 unfolding confinedW3c
 confined-w3c-own b o = record { rectangle = o .rectangle; corners = w3c-up-to wideOwnSide (b .corners) (b .rectangle .size) (o .corners) }
 
 -- ---- confined again
-pub confined-w3c-twice : (b : RoundedRectangle)
-    → reducedBox (confinedW3c (reducedBox (confinedW3c b))) ≡ reducedBox (confinedW3c b)
+pub confined-again-stays : (b : RoundedRectangle)
+    → plainBox (confinedW3c (plainBox (confinedW3c b))) ≡ plainBox (confinedW3c b)
 unfolding confinedW3c
-confined-w3c-twice b i = record { rectangle = b .rectangle; corners = w3c-confine-twice (b .corners) (b .rectangle .size) i }
+confined-again-stays b = box-by-fields refl (w3c-confine-twice (b .corners) (b .rectangle .size))

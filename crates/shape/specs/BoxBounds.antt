@@ -8,7 +8,7 @@ use Rattle.corner.specs.Bounds.{wideRadius, wideStrokeSide}
 use Rattle.corner_radii.specs.Bounds.{RadiiUpTo}
 use Rattle.rounded_rectangle.specs.declared.RoundedRectangle.{RoundedRectangle}
 use Rattle.rounded_rectangle.specs.declared.ConfinedBox.{ConfinedBox}
-use Rattle.rounded_rectangle.specs.ConfinedBox.{reducedBox}
+use Rattle.rounded_rectangle.specs.ConfinedBox.{plainBox}
 
 -- a figure's own numbers, before any offset
 abbrev pub widePosition : ℕ
@@ -40,5 +40,6 @@ pub record AreaBox (b : RoundedRectangle) : Type 0 where
   pub rectangle : AreaRectangle (b .rectangle)
   pub corners : RadiiUpTo wideRadius (b .corners)
 
+-- a confined box of a figure or of one of its areas
 abbrev pub ConfinedAreaBox : ConfinedBox → Type 0
-ConfinedAreaBox b = AreaBox (reducedBox b)
+ConfinedAreaBox b = AreaBox (plainBox b)

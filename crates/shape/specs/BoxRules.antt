@@ -5,7 +5,7 @@ use Rattle.rectangle.specs.Rectangle.{offset as Rectangle·offset}
 use Rattle.corner_radii.specs.CornerRadii.{offset as CornerRadii·offset, confine, confineW3c}
 use Rattle.rounded_rectangle.specs.declared.RoundedRectangle.{RoundedRectangle}
 use Rattle.rounded_rectangle.specs.declared.ConfinedBox.{ConfinedBox}
-use Rattle.rounded_rectangle.specs.ConfinedBox.{reducedBox}
+use Rattle.rounded_rectangle.specs.ConfinedBox.{plainBox}
 
 -- a box with its radii confined to its size, by the crate rule and by the W3C rule
 unfoldable pub confined : RoundedRectangle → ConfinedBox
@@ -20,11 +20,11 @@ offsetBox b k = record { rectangle = Rectangle·offset (b .rectangle) k; corners
 
 -- a W3C box offset: confined, offset like a crate box, confined again
 abbrev pub offsetW3cBox : RoundedRectangle → ℤ → ConfinedBox
-offsetW3cBox b k = confinedW3c (offsetBox (reducedBox (confinedW3c b)) k)
+offsetW3cBox b k = confinedW3c (offsetBox (plainBox (confinedW3c b)) k)
 
--- the box of an area's rows, where the area is a crate box or a W3C box offset by k: its own rule confines the radii
+-- the box by which the rows of an area go, where the area is a crate box or a W3C box offset by k
 abbrev pub crateArea : RoundedRectangle → ℤ → RoundedRectangle
-crateArea b k = reducedBox (confined (offsetBox b k))
+crateArea b k = plainBox (confined (offsetBox b k))
 
 abbrev pub w3cArea : RoundedRectangle → ℤ → RoundedRectangle
-w3cArea b k = reducedBox (confinedW3c (reducedBox (offsetW3cBox b k)))
+w3cArea b k = plainBox (offsetW3cBox b k)

@@ -1,6 +1,6 @@
 // What is done with a box before its rows are asked for: its radii confined by either rule, which
-// hands their fraction on with them, and its offset. After embedded-graphics 0.8.2 `rounded_rectangle/mod.rs` (`OffsetOutline`,
-// `confine_radii`); the W3C rule is not in the source.
+// hands their fraction on with them, and its offset. After embedded-graphics 0.8.2
+// `rounded_rectangle/mod.rs` (`OffsetOutline`, `confine_radii`); the W3C rule is not in the source.
 use rounded_rectangle::ConfinedBox;
 use rounded_rectangle::RoundedRectangle;
 ghost use mathlib.Core.Path.{_≡_};
@@ -54,5 +54,5 @@ pub fn offset_w3c_box(b: RoundedRectangle, k: i32) -> ConfinedBox
     requires { ⌜ Near wideOffset k ⌝ }
     ensures { λ r. ⌜ (r ≡ offsetW3cBox b k) × ConfinedAreaBox r ⌝ }
 {
-    confined_w3c(offset_box(confined_w3c(b).reduced(), k))
+    confined_w3c(offset_box(confined_w3c(b).plain(), k))
 }

@@ -5,7 +5,7 @@ use Rattle.rectangle.specs.declared.Rectangle.{Rectangle}
 use Rattle.rectangle.specs.Rectangle.{offset as Rectangle·offset}
 use Rattle.scanline.specs.declared.StyledRow.{StyledRow}
 use Rattle.figure.specs.declared.Figure.{Figure}
-use Rattle.figure.specs.Figure.{ownRectangle, shape}
+use Rattle.figure.specs.Figure.{ownRectangle}
 use Rattle.style.specs.declared.Style.{Style}
 use Rattle.style.specs.Style.{outsideStrokeWidth}
 pub use Rattle.styled_areas.specs.Areas.{strokeArea, fillArea}
@@ -17,4 +17,4 @@ styledBoundingBox f style = Rectangle·offset (ownRectangle f) (pos (outsideStro
 
 -- the styled row at y; 'no row' where the stroke area lacks it
 abbrev pub styledRow : Figure → Style → ℤ → StyledRow
-styledRow f style y = styledRowOfShapes (shape (strokeArea f style)) (shape (fillArea f style)) y
+styledRow f style y = styledRowOfShapes (strokeArea f style) (fillArea f style) y

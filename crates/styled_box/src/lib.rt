@@ -14,7 +14,7 @@ ghost use mathlib.Core.Path.{_≡_};
 ghost use Prim.Native.Nat.{_<_};
 ghost use Rattle.signed.specs.Signed.{Near};
 ghost use Rattle.geometry.specs.Bounds.{widePoint};
-ghost use Rattle.rounded_rectangle.specs.ConfinedBox.{reducedBox};
+ghost use Rattle.rounded_rectangle.specs.ConfinedBox.{plainBox};
 ghost use Rattle.figure.specs.Bounds.{ConfinedAreaBox};
 ghost use Rattle.styled_row.specs.StyledRow.{boxStyledRow};
 ghost use Rattle.styled_box.specs.ReadyBox.{noHints, strokeBox, fillBox, ReadyStyledBox, Alike};
@@ -59,7 +59,7 @@ impl StyledBox {
     pub fn new(area: ConfinedBox, inner: ConfinedBox) -> StyledBox
         requires { ⌜ ConfinedAreaBox area ⌝ }
         requires { ⌜ ConfinedAreaBox inner ⌝ }
-        ensures { λ r. ⌜ (strokeBox r ≡ reducedBox area) × (fillBox r ≡ reducedBox inner) × ReadyStyledBox r ⌝ }
+        ensures { λ r. ⌜ (strokeBox r ≡ plainBox area) × (fillBox r ≡ plainBox inner) × ReadyStyledBox r ⌝ }
     {
         let stroke_rectangle = area.rectangle;
         let stroke_corners = area.corners;

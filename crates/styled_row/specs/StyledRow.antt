@@ -6,7 +6,7 @@ use Rattle.scanline.specs.declared.StyledRow.the-variants.{NoRow}
 use Rattle.ellipse_styled.specs.EllipseStyled.{styledBy, ellipseStyledRow}
 use Rattle.rounded_rectangle.specs.declared.RoundedRectangle.{RoundedRectangle}
 use Rattle.rounded_rectangle.specs.RoundedRectangle.{row as RoundedRectangle·row}
-use Rattle.rounded_rectangle.specs.ConfinedBox.{reducedBox}
+use Rattle.rounded_rectangle.specs.ConfinedBox.{plainBox}
 use Rattle.box_fill.specs.BoxFill.{fillRun}
 use Rattle.shape.specs.declared.Shape.{Shape}
 use Rattle.shape.specs.declared.Shape.the-variants as shape-of
@@ -21,4 +21,4 @@ unfoldable pub styledRowOfShapes : Shape → Shape → ℤ → StyledRow
 styledRowOfShapes (shape-of.Ellipse area) (shape-of.Ellipse fill) y = ellipseStyledRow area (fill .size) y
 styledRowOfShapes (shape-of.Ellipse area) (shape-of.RoundedBox fill) y = NoRow
 styledRowOfShapes (shape-of.RoundedBox area) (shape-of.Ellipse fill) y = NoRow
-styledRowOfShapes (shape-of.RoundedBox area) (shape-of.RoundedBox fill) y = boxStyledRow (reducedBox area) (reducedBox fill) y
+styledRowOfShapes (shape-of.RoundedBox area) (shape-of.RoundedBox fill) y = boxStyledRow (plainBox area) (plainBox fill) y

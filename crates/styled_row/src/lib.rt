@@ -33,7 +33,7 @@ ghost use Rattle.scanline.specs.Places.{findFrom};
 ghost use Rattle.ellipse.specs.Relative.{containsOf, wideDistance};
 ghost use Rattle.ellipse_search.specs.Search.{columnInside};
 ghost use Rattle.rounded_rectangle.specs.Relative.{BoundedBox};
-ghost use Rattle.rounded_rectangle.specs.ConfinedBox.{reducedBox};
+ghost use Rattle.rounded_rectangle.specs.ConfinedBox.{plainBox};
 ghost use Rattle.box_fill.specs.BoxFill.{fillRun};
 ghost use Rattle.box_fill.specs.Relative.{NearRun};
 ghost use Rattle.ellipse_styled.specs.EllipseStyled.{aroundFill, ellipseStyledRow};
@@ -62,10 +62,10 @@ pub fn around_fill(run: Range, fill: Range) -> StyledRuns
 // The fill of the row at y of a fill area, where `run` is the stroke area's. Off the fill area's rows
 // there is none.
 fn fill_alone(b: ConfinedBox, y: i32, run: Range) -> Range
-    requires { ⌜ BoundedBox (reducedBox b) ⌝ }
+    requires { ⌜ BoundedBox (plainBox b) ⌝ }
     requires { ⌜ Near widePoint y ⌝ }
     requires { ⌜ NearRun run ⌝ }
-    ensures { λ r. ⌜ r ≡ fillRun (reducedBox b) y run ⌝ }
+    ensures { λ r. ⌜ r ≡ fillRun (plainBox b) y run ⌝ }
 {
     let rectangle = b.rectangle;
     let top_left = rectangle.top_left;
@@ -95,7 +95,7 @@ fn box_row(area: ConfinedBox, fill: ConfinedBox, y: i32) -> StyledRow
     requires { ⌜ ConfinedAreaBox area ⌝ }
     requires { ⌜ ConfinedAreaBox fill ⌝ }
     requires { ⌜ Near widePoint y ⌝ }
-    ensures { λ r. ⌜ r ≡ boxStyledRow (reducedBox area) (reducedBox fill) y ⌝ }
+    ensures { λ r. ⌜ r ≡ boxStyledRow (plainBox area) (plainBox fill) y ⌝ }
 {
     let Row::Run(run) = area.row(y) else {
         return StyledRow::NoRow;
@@ -164,7 +164,7 @@ pub fn crate_row_at(b: RoundedRectangle, outward: i32, inward: i32, y: i32) -> S
     box_row(area, inner, y)
 }
 
-// The same of a W3C box. Its offset has confined it, and confining it again would change no radius.
+// The same of a W3C box, which its offset confines.
 pub fn w3c_row_at(b: RoundedRectangle, outward: i32, inward: i32, y: i32) -> StyledRow
     requires { ⌜ OwnBox b ⌝ }
     requires { ⌜ Near wideOffset outward × Near wideOffset inward ⌝ }

@@ -3,7 +3,7 @@
 -- Assumes nothing.
 use mathlib.Core.Path.{_≡_, sym, ap, _∙_}
 use Prim.Native.Nat.{ℕ, _+_, _-_}
-use native.Mathlib.Nat.{le-refl, le-trans}
+use native.Mathlib.Nat.{le-refl}
 use native.Mathlib.Omega.{arith}
 use lib.IntN.{ℤ, pos, negℤ}
 use Rattle.signed.proofs.Laws.{positive-of-opposite, negative-of-opposite}
@@ -125,19 +125,7 @@ reach-inward c u l k s =
       lower = omega (arith, p, n, shrunk (c .«bottom_left» .height), shrunk (c .«bottom_right» .height));
     }
 
--- ---- radii no larger than some that are no larger than others, and than themselves
-size-twice : {a b c : Size} → SizeWithin a b → SizeWithin b c → SizeWithin a c
-size-twice p q = record { width = le-trans (p .width) (q .width); height = le-trans (p .height) (q .height) }
-
-pub radii-twice : (a b c : CornerRadii) → RadiiWithin a b → RadiiWithin b c → RadiiWithin a c
-radii-twice a b c p q =
-    record {
-      «top_left» = size-twice (p .«top_left») (q .«top_left»);
-      «top_right» = size-twice (p .«top_right») (q .«top_right»);
-      «bottom_right» = size-twice (p .«bottom_right») (q .«bottom_right»);
-      «bottom_left» = size-twice (p .«bottom_left») (q .«bottom_left»);
-    }
-
+-- ---- radii are no larger than themselves
 itself : (s : Size) → SizeWithin s s
 itself s = record { width = le-refl _; height = le-refl _ }
 

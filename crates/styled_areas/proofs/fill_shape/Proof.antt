@@ -4,7 +4,7 @@ use mathlib.Core.Path.{_≡_, ap, _∙_}
 use Prim.Native.Nat.{ℕ}
 use lib.IntN.{pos, negℤ}
 use mir.Facts.{toZ-ofZ}
-use Rattle.figure.specs.Figure.{offset, shape}
+use Rattle.styled_areas.specs.Areas.{area}
 use Rattle.style.proofs.StrokeWidths.{inside-within-stroke}
 use Rattle.signed.proofs.Laws.{int, positive-of-opposite, negative-of-opposite}
 use borrow.Author.Needs.{needs}
@@ -41,8 +41,8 @@ sub-requires c κs =
     let is = c .from-u32 .ensures .is in
     omega (arith, int, c .before .inside-stroke-width .ensures, inside-within-stroke (start .args .style))
 
-offset-by-requires : tie.Need-offset-by-requires
-offset-by-requires c κs =
+area-requires : tie.Need-area-requires
+area-requires c κs =
     let start = c .before .before .before in
     let small = start .pre .1 in (
       start .pre .0,
@@ -56,16 +56,13 @@ offset-by-requires c κs =
       ),
     )
 
-shape-requires : tie.Need-shape-requires
-shape-requires c κs = c .offset-by .ensures .1
-
 returns : tie.Need-returns
 returns c =
-    let at-inside-stroke-width = c .before .before .before .before .inside-stroke-width in
-    let start = c .before .before .before .before .before in
-    let by = toZ-ofZ (c .before .before .sub .ensures .fits) ∙ opposite (c .before .before) ∙ ap (λ (n : ℕ). negℤ (pos n))
+    let at-inside-stroke-width = c .before .before .before .inside-stroke-width in
+    let start = c .before .before .before .before in
+    let by = toZ-ofZ (c .before .sub .ensures .fits) ∙ opposite (c .before) ∙ ap (λ (n : ℕ). negℤ (pos n))
     (at-inside-stroke-width .ensures) in
-    (c .shape .ensures .0 ∙ ap shape (c .before .offset-by .ensures .0 ∙ ap (offset (start .args .figure)) by), c .shape .ensures .1)
+    (c .area .ensures .0 ∙ ap (area (start .args .figure)) by, c .area .ensures .1)
 
 pub fill-shape-spec : {M : Type 1} → statement M
 fill-shape-spec =
@@ -74,6 +71,5 @@ fill-shape-spec =
     inside-stroke-width-requires
     from-u32-requires
     sub-requires
-    offset-by-requires
-    shape-requires
+    area-requires
     returns)

@@ -3,7 +3,7 @@
 use mathlib.Core.Path.{ap, _∙_}
 use lib.IntN.{pos}
 use mir.Facts.{toZ-ofZ}
-use Rattle.figure.specs.Figure.{offset, shape}
+use Rattle.styled_areas.specs.Areas.{area}
 use Rattle.style.proofs.StrokeWidths.{outside-within-stroke}
 use borrow.Author.Needs.{needs}
 use native.Mathlib.Omega.{arith}
@@ -20,23 +20,20 @@ from-u32-requires c κs =
     let small = start .pre .1 in
     omega (arith, c .outside-stroke-width .ensures, outside-within-stroke (start .args .style))
 
-offset-by-requires : tie.Need-offset-by-requires
-offset-by-requires c κs =
+area-requires : tie.Need-area-requires
+area-requires c κs =
     let start = c .before .before in
     let small = start .pre .1 in
     let is = c .from-u32 .ensures .is in
     (start .pre .0, omega (arith, int, c .before .outside-stroke-width .ensures, outside-within-stroke (start .args .style)))
 
-shape-requires : tie.Need-shape-requires
-shape-requires c κs = c .offset-by .ensures .1
-
 returns : tie.Need-returns
 returns c =
-    let at-outside-stroke-width = c .before .before .before .outside-stroke-width in
-    let start = c .before .before .before .before in
-    let by = toZ-ofZ (c .before .before .from-u32 .ensures .fits) ∙ c .before .before .from-u32 .ensures .is ∙ ap pos
+    let at-outside-stroke-width = c .before .before .outside-stroke-width in
+    let start = c .before .before .before in
+    let by = toZ-ofZ (c .before .from-u32 .ensures .fits) ∙ c .before .from-u32 .ensures .is ∙ ap pos
     (at-outside-stroke-width .ensures) in
-    (c .shape .ensures .0 ∙ ap shape (c .before .offset-by .ensures .0 ∙ ap (offset (start .args .figure)) by), c .shape .ensures .1)
+    (c .area .ensures .0 ∙ ap (area (start .args .figure)) by, c .area .ensures .1)
 
 pub stroke-shape-spec : {M : Type 1} → statement M
 stroke-shape-spec =
@@ -44,6 +41,5 @@ stroke-shape-spec =
     (tie.spec
     outside-stroke-width-requires
     from-u32-requires
-    offset-by-requires
-    shape-requires
+    area-requires
     returns)

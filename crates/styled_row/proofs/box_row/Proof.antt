@@ -8,7 +8,7 @@ use mir.Facts.{toZ-ofZ}
 use Rattle.scanline.specs.declared.Row.{Row}
 use Rattle.scanline.specs.declared.StyledRow.the-variants.{Runs}
 use Rattle.scanline.specs.Points.{RowWithin}
-use Rattle.rounded_rectangle.specs.ConfinedBox.{reducedBox, row as ConfinedBox·row}
+use Rattle.rounded_rectangle.specs.ConfinedBox.{plainBox, row as ConfinedBox·row}
 use Rattle.box_fill.specs.BoxFill.{fillRun}
 use Rattle.ellipse_styled.specs.EllipseStyled.{aroundFill, styledBy}
 use Rattle.figure.proofs.Within.{area-box-bounded}
@@ -35,7 +35,7 @@ returns : tie.Need-returns
 unfolding boxStyledRow
 returns c =
     let args = c .before .before .before .args in
-    let fill = reducedBox (args .fill) in
+    let fill = plainBox (args .fill) in
     ap (λ (r : Row). styledBy r (fillRun fill (args .y))) (row-is (c .before .before) _ (c .enum-told .given .1))
 
 fill-alone-requires : tie.Need-fill-alone-requires
@@ -66,7 +66,7 @@ returns-2 c =
     let entry = c .before .before .before .before .before .before in
     let args = entry .args in
     let run = c .before .before .before .run .given in
-    let fill = reducedBox (args .fill) in
+    let fill = plainBox (args .fill) in
     ap Runs (c .around-fill .ensures ∙ ap (aroundFill (run .0 .0))
     (c .before .fill-alone .ensures ∙ ap (λ (z : ℤ). fillRun fill z (run .0 .0)) (toZ-ofZ (entry .pre .1 .1 .fits))))
     ∙ ap (λ (r : Row). styledBy r (fillRun fill (args .y))) (row-is (c .before .before .before .before .before) _ (run .1))

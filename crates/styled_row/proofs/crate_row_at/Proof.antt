@@ -3,7 +3,7 @@
 use borrow.Author.Needs.{needs}
 use mathlib.Core.Path.{_≡_, sym, ap, subst, _∙_}
 use mir.Facts.{toZ-ofZ}
-use Rattle.rounded_rectangle.specs.ConfinedBox.{reducedBox}
+use Rattle.rounded_rectangle.specs.ConfinedBox.{plainBox}
 use Rattle.shape.specs.BoxRules.{confined, offsetBox}
 use Rattle.figure.specs.Bounds.{AreaBox, ConfinedAreaBox}
 use Rattle.figure.proofs.Within.{offset-box-bounded, confined-bounded}
@@ -60,8 +60,8 @@ returns c =
     let made = c .before in
     c .box-row .ensures
     ∙ (λ i.
-    boxStyledRow (reducedBox ((made .before .before .confined .ensures ∙ ap confined (outer-is (made .before .before .before))) i))
-    (reducedBox ((made .confined2 .ensures ∙ ap confined (inner-is (made .before))) i))
+    boxStyledRow (plainBox ((made .before .before .confined .ensures ∙ ap confined (outer-is (made .before .before .before))) i))
+    (plainBox ((made .confined2 .ensures ∙ ap confined (inner-is (made .before))) i))
     (toZ-ofZ (start (made .before) .pre .1 .1 .fits) i))
 
 pub crate-row-at-spec : {M : Type 1} → statement M

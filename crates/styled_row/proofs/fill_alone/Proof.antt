@@ -12,7 +12,7 @@ use Rattle.scanline.specs.declared.Place.the-variants.{At}
 use Rattle.scanline.specs.Places.{Placed}
 use Rattle.scanline.proofs.Placed.{placed-told}
 use Rattle.rounded_rectangle.specs.Quadrants.{top, height}
-use Rattle.rounded_rectangle.specs.ConfinedBox.{reducedBox}
+use Rattle.rounded_rectangle.specs.ConfinedBox.{plainBox}
 use Rattle.box_fill.specs.Relative.{rowFill}
 use Rattle.box_fill.proofs.Rows.{fill-off-rows, fill-relative}
 use Rattle.styled_row.proofs.fill_alone.Statement.{statement}
@@ -23,7 +23,7 @@ abbrev entry : tie.After-place-of → tie.Start
 entry c = c .before .before .before .before .before
 
 row-place : (c : tie.After-place-of) (told : Place) → c .place-of .result ≡ told
-    → Placed (top (reducedBox (entry c .args .b))) (height (reducedBox (entry c .args .b))) (entry c .args .y) told
+    → Placed (top (plainBox (entry c .args .b))) (height (plainBox (entry c .args .b))) (entry c .args .y) told
 row-place c told is = placed-told _ _ _ (entry c .pre .0 .at .y .fits) (entry c .pre .1 .0 .fits) (c .place-of .ensures) is
 
 place-of-requires : tie.Need-place-of-requires
@@ -46,7 +46,7 @@ returns c =
     let args = entry after .args in
     let end = toZ-ofZ (entry after .pre .1 .1 .end .fits) in
     range-by-fields end end
-    ∙ fill-off-rows (reducedBox (args .b)) (args .y) (args .run) (row-place after _ (c .before .enum-told .given .1))
+    ∙ fill-off-rows (plainBox (args .b)) (args .y) (args .run) (row-place after _ (c .before .enum-told .given .1))
 
 new-requires : tie.Need-new-requires
 new-requires c κs = search needs
@@ -75,7 +75,7 @@ returns-2 c =
     let args = entry after .args in
     c .before .row-fill .ensures
     ∙ (λ i. rowFill (made .1 i) (made .0 i) (toZ-ofZ (entry after .pre .0 .at .x .fits) i) (dy .0 .0) (args .run))
-    ∙ fill-relative (reducedBox (args .b)) (args .y) (args .run) (dy .0 .0) (row-place after (At (dy .0 .0)) (dy .1))
+    ∙ fill-relative (plainBox (args .b)) (args .y) (args .run) (dy .0 .0) (row-place after (At (dy .0 .0)) (dy .1))
 
 pub fill-alone-spec : {M : Type 1} → statement M
 fill-alone-spec =

@@ -1,24 +1,21 @@
--- `styled_row::w3c_row_at` meets its contract: each area is the box offset by the W3C rule, which is confined already.
+-- `styled_row::w3c_row_at` meets its contract: each area is the box offset by the W3C rule.
 -- Assumes nothing.
 use borrow.Author.Needs.{needs}
-use mathlib.Core.Path.{_≡_, sym, ap, _∙_}
+use mathlib.Core.Path.{_≡_, ap, _∙_}
 use lib.IntN.{ℤ}
 use mir.Facts.{toZ-ofZ}
 use Rattle.rounded_rectangle.specs.declared.RoundedRectangle.{RoundedRectangle}
 use Rattle.rounded_rectangle.specs.declared.ConfinedBox.{ConfinedBox}
-use Rattle.rounded_rectangle.specs.ConfinedBox.{reducedBox}
+use Rattle.rounded_rectangle.specs.ConfinedBox.{plainBox}
 use Rattle.shape.specs.BoxRules.{offsetW3cBox, w3cArea}
-use Rattle.figure.proofs.Within.{confined-w3c-twice}
 use Rattle.styled_row.specs.StyledRow.{boxStyledRow}
 use Rattle.styled_row.proofs.w3c_row_at.Statement.{statement}
 use Rattle.styled_row.proofs.w3c_row_at.Tie as tie
 
 -- the box of an area, offset by k
-area-is : (b : RoundedRectangle) (k z : ℤ) (made : ConfinedBox) → made ≡ offsetW3cBox b z → z ≡ k → reducedBox made ≡ w3cArea b k
+area-is : (b : RoundedRectangle) (k z : ℤ) (made : ConfinedBox) → made ≡ offsetW3cBox b z → z ≡ k → plainBox made ≡ w3cArea b k
 area-is b k z made is number =
-    ap (λ (q : ConfinedBox). reducedBox q) is
-    ∙ ap (λ (n : ℤ). reducedBox (offsetW3cBox b n)) number
-    ∙ sym (confined-w3c-twice _)
+    ap (λ (q : ConfinedBox). plainBox q) is ∙ ap (w3cArea b) number
 
 offset-w3c-box-requires : tie.Need-offset-w3c-box-requires
 offset-w3c-box-requires c κs = search needs

@@ -18,7 +18,7 @@ use Rattle.shape.specs.BoxRules.{confined, confinedW3c, offsetBox}
 use Rattle.shape.proofs.Within.{own-area, area-bounded, offset-area}
 use Rattle.styled_row.specs.StyledRow.{boxStyledRow}
 use Rattle.styled_straight.specs.StraightRow.{boxWith, Reach, Told}
-use Rattle.styled_straight.proofs.Straight.{reach-within, reach-outward, reach-inward, radii-twice, radii-themselves}
+use Rattle.styled_straight.proofs.Straight.{reach-within, reach-outward, reach-inward, radii-themselves}
 use Rattle.styled_straight.proofs.straight_row.Statement.{statement}
 use Rattle.styled_straight.proofs.straight_row.Tie as tie
 
@@ -172,8 +172,7 @@ unfolding confined confinedW3c offsetBox
 returns c =
     let b = entry c .args .b in (
       told c (b .corners) _ _ (radii-themselves (b .corners)) (confine-within _ _) (confine-within _ _),
-      told c _ _ _ (w3c-within (b .corners) (b .rectangle .size)) (radii-twice _ _ _ (w3c-within _ _) (w3c-within _ _))
-          (radii-twice _ _ _ (w3c-within _ _) (w3c-within _ _)),
+      told c _ _ _ (w3c-within (b .corners) (b .rectangle .size)) (w3c-within _ _) (w3c-within _ _),
     )
 
 pub straight-row-spec : {M : Type 1} → statement M

@@ -18,12 +18,12 @@ returns-2 c = (tighter-only-radii _ _ (omega arith) (c .if2 .taken), search need
 mul-if3 : tie.Need-mul-if3
 mul-if3 c =
     let entry = c .before .before .before .before .before .before in
-    record { fits = omega (arith, mul-le-mul (entry .pre .1 .length) (entry .pre .0 .radii)) }
+    record { fits = omega (arith, mul-le-mul (entry .pre .1 .length) (entry .pre .0 .sum)) }
 
 mul-if3-2 : tie.Need-mul-if3-2
 mul-if3-2 c =
     let entry = c .before .before .before .before .before .before .before .before in
-    record { fits = omega (arith, mul-le-mul (entry .pre .0 .length) (entry .pre .1 .radii)) }
+    record { fits = omega (arith, mul-le-mul (entry .pre .0 .length) (entry .pre .1 .sum)) }
 
 -- radii along both
 returns-3 : tie.Need-returns-3

@@ -5,7 +5,7 @@ use mathlib.Core.Path.{sym, ap, _∙_}
 use Rattle.corner.specs.declared.edge.Edge.{Edge}
 use Rattle.corner.specs.Edge.{tightest}
 use Rattle.corner_radii.specs.CornerRadii.{reduced}
-use Rattle.corner_radii.proofs.W3cRule.{w3c-by-tightest}
+use Rattle.corner_radii.proofs.Rules.{w3c-by-tightest}
 use borrow.Author.Needs.{needs}
 use Rattle.corner_radii.proofs.CornerRadii.confine_w3c.Statement.{statement}
 use Rattle.corner_radii.proofs.CornerRadii.confine_w3c.Tie as tie

@@ -7,7 +7,7 @@ use Rattle.rectangle.specs.Rectangle.{offset as Rectangle·offset}
 use Rattle.figure.specs.declared.Figure.the-variants.{Ellipse, CrateBox, W3cBox}
 use Rattle.figure.specs.Bounds.{OwnFigure, AreaRectangle, AreaBox}
 use Rattle.rounded_rectangle.specs.declared.ConfinedBox.{ConfinedBox}
-use Rattle.rounded_rectangle.specs.ConfinedBox.{reducedBox}
+use Rattle.rounded_rectangle.specs.ConfinedBox.{plainBox}
 use Rattle.figure.specs.Figure.{offsetBox, offsetW3cBox}
 use Rattle.figure.proofs.Within.{own-area, area-bounded, offset-area, offset-box-bounded}
 use borrow.Author.Needs.{needs}
@@ -43,8 +43,8 @@ offset-w3c-box-requires c κs =
     let near = entry .pre .1 in
     (subst OwnFigure (c .before .self3 .given .1) (entry .pre .0), omega (arith, int))
 
-reduced-requires : tie.Need-reduced-requires
-reduced-requires c κs = search needs
+plain-requires : tie.Need-plain-requires
+plain-requires c κs = search needs
 
 returns : tie.Need-returns
 returns c =
@@ -72,8 +72,8 @@ returns-3 c =
     let b = c .before .before .before .self3 .given .0 .0 in
     let made = c .before .offset-w3c-box .ensures in
     let is = made .0 ∙ ap (offsetW3cBox b) (toZ-ofZ (entry .fits .k)) in (
-      rw (c .before .before .before .self3 .given .1) (ap W3cBox (c .reduced .ensures ∙ ap (λ (q : ConfinedBox). reducedBox q) is)),
-      subst AreaBox (sym (c .reduced .ensures)) (made .1),
+      rw (c .before .before .before .self3 .given .1) (ap W3cBox (c .plain .ensures ∙ ap (λ (q : ConfinedBox). plainBox q) is)),
+      subst AreaBox (sym (c .plain .ensures)) (made .1),
     )
 
 pub offset-by-spec : {M : Type 1} → statement M
@@ -86,7 +86,7 @@ offset-by-spec =
     offset-box-requires
     enum-known-self-3
     offset-w3c-box-requires
-    reduced-requires
+    plain-requires
     returns
     returns-2
     returns-3)

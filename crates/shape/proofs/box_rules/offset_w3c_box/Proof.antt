@@ -5,7 +5,7 @@ use mathlib.Core.Path.{_≡_, ap, sym, subst, _∙_}
 use mir.Facts.{toZ-ofZ}
 use Rattle.rounded_rectangle.specs.declared.RoundedRectangle.{RoundedRectangle}
 use Rattle.rounded_rectangle.specs.declared.ConfinedBox.{ConfinedBox}
-use Rattle.rounded_rectangle.specs.ConfinedBox.{reducedBox}
+use Rattle.rounded_rectangle.specs.ConfinedBox.{plainBox}
 use Rattle.shape.specs.BoxBounds.{OwnBox, AreaBox, ConfinedAreaBox}
 use Rattle.shape.specs.BoxRules.{confinedW3c, offsetBox}
 use Rattle.shape.proofs.Within.{own-box-bounded, offset-box-bounded, confined-w3c-bounded, confined-w3c-own}
@@ -18,12 +18,12 @@ use Rattle.shape.proofs.box_rules.offset_w3c_box.Tie as tie
 confined-w3c-requires : tie.Need-confined-w3c-requires
 confined-w3c-requires c κs = own-box-bounded _ (c .pre .0)
 
-reduced-requires : tie.Need-reduced-requires
-reduced-requires c κs = search needs
+plain-requires : tie.Need-plain-requires
+plain-requires c κs = search needs
 
 -- the box as it was confined first
-first-is : (c : tie.After-reduced) → c .reduced .result ≡ reducedBox (confinedW3c (c .before .before .args .b))
-first-is c = c .reduced .ensures ∙ ap (λ (q : ConfinedBox). reducedBox q) (c .before .confined-w3c .ensures)
+first-is : (c : tie.After-plain) → c .plain .result ≡ plainBox (confinedW3c (c .before .before .args .b))
+first-is c = c .plain .ensures ∙ ap (λ (q : ConfinedBox). plainBox q) (c .before .confined-w3c .ensures)
 
 offset-box-requires : tie.Need-offset-box-requires
 offset-box-requires c κs =
@@ -33,11 +33,11 @@ offset-box-requires c κs =
 
 -- the box offset in between, by the definition
 offset-is : (c : tie.After-offset-box) → c .offset-box .result
-    ≡ offsetBox (reducedBox (confinedW3c (c .before .before .before .args .b))) (c .before .before .before .args .k)
+    ≡ offsetBox (plainBox (confinedW3c (c .before .before .before .args .b))) (c .before .before .before .args .k)
 offset-is c =
     let entry = c .before .before .before in
     c .offset-box .ensures
-    ∙ ap (offsetBox (c .before .reduced .result)) (toZ-ofZ (entry .fits .k))
+    ∙ ap (offsetBox (c .before .plain .result)) (toZ-ofZ (entry .fits .k))
     ∙ ap (λ (q : RoundedRectangle). offsetBox q (entry .args .k)) (first-is (c .before))
 
 confined-w3c-requires-2 : tie.Need-confined-w3c-requires-2
@@ -56,4 +56,4 @@ returns c =
 
 pub offset-w3c-box-spec : {M : Type 1} → statement M
 offset-w3c-box-spec =
-    tie.close (tie.spec confined-w3c-requires reduced-requires offset-box-requires confined-w3c-requires-2 returns)
+    tie.close (tie.spec confined-w3c-requires plain-requires offset-box-requires confined-w3c-requires-2 returns)
