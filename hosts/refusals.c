@@ -36,7 +36,7 @@ enum change {
 /* The boxes with other radii, by what is of note in them: radii that touch and fit, so that none is reduced; no
  * column, so that L is 0; a ratio that is less than another by little; and two edges that are equal, of which the
  * first decides. By the crate's rule those have the same overlap S - L, by the W3C's the same ratio L / S. */
-enum corners {
+enum cornered {
     TOUCHING, WITHOUT_COLUMN, NEARLY_EQUAL, OVERLAP_TOP_RIGHT, OVERLAP_RIGHT_BOTTOM, OVERLAP_BOTTOM_LEFT,
     RATIO_TOP_RIGHT, RATIO_RIGHT_BOTTOM, RATIO_BOTTOM_LEFT
 };
@@ -277,7 +277,7 @@ static const wunqaber_style bordered = {40, 9, 1, WUNQABER_INSIDE};
 static const struct {
     wunqaber_figure box;
     int32_t confined[10];
-} corners[] = {
+} cornered[] = {
     [TOUCHING] =
         {{WUNQABER_CRATE_BOX, 0, 0, 10, 100, {5, 50, 5, 50, 5, 50, 5, 50}}, {5, 50, 5, 50, 5, 50, 5, 50, 1, 1}},
     [WITHOUT_COLUMN] = {{WUNQABER_W3C_BOX, 0, 0, 0, 9, {4, 1, 0, 2, 0, 3, 0, 4}}, {0, 0, 0, 0, 0, 0, 0, 0, 0, 4}},
@@ -413,7 +413,7 @@ static void change(const check *c, arguments *a, buffers *b)
         a->height = 2;
         a->canvas_length = 18;
         break;
-    case CORNERS: a->figure = corners[value].box; break;
+    case CORNERS: a->figure = cornered[value].box; break;
     case KIND: a->figure.kind = value; break;
     case X: a->figure.x = value; break;
     case WIDTH: a->figure.width = value; break;
@@ -719,7 +719,7 @@ static void written_radii(const check *c, buffers *b)
         memcpy(b->out, uneven_box.radii, sizeof uneven_box.radii);
         b->out[8] = b->out[9] = 1;
         break;
-    case CORNERS: memcpy(b->out, corners[c->value].confined, sizeof by_crate); break;
+    case CORNERS: memcpy(b->out, cornered[c->value].confined, sizeof by_crate); break;
     case KIND: memcpy(b->out, by_w3c, sizeof by_w3c); break;
     default: memcpy(b->out, by_crate, sizeof by_crate);
     }

@@ -87,9 +87,9 @@ typedef struct {
 } wunqaber_call;
 
 /* What calls give: a point; a row, whose run has the columns from start up to but not end; a styled row with
- * three such runs; a rectangle; the radii of a box, corner by corner; those as confined to the box, with the length
- * of the edge that decided and the sum of the two radii given along it, 1 and 1 where no radius was reduced; the size
- * of a picture that is read. */
+ * three such runs; a rectangle; the radii of a box, corner by corner, and as confined to it: with the length of the
+ * edge that decided and the sum of the two radii given along it, 1 and 1 where no radius was reduced; the size of a
+ * picture that is read. */
 typedef struct {
     int32_t x, y;
 } wunqaber_point;
@@ -166,7 +166,8 @@ uint32_t wunqaber_offset(const int32_t *figure, size_t figure_length, int32_t k,
 
 /* Ten numbers: the eight radii as confined to the box; then the length L of the edge that decided, and the sum S of
  * the two radii given along it; or 101. Each radius is the one given times L / S, rounded down. L and S are not
- * cancelled, and are 1 and 1 where no radius was reduced; S is never 0. Refused by 1, 2, 3, 13. */
+ * cancelled; of equal edges the first of top, right, bottom, left decides; they are 1 and 1 where no radius was
+ * reduced. S is never 0, and L is 0 where that edge has no length. Refused by 1, 2, 3, 13. */
 uint32_t wunqaber_confined_radii(const int32_t *figure, size_t figure_length,
                                  int32_t *out, size_t out_length);
 

@@ -213,8 +213,8 @@ impl Report {
         self.check("offset", f, Ask::Offset(k), attempt(|| Original.offset(f, k)), Reference.offset(f, k));
     }
 
-    /// The radii, and of a box L and S. Those the original does not say: the reference's are held against another wording
-    /// of the rule, and the original's radii against what they make of the given ones.
+    /// The radii, and of a box L and S. The original does not say L and S: the reference's are held against another
+    /// wording of the rule, and the original's radii against floor(r × L / S) of each radius r given.
     fn confine(&mut self, f: &Figure) {
         let original = attempt(|| Original.confine(f));
         if let Some(c) = reference::confined(f) {

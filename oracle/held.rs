@@ -478,7 +478,7 @@ impl Held {
         println!("{} comparisons equal, 0 different; {panics} panics of the original", sum.all());
     }
 
-    /// Ends the program where boxes whose deciding edge came to decide in some way were confined less often.
+    /// Ends the program where, of the ways in which an edge comes to decide, one was met less often than this.
     pub fn each_decision_met(&self, least: u64) {
         if let Some(missed) = self.decisions.missed(least) {
             println!("DIFFERENT: too few boxes were confined, {missed}");

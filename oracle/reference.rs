@@ -1,6 +1,6 @@
-//! Document 01's DEFINITIONS, plainly, in i64 (the widest number here stays below 2^52; this build
-//! has overflow checks on as well). Written from the paper, not from the Rust. Sentences of the
-//! paper are quoted at the code that says them.
+//! The DEFINITIONS of document 01, and what document 02 adds to them, plainly, in i64 (the widest number
+//! here stays below 2^52; this build has overflow checks on as well). Written from the papers, not from
+//! the Rust. Sentences of the papers are quoted at the code that says them.
 
 use crate::records::{Answers, Figure, Kind, Plain, Style};
 
