@@ -17,6 +17,7 @@ FOR_READERS = {
     'checked-drawings', 'own-drawings',  # the checked drawings of the scope, and our own
     'sheet-rules-kept', 'host-demand3', 'sheet-comes-to-the-same',  # README, 'What is proved'
     'add-told-seven', 'paint-told-seven',  # docs/ARCHITECTURE.md, 'Where the demands are stated'
+    'answers-on-rows',  # the test of a row answers as the paper's test
     'area-is-offset',  # an area has the rows of the figure that an offset call gives
     'w3c-within-box',  # under the W3C's rule no corner is larger than the box
     'rows-all-inside',  # the first row decides for all rows of an ellipse

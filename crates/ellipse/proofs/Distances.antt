@@ -4,9 +4,9 @@
 use mathlib.Core.Path.{_≡_, refl, _∙_}
 use mathlib.Core.Bool.{Bool, true, false, cond}
 use Prim.Native.Nat.{ℕ, zero, suc, _+_, _-_, _*_, _/_, _≤_, _<_}
-use native.Mathlib.Nat.{le-trans, lt-of-le-of-lt, mul-le-mul, mul-le-mul-left, one-mul}
+use native.Mathlib.Nat.{lt-of-le-of-lt, mul-le-mul, mul-le-mul-left, one-mul}
 use native.Mathlib.Omega.{arith}
-use borrow.Author.Tests.{ltb-true, ltb-false, lt-ltb, le-ltb}
+use borrow.Author.Tests.{ltb-true, lt-ltb, le-ltb}
 use lib.Dec.{ltb, eqb, eqb·zero-suc, eqb·suc-zero}
 use lib.IntN.{ℤ, pos, negsuc, natAbs, _+ℤ_, _-ℤ_, _*ℤ_}
 use Rattle.signed.specs.Signed.{positivePart as P, negativePart as N}
@@ -92,7 +92,7 @@ gap-middle n k = omega arith
 pub gap-edge : (n k : ℕ) → k < n → gap n k ≤ gap n 0
 gap-edge n k kn = omega arith
 
--- ---- nearer is inside, farther is outside
+-- ---- nearer is inside
 module _ (c : EllipseContains) {x x′ y y′ : ℕ} (hx : x ≤ x′) (hy : y ≤ y′) where
   weighted-sum-le : c .«x_weight» * (x * x) + c .«y_weight» * (y * y) ≤ c .«x_weight» * (x′ * x′) + c .«y_weight» * (y′ * y′)
   weighted-sum-le =
@@ -101,10 +101,6 @@ module _ (c : EllipseContains) {x x′ y y′ : ℕ} (hx : x ≤ x′) (hy : y �
   pub nearer-inside : belowThreshold c x′ y′ ≡ true → belowThreshold c x y ≡ true
   unfolding belowThreshold
   nearer-inside e = lt-ltb _ _ (lt-of-le-of-lt weighted-sum-le (ltb-true _ _ e))
-
-  pub farther-outside : belowThreshold c x y ≡ false → belowThreshold c x′ y′ ≡ false
-  unfolding belowThreshold
-  farther-outside e = le-ltb _ _ (le-trans (ltb-false _ _ e) weighted-sum-le)
 
 -- ---- an ellipse without a side has nothing inside
 pub no-width-outside : (h x y : ℕ) → belowThreshold (containsOf 0 h) x y ≡ false

@@ -1,2 +1,3 @@
 pub mod Ellipse
 pub mod Relative
+pub mod Row

@@ -12,12 +12,20 @@ ghost use Rattle.geometry.specs.Bounds.{wideSide, widePoint, SizeUpTo, PointNea
 ghost use Rattle.rectangle.specs.Bounds.{Bounded};
 ghost use Rattle.ellipse.specs.Ellipse.{threshold, center2x, fromCenter2x, contains as Ellipse·contains};
 ghost use Rattle.ellipse.specs.Relative.{gap as Relative·gap, wideDistance, wideSideSquare, wideDistanceSquare, wideProduct, containsOf, SmallWeights, belowThreshold};
+ghost use Rattle.ellipse.specs.Row.{onRow, insideOnRow};
 
 // The weights of X² and Y² and the bound of their sum: one form for equal and unequal sides, where
 // the Rust compares its two squares at each point.
 pub struct EllipseContains {
     pub x_weight: u64,
     pub y_weight: u64,
+    pub threshold: u64,
+}
+
+// The test on one row, for many columns: the weight of X², and what the row leaves of the bound. So a
+// column takes one square, one product and one comparison.
+pub struct RowContains {
+    pub x_weight: u64,
     pub threshold: u64,
 }
 
@@ -56,6 +64,13 @@ fn diameter_to_threshold(diameter: u32) -> u64
     }
 }
 
+// What a row's product leaves of the bound: nothing where it is the larger, and then no column is inside.
+fn left_after(product: u64, bound: u64) -> u64
+    ensures { λ r. ⌜ r ≡ bound - product ⌝ }
+{
+    if product < bound { bound - product } else { 0 }
+}
+
 impl EllipseContains {
     pub fn new(size: Size) -> EllipseContains
         requires { ⌜ SizeUpTo wideSide size ⌝ }
@@ -87,6 +102,29 @@ impl EllipseContains {
     {
         times(self.x_weight, distance_square(x)) + times(self.y_weight, distance_square(y))
             < self.threshold
+    }
+
+    // The test on the row at twice the distance y from the middle.
+    pub fn on_row(self, y: u64) -> RowContains
+        requires { ⌜ SmallWeights self ⌝ }
+        requires { ⌜ y ≤ wideDistance ⌝ }
+        ensures { λ r. ⌜ (r ≡ onRow self y) × (r .«x_weight» ≤ wideSideSquare) ⌝ }
+    {
+        let product = times(self.y_weight, distance_square(y));
+        RowContains {
+            x_weight: self.x_weight,
+            threshold: left_after(product, self.threshold),
+        }
+    }
+}
+
+impl RowContains {
+    // Whether a point of the row is inside, by twice its distance from the middle.
+    pub fn contains(self, x: u64) -> bool
+        requires { ⌜ (self .«x_weight» ≤ wideSideSquare) × (x ≤ wideDistance) ⌝ }
+        ensures { λ r. ⌜ r ≡ insideOnRow self x ⌝ }
+    {
+        times(self.x_weight, distance_square(x)) < self.threshold
     }
 }
 

@@ -5,7 +5,7 @@ use mathlib.Core.Path.{_≡_, refl, sym, subst, _∙_}
 use mathlib.Core.Logic.{⊎-elim}
 use mathlib.Core.Bool.{Bool, true, false}
 use Prim.Native.Nat.{ℕ, _+_, _-_, _/_, _≤_, _<_, min}
-use native.Mathlib.Nat.{le-refl, eq-or-lt-of-le}
+use native.Mathlib.Nat.{eq-or-lt-of-le}
 use native.Mathlib.Decide.{decLe}
 use native.Mathlib.Omega.{arith}
 use Rattle.scanline.specs.declared.Place.{Place}
@@ -13,14 +13,18 @@ use Rattle.scanline.specs.declared.Place.the-variants.{At, Nowhere}
 use Rattle.scanline.specs.Places.{findFrom}
 use Rattle.scanline.proofs.Find.{FoundAt, find-at, find-none, found-at, found-none, Rising}
 use Rattle.ellipse.specs.declared.EllipseContains.{EllipseContains}
+use Rattle.ellipse.specs.declared.RowContains.{RowContains}
 use Rattle.ellipse.specs.Relative.{gap}
+use Rattle.ellipse.specs.Row.{onRow}
 use Rattle.ellipse_search.specs.Search.{columnInside}
-use Rattle.ellipse.proofs.Distances.{gap-falls, gap-middle, farther-outside}
+use Rattle.ellipse_search.specs.Row.{columnOnRow}
+use Rattle.ellipse.proofs.Distances.{gap-falls, gap-middle}
+use Rattle.ellipse.proofs.Row.{below-on-row, farther-outside}
 
-module _ (c : EllipseContains) (width y : ℕ) where
-  pub columns-rise : (from m : ℕ) → m ≤ (width - 1) / 2 → Rising (columnInside c width y) from m
-  unfolding columnInside
-  columns-rise from m mw i j fi ij jm e = farther-outside c (gap-falls width i j ij (omega arith)) (le-refl y) e
+module _ (row : RowContains) (width : ℕ) where
+  pub row-rises : (from m : ℕ) → m ≤ (width - 1) / 2 → Rising (columnOnRow row width) from m
+  unfolding columnOnRow
+  row-rises from m mw i j fi ij jm e = farther-outside row (gap-falls width i j ij (omega arith)) e
 
   module _ (from count nearest : ℕ) (is : nearest ≡ min ((width - 1) / 2) (from + count - 1)) (some : 0 < count) where
     nearest-least : (k : ℕ) → from ≤ k → k < from + count → gap width nearest ≤ gap width k
@@ -30,17 +34,17 @@ module _ (c : EllipseContains) (width y : ℕ) where
         by-order (yes l) = let e : nearest ≡ (width - 1) / 2 = omega arith in rw e (gap-middle width k)
         by-order (no l) = gap-falls width k nearest (omega arith) (omega arith)
 
-    pub nearest-outside : columnInside c width y nearest ≡ false → (k : ℕ) → from ≤ k → k < from + count → columnInside c width y k ≡ false
-    unfolding columnInside
-    nearest-outside e k fk kc = farther-outside c (nearest-least k fk kc) (le-refl y) e
+    pub nearest-outside : columnOnRow row width nearest ≡ false → (k : ℕ) → from ≤ k → k < from + count → columnOnRow row width k ≡ false
+    unfolding columnOnRow
+    nearest-outside e k fk kc = farther-outside row (nearest-least k fk kc) e
 
     -- from an inside column at or before the nearest, what is found up to it is found in the whole
-    pub walk-left-finds : (start : ℕ) → from ≤ start → start ≤ nearest → columnInside c width y start ≡ true
-        → findFrom (columnInside c width y) (start + 1 - from) from ≡ findFrom (columnInside c width y) count from
-    walk-left-finds start fs sn here = by-place (findFrom (columnInside c width y) (start + 1 - from) from) refl
+    pub walk-left-finds : (start : ℕ) → from ≤ start → start ≤ nearest → columnOnRow row width start ≡ true
+        → findFrom (columnOnRow row width) (start + 1 - from) from ≡ findFrom (columnOnRow row width) count from
+    walk-left-finds start fs sn here = by-place (findFrom (columnOnRow row width) (start + 1 - from) from) refl
       where
         test : ℕ → Bool
-        test = columnInside c width y
+        test = columnOnRow row width
 
         by-place : (p : Place) → findFrom test (start + 1 - from) from ≡ p → findFrom test (start + 1 - from) from
             ≡ findFrom test count from
@@ -55,15 +59,15 @@ module _ (c : EllipseContains) (width y : ℕ) where
             absurd (omega arith)
 
     -- after an outside column, what is found up to the nearest is found in the whole
-    pub walk-right-finds : (start : ℕ) → from ≤ start → start ≤ nearest → columnInside c width y start ≡ false
-        → findFrom (columnInside c width y) (nearest - start) (start + 1) ≡ findFrom (columnInside c width y) count from
+    pub walk-right-finds : (start : ℕ) → from ≤ start → start ≤ nearest → columnOnRow row width start ≡ false
+        → findFrom (columnOnRow row width) (nearest - start) (start + 1) ≡ findFrom (columnOnRow row width) count from
     walk-right-finds start fs sn here = by-place (findFrom test (nearest - start) (start + 1)) refl
       where
         test : ℕ → Bool
-        test = columnInside c width y
+        test = columnOnRow row width
 
         before-start : (i : ℕ) → from ≤ i → i ≤ start → test i ≡ false
-        before-start i fi is′ = columns-rise from nearest (omega arith) i start fi is′ sn here
+        before-start i fi is′ = row-rises from nearest (omega arith) i start fi is′ sn here
 
         by-place : (p : Place) → findFrom test (nearest - start) (start + 1) ≡ p → findFrom test (nearest - start) (start + 1)
             ≡ findFrom test count from
@@ -81,6 +85,20 @@ module _ (c : EllipseContains) (width y : ℕ) where
             at-nearest : Dec (nearest ≤ start) → test nearest ≡ false
             at-nearest (yes l) = before-start nearest (omega arith) l
             at-nearest (no l) = found-none test (nearest - start) (start + 1) e nearest (omega arith) (omega arith)
+
+-- ---- the test of the row answers as the test of its points
+module _ (c : EllipseContains) (width y : ℕ) where
+  pub on-row : columnOnRow (onRow c y) width ≡ columnInside c width y
+  unfolding columnOnRow columnInside
+  on-row i k = below-on-row c (gap width k) y i
+
+  -- so a search by it finds what a search by that finds
+  pub finds-on-row : (row : RowContains) → row ≡ onRow c y → (count from : ℕ)
+      → findFrom (columnOnRow row width) count from ≡ findFrom (columnInside c width y) count from
+  finds-on-row row e count from = (λ i. findFrom (columnOnRow (e i) width) count from) ∙ (λ i. findFrom (on-row i) count from)
+
+  pub columns-rise : (from m : ℕ) → m ≤ (width - 1) / 2 → Rising (columnInside c width y) from m
+  columns-rise from m mw = subst (λ (test : ℕ → Bool). Rising test from m) on-row (row-rises (onRow c y) width from m mw)
 
 -- one column more that is outside
 pub passed-more : {test : ℕ → Bool} {start k : ℕ} → ((i : ℕ) → start < i → i ≤ k → test i ≡ false) → test (k + 1) ≡ false

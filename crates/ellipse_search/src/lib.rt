@@ -1,23 +1,26 @@
 // The first inside column of a row, after embedded-graphics 0.8.2 `ellipse/points.rs` (`Scanlines`),
 // which looks from the left. Up to the middle the test once true stays true, so here it is found by
-// halving, or from a column that is supposed near.
+// halving, or from a column that is supposed near. A search forms the test of its row once, and goes
+// from column to column by that.
 use ellipse::EllipseContains;
+use ellipse::RowContains;
 use scanline::Place;
 ghost use mathlib.Core.Path.{_≡_};
 ghost use mathlib.Core.Bool.{true, false};
 ghost use Prim.Native.Nat.{_+_, _-_, _/_, _<_, _≤_};
 ghost use Rattle.geometry.specs.Bounds.{wideSide};
 ghost use Rattle.scanline.specs.Places.{findFrom};
-ghost use Rattle.ellipse.specs.Relative.{wideDistance, SmallWeights};
+ghost use Rattle.ellipse.specs.Relative.{wideDistance, wideSideSquare, SmallWeights};
 ghost use Rattle.ellipse_search.specs.Search.{columnInside, NearestOf};
+ghost use Rattle.ellipse_search.specs.Row.{columnOnRow};
 
 // The test at a column at or before the middle, where the distance is a plain difference.
-fn inside_left(test: EllipseContains, width: u32, y: u64, k: u32) -> bool
-    requires { ⌜ SmallWeights test ⌝ }
-    requires { ⌜ (width ≤ wideSide) × (y ≤ wideDistance) × (k < width) × (k ≤ (width - 1) / 2) ⌝ }
-    ensures { λ r. ⌜ r ≡ columnInside test width y k ⌝ }
+fn inside_left(row: RowContains, width: u32, k: u32) -> bool
+    requires { ⌜ row .«x_weight» ≤ wideSideSquare ⌝ }
+    requires { ⌜ (width ≤ wideSide) × (k < width) × (k ≤ (width - 1) / 2) ⌝ }
+    ensures { λ r. ⌜ r ≡ columnOnRow row width k ⌝ }
 {
-    test.contains(signed::wide(width - 1 - 2 * k), y)
+    row.contains(signed::wide(width - 1 - 2 * k))
 }
 
 // Of the `count` columns from `from` on, if there are any, the one nearest to the middle: the middle, or
@@ -44,14 +47,15 @@ pub fn first_inside(test: EllipseContains, width: u32, y: u64, from: u32, count:
     let Place::At(nearest) = nearest_column(width, from, count) else {
         return Place::Nowhere;
     };
-    if !inside_left(test, width, y, nearest) {
+    let row = test.on_row(y);
+    if !inside_left(row, width, nearest) {
         return Place::Nowhere;
     }
     let mut lo = from;
     let mut hi = nearest;
     while lo < hi {
         let k = lo + (hi - lo) / 2;
-        if inside_left(test, width, y, k) {
+        if inside_left(row, width, k) {
             hi = k;
         } else {
             lo = k + 1;
@@ -61,15 +65,15 @@ pub fn first_inside(test: EllipseContains, width: u32, y: u64, from: u32, count:
 }
 
 // The first inside column, from an inside one: to the left while it is inside.
-fn walk_left(test: EllipseContains, width: u32, y: u64, from: u32, start: u32) -> Place
-    requires { ⌜ SmallWeights test ⌝ }
-    requires { ⌜ (width ≤ wideSide) × (y ≤ wideDistance) × (start < width) × (start ≤ (width - 1) / 2) ⌝ }
-    requires { ⌜ (from ≤ start) × (columnInside test width y start ≡ true) ⌝ }
-    ensures { λ r. ⌜ r ≡ findFrom (columnInside test width y) (start + 1 - from) from ⌝ }
+fn walk_left(row: RowContains, width: u32, from: u32, start: u32) -> Place
+    requires { ⌜ row .«x_weight» ≤ wideSideSquare ⌝ }
+    requires { ⌜ (width ≤ wideSide) × (start < width) × (start ≤ (width - 1) / 2) ⌝ }
+    requires { ⌜ (from ≤ start) × (columnOnRow row width start ≡ true) ⌝ }
+    ensures { λ r. ⌜ r ≡ findFrom (columnOnRow row width) (start + 1 - from) from ⌝ }
 {
     let mut k = start;
     while from < k {
-        if inside_left(test, width, y, k - 1) {
+        if inside_left(row, width, k - 1) {
             k -= 1;
         } else {
             return Place::At(k);
@@ -79,16 +83,16 @@ fn walk_left(test: EllipseContains, width: u32, y: u64, from: u32, start: u32) -
 }
 
 // The first inside column after an outside one, up to the nearest to the middle.
-fn walk_right(test: EllipseContains, width: u32, y: u64, start: u32, nearest: u32) -> Place
-    requires { ⌜ SmallWeights test ⌝ }
-    requires { ⌜ (width ≤ wideSide) × (y ≤ wideDistance) × (nearest < width) × (nearest ≤ (width - 1) / 2) ⌝ }
-    requires { ⌜ (start ≤ nearest) × (columnInside test width y start ≡ false) ⌝ }
-    ensures { λ r. ⌜ r ≡ findFrom (columnInside test width y) (nearest - start) (start + 1) ⌝ }
+fn walk_right(row: RowContains, width: u32, start: u32, nearest: u32) -> Place
+    requires { ⌜ row .«x_weight» ≤ wideSideSquare ⌝ }
+    requires { ⌜ (width ≤ wideSide) × (nearest < width) × (nearest ≤ (width - 1) / 2) ⌝ }
+    requires { ⌜ (start ≤ nearest) × (columnOnRow row width start ≡ false) ⌝ }
+    ensures { λ r. ⌜ r ≡ findFrom (columnOnRow row width) (nearest - start) (start + 1) ⌝ }
 {
     let mut k = start;
     while k < nearest {
         k += 1;
-        if inside_left(test, width, y, k) {
+        if inside_left(row, width, k) {
             return Place::At(k);
         }
     }
@@ -107,10 +111,11 @@ fn next_inside(test: EllipseContains, width: u32, y: u64, from: u32, count: u32,
         return Place::Nowhere;
     };
     let start = signed::least(signed::most(hint, from), nearest);
-    if inside_left(test, width, y, start) {
-        return walk_left(test, width, y, from, start);
+    let row = test.on_row(y);
+    if inside_left(row, width, start) {
+        return walk_left(row, width, from, start);
     }
-    walk_right(test, width, y, start, nearest)
+    walk_right(row, width, start, nearest)
 }
 
 // The hint of a search that may begin anywhere.
@@ -137,8 +142,9 @@ pub fn find_inside(
     first_inside(test, width, y, from, count)
 }
 
-// The same in a scan that goes on outward: where the hint is one of the columns and inside, the walk goes
-// to the left from it, and that short way is meant to stand in the loop that scans. Else it is `find_inside`.
+// The same in a scan that goes on outward: where the hint is one of the columns, not past the middle, and
+// inside, the walk goes to the left from it, and that short way is meant to stand in the loop that scans.
+// Else it is `find_inside`.
 pub fn scan_inside(
     test: EllipseContains,
     width: u32,
@@ -153,11 +159,10 @@ pub fn scan_inside(
     ensures { λ r. ⌜ r ≡ findFrom (columnInside test width y) count from ⌝ }
 {
     if from <= hint {
-        if hint <= (width - 1) / 2 {
-            if hint < from + count {
-                if inside_left(test, width, y, hint) {
-                    return walk_left(test, width, y, from, hint);
-                }
+        if hint < signed::least((width + 1) / 2, from + count) {
+            let row = test.on_row(y);
+            if inside_left(row, width, hint) {
+                return walk_left(row, width, from, hint);
             }
         }
     }

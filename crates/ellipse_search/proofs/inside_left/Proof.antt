@@ -1,9 +1,9 @@
 -- `ellipse_search::inside_left` meets its contract: up to the middle the gap is the one difference.
 -- Assumes nothing.
 use mathlib.Core.Path.{_≡_, ap, _∙_}
-use Prim.Native.Nat.{ℕ}
-use Rattle.ellipse.specs.Relative.{gap, belowThreshold}
-use Rattle.ellipse_search.specs.Search.{columnInside}
+use Rattle.ellipse.specs.Relative.{gap}
+use Rattle.ellipse.specs.Row.{insideOnRow}
+use Rattle.ellipse_search.specs.Row.{columnOnRow}
 use borrow.Author.Needs.{needs}
 use native.Mathlib.Omega.{arith}
 use Rattle.ellipse_search.proofs.inside_left.Statement.{statement}
@@ -25,11 +25,11 @@ contains-requires : tie.Need-contains-requires
 contains-requires c κs = search needs
 
 returns : tie.Need-returns
-unfolding columnInside
+unfolding columnOnRow
 returns c =
     let entry = c .before .before .args in
     let near : c .before .wide .result ≡ gap (entry .width) (entry .k) = omega (arith, c .before .wide .ensures) in
-    c .contains .ensures ∙ ap (λ (x : ℕ). belowThreshold (entry .test) x (entry .y)) near
+    c .contains .ensures ∙ ap (insideOnRow (entry .row)) near
 
 pub inside-left-spec : {M : Type 1} → statement M
 inside-left-spec =

@@ -1,37 +1,45 @@
 -- `ellipse_search::scan_inside` meets its contract: from an inside column to the left, and that finds what the whole search would
--- (`walk-left-finds`).
+-- (`walk-left-finds`), by the test of the row, which finds the same (`finds-on-row`).
 -- Assumes nothing.
 use mathlib.Core.Path.{refl, sym, _∙_}
 use Prim.Native.Nat.{_+_, _-_, _/_, min}
-use Rattle.ellipse_search.proofs.Search.{walk-left-finds}
+use Rattle.ellipse_search.proofs.Search.{walk-left-finds, finds-on-row}
 use borrow.Author.Needs.{needs}
 use native.Mathlib.Omega.{arith}
 use Rattle.ellipse_search.proofs.scan_inside.Statement.{statement}
 use Rattle.ellipse_search.proofs.scan_inside.Tie as tie
 
-sub-if2 : tie.Need-sub-if2
-sub-if2 c = search needs
+add-least : tie.Need-add-least
+add-least c = search needs
 
-add-if3 : tie.Need-add-if3
-add-if3 c = search needs
+add-least-2 : tie.Need-add-least-2
+add-least-2 c = search needs
+
+least-requires : tie.Need-least-requires
+least-requires c κs = search needs
+
+on-row-requires : tie.Need-on-row-requires
+on-row-requires c κs = search needs
 
 inside-left-requires : tie.Need-inside-left-requires
 inside-left-requires c κs = search needs
 
 walk-left-requires : tie.Need-walk-left-requires
 walk-left-requires c κs = (
-  c .before .before .before .before .before .pre .0,
-  ((omega arith, omega arith, omega arith, omega arith), (omega arith, sym (c .before .inside-left .ensures) ∙ c .if4 .taken)),
+  c .before .before .on-row .ensures .1,
+  ((omega arith, omega arith, omega arith), (omega arith, sym (c .before .inside-left .ensures) ∙ c .if3 .taken)),
 )
 
 -- from the hint
 returns : tie.Need-returns
 returns c =
-    let entry = c .before .before .before .before .before .before .args in
+    let made = c .before .before .before .on-row in
+    let entry = c .before .before .before .before .before .before .before .args in
     c .walk-left .ensures
-    ∙ walk-left-finds (entry .test) (entry .width) (entry .y) (entry .from) (entry .count)
+    ∙ walk-left-finds (made .result) (entry .width) (entry .from) (entry .count)
     (min ((entry .width - 1) / 2) (entry .from + entry .count - 1)) refl (omega arith) (entry .hint) (omega arith) (omega arith)
-    (sym (c .before .before .inside-left .ensures) ∙ c .before .if4 .taken)
+    (sym (c .before .before .inside-left .ensures) ∙ c .before .if3 .taken)
+    ∙ finds-on-row (entry .test) (entry .width) (entry .y) _ (made .ensures .0) (entry .count) (entry .from)
 
 find-inside-requires : tie.Need-find-inside-requires
 find-inside-requires c κs = search needs
@@ -53,8 +61,10 @@ pub scan-inside-spec : {M : Type 1} → statement M
 scan-inside-spec =
     tie.close
     (tie.spec
-    sub-if2
-    add-if3
+    add-least
+    add-least-2
+    least-requires
+    on-row-requires
     inside-left-requires
     walk-left-requires
     returns

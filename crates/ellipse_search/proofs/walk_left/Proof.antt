@@ -4,17 +4,17 @@ use mathlib.Core.Path.{_≡_, sym, _∙_}
 use mathlib.Core.Bool.{true}
 use Prim.Native.Nat.{_-_, _≤_}
 use Rattle.scanline.proofs.Find.{find-at}
-use Rattle.ellipse_search.specs.Search.{columnInside}
-use Rattle.ellipse_search.proofs.Search.{columns-rise}
+use Rattle.ellipse_search.specs.Row.{columnOnRow}
+use Rattle.ellipse_search.proofs.Search.{row-rises}
 use native.Mathlib.Omega.{arith}
 use Rattle.ellipse_search.proofs.walk_left.Statement.{statement}
 use Rattle.ellipse_search.proofs.walk_left.Tie as tie
 
 abbrev Inv-loop : tie.InvT-loop
-Inv-loop test width y from start k₀ k = (from ≤ k) × (k ≤ start) × (columnInside test width y k ≡ true)
+Inv-loop row width from start k₀ k = (from ≤ k) × (k ≤ start) × (columnOnRow row width k ≡ true)
 
 abbrev μ-loop : tie.MeasureT-loop
-μ-loop test width y from start k₀ k = k
+μ-loop row width from start k₀ k = k
 
 loop-holds : tie.Need-loop-holds Inv-loop μ-loop
 loop-holds c = (omega arith, omega arith, c .pre .1 .1 .1)
@@ -23,7 +23,7 @@ sub-inside-left : tie.Need-sub-inside-left Inv-loop μ-loop
 sub-inside-left c = omega arith
 
 inside-left-requires : tie.Need-inside-left-requires Inv-loop μ-loop
-inside-left-requires c κs = (c .before .before .pre .0, (omega arith, omega arith, omega arith, omega arith))
+inside-left-requires c κs = (c .before .before .pre .0, (omega arith, omega arith, omega arith))
 
 sub-k : tie.Need-sub-k Inv-loop μ-loop
 sub-k c = omega arith
@@ -39,7 +39,7 @@ returns c =
     let entry = c .before .before .before .before .args in
     let k = c .before .before .before .loop .k in
     sym (find-at _ _ _ _ (omega arith) (omega arith)
-    (λ i fi il. columns-rise (entry .test) (entry .width) (entry .y) (entry .from) (entry .start) (omega arith) i (k - 1) fi (omega arith)
+    (λ i fi il. row-rises (entry .row) (entry .width) (entry .from) (entry .start) (omega arith) i (k - 1) fi (omega arith)
     (omega arith)
     (sym (c .before .inside-left .ensures) ∙ c .if1 .left))
     (c .before .before .before .loop .inv .2))

@@ -4,18 +4,18 @@ use mathlib.Core.Path.{_≡_, sym, _∙_}
 use mathlib.Core.Bool.{false}
 use Prim.Native.Nat.{ℕ, _-_, _≤_, _<_}
 use Rattle.scanline.proofs.Find.{find-at, find-none}
-use Rattle.ellipse_search.specs.Search.{columnInside}
+use Rattle.ellipse_search.specs.Row.{columnOnRow}
 use Rattle.ellipse_search.proofs.Search.{passed-more}
 use native.Mathlib.Omega.{arith}
 use Rattle.ellipse_search.proofs.walk_right.Statement.{statement}
 use Rattle.ellipse_search.proofs.walk_right.Tie as tie
 
 abbrev Inv-loop : tie.InvT-loop
-Inv-loop test width y start nearest k₀ k =
-    (start ≤ k) × (k ≤ nearest) × ((i : ℕ) → start < i → i ≤ k → columnInside test width y i ≡ false)
+Inv-loop row width start nearest k₀ k =
+    (start ≤ k) × (k ≤ nearest) × ((i : ℕ) → start < i → i ≤ k → columnOnRow row width i ≡ false)
 
 abbrev μ-loop : tie.MeasureT-loop
-μ-loop test width y start nearest k₀ k = nearest - k
+μ-loop row width start nearest k₀ k = nearest - k
 
 loop-holds : tie.Need-loop-holds Inv-loop μ-loop
 loop-holds c = (omega arith, omega arith, λ i s l. absurd (omega arith))
@@ -24,7 +24,7 @@ add-k : tie.Need-add-k Inv-loop μ-loop
 add-k c = omega arith
 
 inside-left-requires : tie.Need-inside-left-requires Inv-loop μ-loop
-inside-left-requires c κs = (c .before .before .pre .0, (omega arith, omega arith, omega arith, omega arith))
+inside-left-requires c κs = (c .before .before .pre .0, (omega arith, omega arith, omega arith))
 
 returns : tie.Need-returns Inv-loop μ-loop
 returns c =
