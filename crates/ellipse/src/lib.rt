@@ -12,7 +12,7 @@ ghost use Rattle.geometry.specs.Bounds.{wideSide, widePoint, SizeUpTo, PointNea
 ghost use Rattle.rectangle.specs.Bounds.{Bounded};
 ghost use Rattle.ellipse.specs.Ellipse.{threshold, center2x, fromCenter2x, contains as Ellipse·contains};
 ghost use Rattle.ellipse.specs.Relative.{gap as Relative·gap, wideDistance, wideSideSquare, wideDistanceSquare, wideProduct, containsOf, SmallWeights, belowThreshold};
-ghost use Rattle.ellipse.specs.Row.{onRow, insideOnRow};
+ghost use Rattle.ellipse.specs.Row.{SmallWeight, onRow, insideOnRow};
 
 // The weights of X² and Y² and the bound of their sum: one form for equal and unequal sides, where
 // the Rust compares its two squares at each point.
@@ -22,8 +22,8 @@ pub struct EllipseContains {
     pub threshold: u64,
 }
 
-// The test on one row, for many columns: the weight of X², and what the row leaves of the bound. So a
-// column takes one square, one product and one comparison.
+// The test on one row, for many columns: the weight of X², and what the row leaves of the bound. So the
+// test at a column is one square, one product and one comparison.
 pub struct RowContains {
     pub x_weight: u64,
     pub threshold: u64,
@@ -104,11 +104,11 @@ impl EllipseContains {
             < self.threshold
     }
 
-    // The test on the row at twice the distance y from the middle.
+    // The test on one row, by twice its distance y from the middle.
     pub fn on_row(self, y: u64) -> RowContains
         requires { ⌜ SmallWeights self ⌝ }
         requires { ⌜ y ≤ wideDistance ⌝ }
-        ensures { λ r. ⌜ (r ≡ onRow self y) × (r .«x_weight» ≤ wideSideSquare) ⌝ }
+        ensures { λ r. ⌜ (r ≡ onRow self y) × SmallWeight r ⌝ }
     {
         let product = times(self.y_weight, distance_square(y));
         RowContains {
@@ -121,7 +121,7 @@ impl EllipseContains {
 impl RowContains {
     // Whether a point of the row is inside, by twice its distance from the middle.
     pub fn contains(self, x: u64) -> bool
-        requires { ⌜ (self .«x_weight» ≤ wideSideSquare) × (x ≤ wideDistance) ⌝ }
+        requires { ⌜ SmallWeight self × (x ≤ wideDistance) ⌝ }
         ensures { λ r. ⌜ r ≡ insideOnRow self x ⌝ }
     {
         times(self.x_weight, distance_square(x)) < self.threshold

@@ -1,2 +1,2 @@
--- `Search`: up to the middle the test, once true, stays true.
+-- `Search`: up to the middle the test, once true, stays true; and a search by the test of the row finds the same.
 pub mod Search

@@ -86,19 +86,19 @@ module _ (row : RowContains) (width : ℕ) where
             at-nearest (yes l) = before-start nearest (omega arith) l
             at-nearest (no l) = found-none test (nearest - start) (start + 1) e nearest (omega arith) (omega arith)
 
--- ---- the test of the row answers as the test of its points
+-- ---- on each column the test of the row answers as the test of the point there
 module _ (c : EllipseContains) (width y : ℕ) where
-  pub on-row : columnOnRow (onRow c y) width ≡ columnInside c width y
+  column-on-row : columnOnRow (onRow c y) width ≡ columnInside c width y
   unfolding columnOnRow columnInside
-  on-row i k = below-on-row c (gap width k) y i
+  column-on-row i k = below-on-row c (gap width k) y i
 
-  -- so a search by it finds what a search by that finds
+  -- so a search by the test of the row finds what the promises say
   pub finds-on-row : (row : RowContains) → row ≡ onRow c y → (count from : ℕ)
       → findFrom (columnOnRow row width) count from ≡ findFrom (columnInside c width y) count from
-  finds-on-row row e count from = (λ i. findFrom (columnOnRow (e i) width) count from) ∙ (λ i. findFrom (on-row i) count from)
+  finds-on-row row e count from = (λ i. findFrom (columnOnRow (e i) width) count from) ∙ (λ i. findFrom (column-on-row i) count from)
 
   pub columns-rise : (from m : ℕ) → m ≤ (width - 1) / 2 → Rising (columnInside c width y) from m
-  columns-rise from m mw = subst (λ (test : ℕ → Bool). Rising test from m) on-row (row-rises (onRow c y) width from m mw)
+  columns-rise from m mw = subst (λ (test : ℕ → Bool). Rising test from m) column-on-row (row-rises (onRow c y) width from m mw)
 
 -- one column more that is outside
 pub passed-more : {test : ℕ → Bool} {start k : ℕ} → ((i : ℕ) → start < i → i ≤ k → test i ≡ false) → test (k + 1) ≡ false

@@ -1,4 +1,4 @@
--- The form that the search computes: the test of its row, formed once. The law `on-row` of proofs/Search.antt equates it with
+-- The form that the search computes: the test of its row, formed once. The law `column-on-row` of proofs/Search.antt equates it with
 -- `columnInside`.
 -- Assumes nothing.
 use mathlib.Core.Bool.{Bool}

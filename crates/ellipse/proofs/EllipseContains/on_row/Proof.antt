@@ -1,4 +1,4 @@
--- `ellipse::EllipseContains::on_row` meets its contract: the product is that of the definition, and what it leaves.
+-- `ellipse::EllipseContains::on_row` meets its contract: the product is that of the definition, and so is what it leaves of the bound.
 -- Assumes nothing.
 use Rattle.ellipse.specs.Row.{onRow}
 use borrow.Author.Needs.{needs}
