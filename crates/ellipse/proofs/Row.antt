@@ -1,4 +1,4 @@
--- On a row the test answers as everywhere: a number is below what is left of a bound just where the sum is below the bound.
+-- The test of a row answers as that of a point: a number is below what is left of a bound just where the sum is below the bound.
 -- Assumes nothing.
 use mathlib.Core.Path.{_≡_, sym, _∙_}
 use mathlib.Core.Bool.{false}

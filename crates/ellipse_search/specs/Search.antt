@@ -1,4 +1,4 @@
--- What the search along a row goes by.
+-- What the promises of a search along a row go by.
 -- Assumes nothing.
 use mathlib.Core.Path.{_≡_}
 use mathlib.Core.Bool.{Bool}

@@ -98,8 +98,8 @@ fn walk_right(row: RowContains, width: u32, start: u32, nearest: u32) -> Place
     Place::Nowhere
 }
 
-// The same from a column that the caller supposes near: in a scan the row before gives it. The answer
-// does not depend on it.
+// The same as `first_on_row`, looked for from a column that the caller supposes near: in a scan the row
+// before gives it. The answer does not depend on it.
 fn next_on_row(row: RowContains, width: u32, from: u32, count: u32, hint: u32) -> Place
     requires { ⌜ SmallWeight row ⌝ }
     requires { ⌜ (0 < width) × (width ≤ wideSide) ⌝ }
@@ -116,9 +116,9 @@ fn next_on_row(row: RowContains, width: u32, from: u32, count: u32, hint: u32) -
     walk_right(row, width, start, nearest)
 }
 
-// By a walk from the hint, or by halving where the hint is none of the columns. The test comes as its two
-// numbers: as a struct it would lie in memory, and a scan would write it there for every row, though it
-// seldom comes here.
+// The same by a walk from the hint, or by halving where the hint is none of the columns. The test comes as
+// its two numbers: as a struct it would lie in memory, and a scan would write it there for every row, though
+// it seldom comes here.
 fn find_on_row(x_weight: u64, threshold: u64, width: u32, from: u32, count: u32, hint: u32) -> Place
     requires { ⌜ «x_weight» ≤ wideSideSquare ⌝ }
     requires { ⌜ (0 < width) × (width ≤ wideSide) ⌝ }
@@ -168,9 +168,10 @@ pub fn find_inside(
     find_on_row(row.x_weight, row.threshold, width, from, count, hint)
 }
 
-// The same in a scan that goes on outward: where the hint is one of the columns, of those up to the middle,
-// which are (width + 1) / 2, and inside, the walk goes to the left from it, and that short way is meant to
-// stand in the loop that scans. Else it is the whole search, by the test of the row that is formed already.
+// The same in a scan that goes on outward: where the hint is inside and one of the columns, not past the
+// middle (up to it there are (width + 1) / 2), the walk goes to the left from it, and that short way is meant
+// to stand in the loop that scans. Else it is the whole search, by the test of the row that is formed
+// already.
 pub fn scan_inside(
     test: EllipseContains,
     width: u32,

@@ -67,7 +67,8 @@ returns-2 : tie.Need-returns-2
 returns-2 c = sym (c .enum-told .given .1) ∙ c .before .before .find-on-row .ensures ∙ finds (c .before .before .before .before)
 
 returns-3 : tie.Need-returns-3
-returns-3 c = sym (c .before .k .given .1) ∙ c .before .before .before .find-on-row .ensures ∙ finds (c .before .before .before .before .before)
+returns-3 c =
+    sym (c .before .k .given .1) ∙ c .before .before .before .find-on-row .ensures ∙ finds (c .before .before .before .before .before)
 
 pub scan-inside-spec : {M : Type 1} → statement M
 scan-inside-spec =
