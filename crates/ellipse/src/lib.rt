@@ -23,8 +23,8 @@ pub struct EllipseContains {
 }
 
 // The test on one row, for many columns: the weight of X², and what the row leaves of the bound. So the
-// test at a column is one square, one product and one comparison. The Rust has no such test: it forms both
-// products at each point.
+// test at a column is one square, one product and one comparison. The Rust has no such test: it forms
+// the part of Y anew at each point.
 pub struct RowContains {
     pub x_weight: u64,
     pub threshold: u64,
