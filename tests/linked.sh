@@ -1,5 +1,5 @@
-# Read by hosts.sh, files.sh, compare.sh and instructions.sh: a folder for their files, and the library that hosts link, which is the word given, or
-# $WUNQABER_LIBRARY, or built by tests/library.sh.
+# Read by hosts.sh, files.sh, compare.sh and instructions.sh: a folder for their files, and the library that hosts link, which is the
+# word given, or $WUNQABER_LIBRARY, or built by tests/library.sh.
 script=$(basename "$0")
 root=$(cd "$(dirname "$0")/.." && pwd)
 library=${1:-${WUNQABER_LIBRARY:-}}
