@@ -46,6 +46,8 @@ enum {
     WUNQABER_NOTHING = 101
 };
 
+/* The corners of a crate box are those of embedded-graphics; those of a W3C box go by the rules of the W3C's borders
+ * module, Level 3, for colliding corners and, under a border outside the box, for growing ones. */
 enum { WUNQABER_ELLIPSE = 0, WUNQABER_CRATE_BOX = 1, WUNQABER_W3C_BOX = 2 };
 enum { WUNQABER_INSIDE = 0, WUNQABER_CENTER = 1, WUNQABER_OUTSIDE = 2 };
 enum { WUNQABER_ABSENT = -1 };
@@ -159,8 +161,9 @@ uint32_t wunqaber_row(const int32_t *figure, size_t figure_length, int32_t y,
 uint32_t wunqaber_points(const int32_t *figure, size_t figure_length, int32_t *list, size_t list_length,
                          int32_t *out, size_t out_length);
 
-/* The figure offset by k: 5 numbers for an ellipse, 13 for a box, of which the radii of a crate box are not
- * confined. It may lie beyond the limits. Refused by 1, 2, 3, 5, 13. */
+/* The figure offset by k: 5 numbers for an ellipse, 13 for a box. The radii of a crate box change by k and are not
+ * confined. Those of a W3C box are confined before and after: outward they grow by k, but by less where they are below
+ * k, and 0 remains 0; inward they change by k. It may lie beyond the limits. Refused by 1, 2, 3, 5, 13. */
 uint32_t wunqaber_offset(const int32_t *figure, size_t figure_length, int32_t k,
                          int32_t *out, size_t out_length);
 

@@ -300,15 +300,13 @@ impl Report {
         let f = Figure { kind: Kind::W3c, ..*of };
         self.decisions.note(&f);
         let c = reference::confined(&f).unwrap();
-        // the largest whole number that is at most r * L / S for every edge with S > 0
-        let given = edges(&f);
-        let least = |r: i64| given.iter().filter(|(_, s)| *s > 0).map(|(l, s)| r * l / s).min().unwrap_or(r);
-        let other = if given.iter().any(|(l, s)| s > l) { f.radii.map(|(a, b)| (least(a), least(b))) } else { f.radii };
         let fits = edges(&Figure { radii: c.radii, ..f }).iter().all(|(l, s)| s <= l);
-        self.check("w3c rule", &f, Ask::Confine, Ok((other, fraction(&f), true)), (c.radii, (c.l, c.s), fits));
+        let other = (confined_in_other_words(&f), fraction(&f), true);
+        self.check("w3c rule", &f, Ask::Confine, Ok(other), (c.radii, (c.l, c.s), fits));
 
         // offset by k: the area of a stroke or fill
         let grown = Reference.offset(&f, k);
+        self.check("w3c rule", &f, Ask::Offset(k), Ok(offset_in_other_words(&f, k)), grown);
         let same = Figure { kind: Kind::Crate, ..grown };
         let untouched = attempt(|| Original.confine(&same));
         self.check("w3c rule", &f, Ask::Offset(k), untouched, Some(grown.radii));
@@ -408,6 +406,36 @@ fn deciding(f: &Figure) -> Vec<(usize, (i64, i64))> {
 /// L and S of the edge that decides, or 1 and 1.
 fn fraction(f: &Figure) -> (i64, i64) {
     deciding(f).first().map_or((1, 1), |(_, edge)| *edge)
+}
+
+/// The radii of a W3C box confined: each is the largest whole number that is at most r × L / S for every edge with S > 0.
+fn confined_in_other_words(f: &Figure) -> [(i64, i64); 4] {
+    let given = edges(f);
+    if given.iter().all(|(l, s)| s <= l) {
+        return f.radii;
+    }
+    let least = |r: i64| given.iter().filter(|(_, s)| *s > 0).map(|(l, s)| r * l / s).min().unwrap_or(r);
+    f.radii.map(|(a, b)| (least(a), least(b)))
+}
+
+/// A radius number grown by k in the words of Level 3, which multiplies k by 1 + (r / k − 1)³ where r is below k: the largest
+/// whole number that is at most r + k × (1 + (r / k − 1)³), both taken times k².
+fn grown_in_other_words(r: i64, k: i64) -> i64 {
+    let square = k * k;
+    match r < k {
+        true => (square * r + k * square + (r - k).pow(3)).div_euclid(square),
+        false => r + k,
+    }
+}
+
+/// A W3C box offset by k: by the Rust's way with its rectangle, which is also that of an ellipse, and with the radii in other
+/// words than reference.rs.
+pub fn offset_in_other_words(f: &Figure, k: i64) -> Figure {
+    let rectangle = Original.offset(&ellipse(f.x, f.y, f.w, f.h), k);
+    let changed = |r: i64| if k < 0 { (r + k).max(0) } else { grown_in_other_words(r, k) };
+    let radii = confined_in_other_words(f).map(|(a, b)| (changed(a), changed(b)));
+    let offset = Figure { kind: f.kind, radii, ..rectangle };
+    Figure { radii: confined_in_other_words(&offset), ..offset }
 }
 
 /// How an edge comes to decide: alone, or as the first of edges that are equal by the rule. Where those have the same L and S,
@@ -754,6 +782,10 @@ pub const fn crate_box(x: i64, y: i64, w: i64, h: i64, radii: [(i64, i64); 4]) -
     Figure { kind: Kind::Crate, x, y, w, h, radii }
 }
 
+pub const fn w3c_box(x: i64, y: i64, w: i64, h: i64, radii: [(i64, i64); 4]) -> Figure {
+    Figure { kind: Kind::W3c, ..crate_box(x, y, w, h, radii) }
+}
+
 pub fn styles() -> Vec<Style> {
     let mut list = Vec::new();
     for width in 0..=4 {
@@ -1076,7 +1108,7 @@ pub const FIXED: &[(Figure, Ask, Said)] = &[
     (crate_box(0, 0, 10, 100, [(9, 60); 4]), Confine, Same(&[7, 50, 7, 50, 7, 50, 7, 50])),
     (crate_box(0, 0, 10, 100, [(9, 60); 4]), Row(0), Same(&[0, 6, 4])),
     (crate_box(0, 0, 10, 100, [(9, 60); 4]), Points, Same(&[])),
-    (Figure { kind: Kind::W3c, ..crate_box(0, 0, 10, 100, [(9, 60); 4]) }, Confine, Lacks(&[5, 33, 5, 33, 5, 33, 5, 33])),
+    (w3c_box(0, 0, 10, 100, [(9, 60); 4]), Confine, Lacks(&[5, 33, 5, 33, 5, 33, 5, 33])),
     // h, i
     (crate_box(0, 0, 10, 40, [(1, 20); 4]), StyledRow(unpainted(0, 1), 0), Same(&[0, 0, 1, 1, 9, 9, 10])),
     (crate_box(0, 0, 4, 10, corner(0, 0)), StyledRow(unpainted(2, 0), 5), Same(&[5, 0, 0, 0, 4, 4, 4])),
@@ -1088,6 +1120,18 @@ pub const FIXED: &[(Figure, Ask, Said)] = &[
     // k: Center width 1 leaves the stroke area, and takes 1 from each side of the fill area
     (ellipse(0, 0, 5, 5), StyledBox(unpainted(1, 1)), Same(&[0, 0, 5, 5])),
     (crate_box(0, 0, 5, 5, corner(0, 0)), StyledRow(unpainted(1, 1), 2), Same(&[2, 0, 1, 1, 4, 4, 5])),
+    // document 02, 'Four': sharp corners remain sharp, and those below k grow by less than k
+    (w3c_box(0, 0, 6, 4, [(0, 0); 4]), Offset(4), Lacks(&[2, -4, -4, 14, 12, 0, 0, 0, 0, 0, 0, 0, 0])),
+    (w3c_box(0, 0, 6, 4, [(0, 0); 4]), StyledRow(unpainted(4, 2), -4), Lacks(&[-4, -4, 10, 10, 10, 10, 10])),
+    (w3c_box(0, 0, 6, 4, [(1, 1); 4]), Offset(4), Lacks(&[2, -4, -4, 14, 12, 3, 3, 3, 3, 3, 3, 3, 3])),
+    (w3c_box(0, 0, 6, 4, [(1, 1); 4]), StyledRow(unpainted(4, 2), -4), Lacks(&[-4, -3, 9, 9, 9, 9, 9])),
+    (crate_box(0, 0, 6, 4, [(1, 1); 4]), StyledRow(unpainted(4, 2), -4), Same(&[-4, -1, 7, 7, 7, 7, 7])),
+    (w3c_box(0, 0, 20, 20, [(0, 1), (2, 3), (4, 5), (9, 0)]), Offset(4), Lacks(&[2, -4, -4, 28, 28, 0, 3, 5, 6, 8, 9, 13, 0])),
+    (w3c_box(0, 0, 20, 20, [(0, 1), (2, 3), (4, 5), (9, 0)]), Offset(1), Lacks(&[2, -1, -1, 22, 22, 0, 2, 3, 4, 5, 6, 10, 0])),
+    (w3c_box(0, 0, 20, 20, [(0, 1), (2, 3), (4, 5), (9, 0)]), Offset(-4), Lacks(&[2, 4, 4, 12, 12, 0, 0, 0, 0, 0, 1, 5, 0])),
+    (w3c_box(0, 0, 1024, 1024, [(1, 128), (255, 256), (257, 0), (2, 254)]), Offset(256), Lacks(&[2, -256, -256, 1536, 1536, 3, 352, 510, 512, 513, 0, 7, 509])),
+    // confined to (5, 33) before it grows
+    (w3c_box(0, 0, 10, 100, [(9, 60); 4]), Offset(6), Lacks(&[2, -6, -6, 22, 112, 10, 39, 10, 39, 10, 39, 10, 39])),
     // oval
     (ellipse(0, 0, 4, 4), Paint(Style { fill: Some(9), ..unpainted(0, 1) }, 4, 4), Same(&[0, 9, 9, 0, 9, 9, 9, 9, 9, 9, 9, 9, 0, 9, 9, 0])),
     // where the Rust does not finish

@@ -219,8 +219,29 @@ pub fn confined(f: &Figure) -> Option<Confined> {
     }
 }
 
-fn grown(r: &Radii, k: i64) -> Radii {
+/// "A crate box's radii change by k, never below 0."
+fn offset_radii(r: &Radii, k: i64) -> Radii {
     r.map(|(a, b)| ((a + k).max(0), (b + k).max(0)))
+}
+
+/// "For growth k above 0, a radius number r below k becomes r + k − ceil((k − r)³ / k²); otherwise r + k."
+/// (document 02)
+fn grown(r: i64, k: i64) -> i64 {
+    if r >= k {
+        return r + k;
+    }
+    let (cube, square) = ((k - r).pow(3), k * k);
+    // one more than the quotient where something is left
+    let ceil = cube / square + (cube % square != 0) as i64;
+    r + k - ceil
+}
+
+/// "This replaces 'offset like a crate box' for outward growth of W3C boxes" (document 02).
+fn offset_radii_w3c(r: &Radii, k: i64) -> Radii {
+    if k > 0 {
+        return r.map(|(a, b)| (grown(a, k), grown(b, k)));
+    }
+    offset_radii(r, k)
 }
 
 /// A figure offset and ready for its rows: its rectangle, and a box's confined radii with its
@@ -243,13 +264,12 @@ fn rect_of(f: &Figure) -> Rect {
     }
 }
 
-/// "A crate box is offset, then confined. A W3C box is confined, offset like a crate box, confined
-/// again."
+/// "A crate box is offset, then confined. A W3C box is confined, offset [..], confined again."
 pub fn area(f: &Figure, k: i64) -> Area {
     let rect = offset_rect(rect_of(f), k);
     let radii = match f.kind {
         Kind::Ellipse => [(0, 0); 4],
-        Kind::Crate => confine_crate(&grown(&f.radii, k), rect.w, rect.h).radii,
+        Kind::Crate => confine_crate(&offset_radii(&f.radii, k), rect.w, rect.h).radii,
         Kind::W3c => three_steps(f, k, rect),
     };
     // "Each corner's quadrant is the rectangle of its confined radii in that corner of the box; its
@@ -292,7 +312,7 @@ pub fn area(f: &Figure, k: i64) -> Area {
 
 fn three_steps(f: &Figure, k: i64, rect: Rect) -> Radii {
     let once = confine_w3c(&f.radii, f.w, f.h).radii;
-    confine_w3c(&grown(&once, k), rect.w, rect.h).radii
+    confine_w3c(&offset_radii_w3c(&once, k), rect.w, rect.h).radii
 }
 
 /// "The stroke area is the figure offset by the outside width, the fill area by minus the inside
@@ -510,7 +530,7 @@ impl Answers for Reference {
             h: rect.h,
             radii: match f.kind {
                 Kind::Ellipse => f.radii,
-                Kind::Crate => grown(&f.radii, k),
+                Kind::Crate => offset_radii(&f.radii, k),
                 Kind::W3c => three_steps(f, k, rect),
             },
         }

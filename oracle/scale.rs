@@ -5,14 +5,14 @@
 
 use crate::{
     asked::Ask,
-    compare::{self, crate_box, ellipse, painted, styles, Rng, Script},
+    compare::{self, crate_box, ellipse, painted, styles, w3c_box, Rng, Script},
     files, findings,
     held::{By, Held, WRITE_P5},
     lines::{
         numbers,
         Argument::{Number, Numbers},
     },
-    numbers::{call_numbers, figure_numbers, opened, place_of, style_numbers, styled_numbers},
+    numbers::{call_numbers, figure_numbers, given_figure, opened, place_of, style_numbers, styled_numbers},
     original::Original,
     records::{first_lent, Answers, Figure, Kind, Style},
     reference::{self, area, stroke_area, Book, Call, Reference},
@@ -111,6 +111,14 @@ impl Held {
         self.confined_radii(&n, CONFINED_LENGTH);
         self.offset(&n, k, FIGURE_LENGTH);
         self.styled(f, s);
+    }
+
+    /// A W3C box offset by k, by the second wording of how it grows.
+    fn grown(&mut self, f: &Figure, k: i64) {
+        let n = figure_numbers(f);
+        let wanted = Ok((given_figure(&compare::offset_in_other_words(f, k)), By::Reference));
+        let make = |out: &mut [i32]| library::offset(&n, k as i32, out);
+        self.values("offset", FIGURE_LENGTH, wanted, make, &[Numbers(&n), Number(k)]);
     }
 
     /// A box by the crate's rule and by the W3C's, with the at-th offset and style.
@@ -351,7 +359,7 @@ pub fn each_number_of_a_sheet(r: &mut Held, rng: &mut Rng, step: usize) {
         let f = match i % 3 {
             0 => ellipse(i, i, 7, 5),
             1 => crate_box(i - 4, 12 - i, 6, 8, [(2, 3); 4]),
-            _ => Figure { kind: Kind::W3c, ..crate_box(3, i, 9, 4, [(1, 1), (2, 2), (9, 9), (0, 0)]) },
+            _ => w3c_box(3, i, 9, 4, [(1, 1), (2, 2), (9, 9), (0, 0)]),
         };
         let style = Style { stroke: Some(i as u8), fill: (i % 2 == 0).then_some(200), width: i % 4, align: i % 3 };
         r.sheet_add(&mut sheet, &figure_numbers(&f), &style_numbers(&style));
@@ -409,6 +417,25 @@ fn equal_edges(r: &mut Held, rng: &mut Rng, styles: &[Style], count: usize) {
             let room = CONFINED_LENGTH as i64 + rng.of(&[0, 0, 0, 0, 1, 2, -1, -2]);
             r.confined_radii(&figure_numbers(&Figure { kind, ..f }), room as usize);
         }
+    }
+}
+
+/// W3C boxes grown by every k from 0 to 256, with every radius number from 0 to 256, eight at a time and none reduced; and at
+/// random up to the limits, outward and inward, with corners that collide too.
+fn grown(r: &mut Held, rng: &mut Rng, count: usize) {
+    for k in 0..=256 {
+        for first in (0..=256).step_by(8) {
+            let pair = |at: i64| ((first + at).min(256), (first + at + 1).min(256));
+            r.grown(&w3c_box(-5, 7, 1024, 1000, [pair(0), pair(2), pair(4), pair(6)]), k);
+        }
+    }
+    for n in 0..count {
+        let f = match n % 4 {
+            0 => crate_box(0, 0, 1024, 1024, [(); 4].map(|()| (rng.within(0, 512), rng.within(0, 512)))),
+            1 => rng.small_box(),
+            _ => rng.figure(10),
+        };
+        r.grown(&Figure { kind: Kind::W3c, ..f }, rng.within(-64, 256));
     }
 }
 
@@ -525,6 +552,7 @@ pub fn run(seed: u64, effort: u64, seconds: u64) {
         })
     });
     part("boxes with equal edges, both rules", &mut |r| equal_edges(r, &mut Rng(seed), &styles, 100_000));
+    part("W3C boxes grown, radii and k 0..256, and at random", &mut |r| grown(r, &mut Rng(seed), 200_000));
     part("first row of all ellipse sizes and of all top-left corners", &mut |r| {
         for w in 0..=reference::MAX_SIDE {
             for h in 0..=reference::MAX_SIDE {

@@ -31,9 +31,24 @@ static wunqaber_figure rounded(int x, int y, int width, int height, int r)
     return figure;
 }
 
+static wunqaber_figure w3c(int width, int height, int r)
+{
+    wunqaber_figure figure = rounded(8, 8, width, height, r);
+
+    figure.kind = WUNQABER_W3C_BOX;
+    return figure;
+}
+
 static wunqaber_style inside(int width, int fill)
 {
     const wunqaber_style style = {40, fill, width, WUNQABER_INSIDE};
+
+    return style;
+}
+
+static wunqaber_style outside(int width, int fill)
+{
+    const wunqaber_style style = {40, fill, width, WUNQABER_OUTSIDE};
 
     return style;
 }
@@ -91,15 +106,27 @@ static long rows(wunqaber_figure figure, int count)
     return count;
 }
 
-static long styled_rows(wunqaber_figure figure, int count)
+static long styled_rows_by(wunqaber_figure figure, wunqaber_style style, int first, int count)
 {
-    const wunqaber_style style = inside(2, 90);
     wunqaber_styled_scanline row;
     int y;
 
-    for (y = 0; y < count; y++)
+    for (y = first; y < first + count; y++)
         must(wunqaber_find_styled_row(&figure, &style, y, &row));
     return count;
+}
+
+static long styled_rows(wunqaber_figure figure, int count)
+{
+    return styled_rows_by(figure, inside(2, 90), 0, count);
+}
+
+static long offset(wunqaber_figure figure, int k)
+{
+    wunqaber_figure made;
+
+    must(wunqaber_grow(&figure, k, &made));
+    return 1;
 }
 
 /* All figures of a scene, a call each: counted as one. */
@@ -166,6 +193,18 @@ int main(int count, char **words)
     MEASURE(22, "one call, ellipse 200 x 180", painted(one(200, 180, oval(0, 0, 200, 180), inside(5, 220))))
     MEASURE(23, "one call, page of 8 tiles", painted(tiles(308, 120, 8, 8)))
     MEASURE(24, "one call, ellipse 1000 x 1000 cut at the top", painted(one(1000, 1000, oval(0, -100, 1000, 1000), inside(10, 220))))
+    MEASURE(25, "offset by 4, W3C box 64 x 48, radius 8", offset(w3c(64, 48, 8), 4))
+    MEASURE(26, "offset by 4, W3C box 64 x 48, radius 1", offset(w3c(64, 48, 1), 4))
+    MEASURE(27, "offset by -4, W3C box 64 x 48, radius 8", offset(w3c(64, 48, 8), -4))
+    MEASURE(28, "styled corner row, W3C box 64 x 48, radius 8", styled_rows_by(w3c(64, 48, 8), inside(2, 90), 8, 8))
+    MEASURE(29, "the same, border 4 outside", styled_rows_by(w3c(64, 48, 8), outside(4, 90), 4, 8))
+    MEASURE(30, "the same, radius 2, border 4 outside", styled_rows_by(w3c(64, 48, 2), outside(4, 90), 4, 5))
+    MEASURE(31, "paint call on a sheet, W3C box 64 x 48, radius 8, border 4 outside",
+            on_sheet(one(80, 64, w3c(64, 48, 8), outside(4, 220))))
+    MEASURE(32, "paint call on a sheet, the same with radius 2", on_sheet(one(80, 64, w3c(64, 48, 2), outside(4, 220))))
+    MEASURE(33, "one call, W3C box 64 x 48, radius 8", painted(one(80, 64, w3c(64, 48, 8), inside(2, 220))))
+    MEASURE(34, "one call, the same, border 4 outside", painted(one(80, 64, w3c(64, 48, 8), outside(4, 220))))
+    MEASURE(35, "one call, the same, radius 2, border 4 outside", painted(one(80, 64, w3c(64, 48, 2), outside(4, 220))))
     default:
         return 2;
     }

@@ -17,7 +17,7 @@ set --
 . "$(dirname "$0")/linked.sh"
 
 # What is counted; the rest, such as opening a sheet, is not.
-calls='wunqaber_row wunqaber_styled_row wunqaber_paint_figure wunqaber_sheet_paint'
+calls='wunqaber_row wunqaber_offset wunqaber_styled_row wunqaber_paint_figure wunqaber_sheet_paint'
 # The mean of a measure's calls, set as $mean, and its name as $name; ends with 1 where there is no such measure.
 count() { # the program, the measure
     status=0

@@ -1,6 +1,7 @@
 #!/bin/sh
-# Makes the pictures of README anew from the bytes that the programs write: enlarged so that pixels
-# show, and with the brightest byte made white.
+# Makes the pictures of README and docs/ anew from the bytes that the programs write: enlarged so that
+# pixels show, and with the brightest byte made white. The library that corners.c links is the one that
+# `rt staticlib wunqaber` has built.
 set -eu
 cd "$(dirname "$0")/.."
 picture() { # the program, how much it is enlarged, the brightest byte
@@ -11,3 +12,7 @@ picture clock 4 255
 picture cafe 3 255
 # A 1 bit is black.
 pamenlarge 3 crates/panel/stdout | pnmtopng > docs/pictures/panel.png
+work=$(mktemp -d)
+trap 'rm -rf "$work"' EXIT
+cc -Iinclude -o "$work/corners" hosts/corners.c target/staticlib/libwunqaber.a
+"$work/corners" | pamenlarge 4 | pnmtopng > docs/pictures/corners.png

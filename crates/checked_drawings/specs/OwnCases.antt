@@ -1,4 +1,4 @@
--- Drawings of our own, worked out by hand from document 01, that reach what its checked drawings do not.
+-- Drawings of our own, worked out by hand from documents 01 and 02, that reach what the checked drawings do not.
 -- Assumes nothing.
 use mathlib.Core.List.{List, [], _∷_}
 use lib.IntN.{ℤ, pos, negsuc}
@@ -6,7 +6,7 @@ use Rattle.geometry.specs.declared.Point.{Point}
 use Rattle.rectangle.specs.declared.Rectangle.{Rectangle}
 use Rattle.scanline.specs.Points.{entries}
 use Rattle.rounded_rectangle.specs.declared.RoundedRectangle.{RoundedRectangle}
-use Rattle.style.specs.declared.StrokeAlignment.the-variants.{Inside}
+use Rattle.style.specs.declared.StrokeAlignment.the-variants.{Inside, Outside}
 use Rattle.figure.specs.declared.Figure.the-variants.{Ellipse, CrateBox, W3cBox}
 use Rattle.figure.specs.Figure.{contains, row, points, offset as Figure·offset}
 use Rattle.figure.specs.Calls.{flag, rowValues, figureValues}
@@ -58,4 +58,18 @@ ownCases =
     -- a W3C box is confined, offset and confined again
     ∷ case (figureValues (Figure·offset (W3cBox (box 10 100 9 60)) (pos 5)))
     (pos 2 ∷ negsuc 4 ∷ negsuc 4 ∷ numbers (20 ∷ 110 ∷ 10 ∷ 38 ∷ 10 ∷ 38 ∷ 10 ∷ 38 ∷ 10 ∷ 38 ∷ []))
+    -- document 02, 'Four': a W3C box 6 by 4 with square corners and a stroke of 4 outside, 14 by 12 at (−4, −4). Row 0 of that reaches from
+    -- end to end
+    ∷ case (figureValues (Figure·offset (W3cBox (box 6 4 0 0)) (pos 4)))
+    (pos 2 ∷ negsuc 3 ∷ negsuc 3 ∷ numbers (14 ∷ 12 ∷ 0 ∷ 0 ∷ 0 ∷ 0 ∷ 0 ∷ 0 ∷ 0 ∷ 0 ∷ []))
+    ∷ case (styledRowValues (negsuc 3) (styledRow (W3cBox (box 6 4 0 0)) (stroked 4 Outside) (negsuc 3)))
+    (negsuc 3 ∷ negsuc 3 ∷ numbers (10 ∷ 10 ∷ 10 ∷ 10 ∷ 10 ∷ []))
+    -- with corners of radius 1, which become 3, it lacks a column at each end
+    ∷ case (figureValues (Figure·offset (W3cBox (box 6 4 1 1)) (pos 4)))
+    (pos 2 ∷ negsuc 3 ∷ negsuc 3 ∷ numbers (14 ∷ 12 ∷ 3 ∷ 3 ∷ 3 ∷ 3 ∷ 3 ∷ 3 ∷ 3 ∷ 3 ∷ []))
+    ∷ case (styledRowValues (negsuc 3) (styledRow (W3cBox (box 6 4 1 1)) (stroked 4 Outside) (negsuc 3)))
+    (negsuc 3 ∷ negsuc 2 ∷ numbers (9 ∷ 9 ∷ 9 ∷ 9 ∷ 9 ∷ []))
+    -- a crate box's become 5, and it lacks three
+    ∷ case (styledRowValues (negsuc 3) (styledRow (CrateBox (box 6 4 1 1)) (stroked 4 Outside) (negsuc 3)))
+    (negsuc 3 ∷ negsuc 0 ∷ numbers (7 ∷ 7 ∷ 7 ∷ 7 ∷ 7 ∷ []))
     ∷ []

@@ -6,6 +6,10 @@ use Prim.Native.Nat.{ℕ, _*_, _≤_}
 use Rattle.corner.specs.declared.edge.Edge.{Edge}
 use Rattle.corner.specs.declared.edge.Edges.{Edges}
 
+-- an offset
+abbrev pub wideOffset : ℕ
+wideOffset = 256
+
 -- a radius number of a stroke area's corner: 4096 + 256
 abbrev pub wideRadius : ℕ
 wideRadius = 4352

@@ -1,6 +1,7 @@
 // What is done at one corner of a box, for the two rules that confine radii and for the offset, after
 // embedded-graphics 0.8.2 `rounded_rectangle/corner_radii.rs` and `rounded_rectangle/mod.rs`
-// (`OffsetOutline`). `corner_radii` does it at all four corners.
+// (`OffsetOutline`); how a W3C box's corner grows is not in the source. `corner_radii` does it at all
+// four corners.
 use crate::edge::Edge;
 use geometry::Size;
 
@@ -10,8 +11,9 @@ ghost use mathlib.Core.Path.{_≡_};
 ghost use Prim.Native.Nat.{_<_, _≤_};
 ghost use Rattle.signed.specs.Signed.{Near};
 ghost use Rattle.geometry.specs.Bounds.{wideSide, SizeUpTo};
-ghost use Rattle.corner.specs.EdgeBounds.{wideRadius, BoundedEdge};
+ghost use Rattle.corner.specs.EdgeBounds.{wideOffset, wideRadius, BoundedEdge};
 ghost use Rattle.corner.specs.Corner.{offsetRadius, offsetCorner, scaledCorner};
+ghost use Rattle.corner.specs.Growth.{grownRadius, spreadCorner};
 
 // A corner's radii times L / S, rounded down.
 pub fn scale_corner(radius: Size, edge: Edge) -> Size
@@ -44,5 +46,37 @@ pub fn offset_corner(radius: Size, k: i32) -> Size
     Size {
         width: offset_radius(radius.width, k),
         height: offset_radius(radius.height, k),
+    }
+}
+
+// A radius number of a W3C box grown by k: by all of k from k on, and below that by the less the
+// smaller it is, so that 0 remains 0. What is taken off is rounded up.
+fn grow_radius(radius: u32, k: u32) -> u32
+    requires { ⌜ radius ≤ wideRadius ⌝ }
+    requires { ⌜ k ≤ wideOffset ⌝ }
+    ensures { λ r. ⌜ r ≡ grownRadius k radius ⌝ }
+{
+    if radius < k {
+        let below = k - radius;
+        let square = k * k;
+        radius + k - (below * below * below + (square - 1)) / square
+    } else {
+        radius + k
+    }
+}
+
+// Both numbers of a W3C box's corner offset by k: inward like those of a crate box.
+pub fn spread_corner(radius: Size, k: i32) -> Size
+    requires { ⌜ SizeUpTo wideRadius radius ⌝ }
+    requires { ⌜ Near wideOffset k ⌝ }
+    ensures { λ r. ⌜ r ≡ spreadCorner k radius ⌝ }
+{
+    if k < 0 {
+        return offset_corner(radius, k);
+    }
+    let growth = signed::floor0(k);
+    Size {
+        width: grow_radius(radius.width, growth),
+        height: grow_radius(radius.height, growth),
     }
 }

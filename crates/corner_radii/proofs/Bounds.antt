@@ -1,18 +1,20 @@
 -- How large radii are after each change: confined ones are no larger than they were, offset ones grow by at most the
--- offset, and under the W3C rule no corner is larger than the box.
+-- offset, those of a W3C box by no more than those of a crate box, and under the W3C rule no corner is larger than the box.
 -- Assumes nothing.
 use Prim.Native.Nat.{ℕ, _+_, _≤_}
-use native.Mathlib.Nat.{le-trans}
+use native.Mathlib.Nat.{le-refl, le-trans}
 use native.Mathlib.Omega.{arith}
-use lib.IntN.{ℤ}
+use lib.IntN.{ℤ, pos, negsuc}
 use Rattle.signed.specs.Signed.{Near}
 use Rattle.geometry.specs.declared.Size.{Size}
 use Rattle.geometry.specs.Bounds.{SizeUpTo}
 use Rattle.corner_radii.specs.declared.CornerRadii.{CornerRadii}
 use Rattle.corner.specs.Corner.{offsetRadius, offsetCorner}
+use Rattle.corner.specs.Growth.{grownRadius, spreadCorner}
 use Rattle.corner.proofs.Offset.{offset-radius-by-parts}
+use Rattle.corner.proofs.Growth.{grown-at-most}
 use Rattle.corner_radii.specs.Bounds.{RadiiUpTo, SizeWithin, RadiiWithin}
-use Rattle.corner_radii.specs.CornerRadii.{equalRadii, eachCorner, offset, confine, confineW3c}
+use Rattle.corner_radii.specs.CornerRadii.{equalRadii, eachCorner, offset, spread, confine, confineW3c}
 use Rattle.corner_radii.proofs.Rules.{w3c-fits-edges}
 use Rattle.corner_radii.proofs.Fraction.{fractions, fraction-within}
 
@@ -46,6 +48,26 @@ radii-within-up-to n a b w u =
   where
     by-corner : {s t : Size} → SizeWithin s t → SizeUpTo n t → SizeUpTo n s
     by-corner v u = record { width = le-trans (v .width) (u .width); height = le-trans (v .height) (u .height) }
+
+-- the order of radii
+pub radii-themselves : (r : CornerRadii) → RadiiWithin r r
+radii-themselves r =
+    record { «top_left» = itself _; «top_right» = itself _; «bottom_right» = itself _; «bottom_left» = itself _ }
+  where
+    itself : (s : Size) → SizeWithin s s
+    itself s = record { width = le-refl _; height = le-refl _ }
+
+pub radii-within-trans : {a b c : CornerRadii} → RadiiWithin a b → RadiiWithin b c → RadiiWithin a c
+radii-within-trans v w =
+    record {
+      «top_left» = by-corner (v .«top_left») (w .«top_left»);
+      «top_right» = by-corner (v .«top_right») (w .«top_right»);
+      «bottom_right» = by-corner (v .«bottom_right») (w .«bottom_right»);
+      «bottom_left» = by-corner (v .«bottom_left») (w .«bottom_left»);
+    }
+  where
+    by-corner : {s t u : Size} → SizeWithin s t → SizeWithin t u → SizeWithin s u
+    by-corner p q = record { width = le-trans (p .width) (q .width); height = le-trans (p .height) (q .height) }
 
 -- ---- confined radii
 -- neither rule makes a radius larger
@@ -87,3 +109,16 @@ offset-up-to n m r k u near = each-corner-up-to n (n + m) (offsetCorner k) by-co
 
     by-corner : (s : Size) → SizeUpTo n s → SizeUpTo (n + m) (offsetCorner k s)
     by-corner s v = record { width = by-number _ (v .width); height = by-number _ (v .height) }
+
+-- those of a W3C box are no larger than those of a crate box
+pub spread-within-offset : (r : CornerRadii) (k : ℤ) → RadiiWithin (spread r k) (offset r k)
+unfolding spread offset spreadCorner offsetCorner
+spread-within-offset r (pos k) =
+    record { «top_left» = corner _; «top_right» = corner _; «bottom_right» = corner _; «bottom_left» = corner _ }
+  where
+    number : (x : ℕ) → grownRadius k x ≤ offsetRadius (pos k) x
+    number x = omega (arith, grown-at-most k x, offset-radius-by-parts (pos k) x)
+
+    corner : (s : Size) → SizeWithin (spreadCorner (pos k) s) (offsetCorner (pos k) s)
+    corner s = record { width = number (s .width); height = number (s .height) }
+spread-within-offset r (negsuc k) = radii-themselves (offset r (negsuc k))

@@ -14,7 +14,8 @@ use Rattle.corner.specs.declared.edge.Edge.{Edge}
 use Rattle.corner.specs.declared.edge.Edges.{Edges}
 use Rattle.corner.specs.Edge.{overlap, furtherOver, mostOver, tighter, tightest, someOver}
 use Rattle.corner.specs.Corner.{offsetRadius, offsetCorner, scaledCorner}
-use Rattle.corner_radii.specs.CornerRadii.{equalRadii, radiusCheck, radiiCheck, offset, scaled, reducedBy, reduced, confine, confineW3c}
+use Rattle.corner.specs.Growth.{ceilDiv, grownRadius, spreadCorner}
+use Rattle.corner_radii.specs.CornerRadii.{equalRadii, radiusCheck, radiiCheck, offset, spread, scaled, reducedBy, reduced, confine, confineW3c}
 
 abbrev size : ℕ → ℕ → Size
 size w h = record { width = w; height = h }
@@ -114,26 +115,36 @@ ties-hold : map (λ t. record { among = t .among; crate = mostOver (t .among); w
 unfolding tighter furtherOver overlap
 ties-hold = refl
 
--- ---- offset radii: radii, an offset, and the radii that it must give
+-- ---- offset radii: radii, an offset, and the radii that it must give a crate box and a W3C box
 record Offset : Type 0 where
   radii : CornerRadii
   by : ℤ
-  gives : CornerRadii
+  crate : CornerRadii
+  w3c : CornerRadii
 
-abbrev offset-case : CornerRadii → ℤ → CornerRadii → Offset
-offset-case r k e = record { radii = r; by = k; gives = e }
+abbrev offset-case : CornerRadii → ℤ → CornerRadii → CornerRadii → Offset
+offset-case r k c w = record { radii = r; by = k; crate = c; w3c = w }
 
 abbrev offsets : List Offset
 offsets =
-    offset-case (all 0 7) (pos 0) (all 0 7)
-    ∷ offset-case (all 0 1) (pos 4) (all 4 5)
-    ∷ offset-case (corners 2 3 4 0 5 6 1 2) (negsuc 2) (corners 0 0 1 0 2 3 0 0)
-    ∷ offset-case (all 1024 255) (negsuc 255) (all 768 0)
-    ∷ offset-case (all 1024 0) (pos 256) (all 1280 256)
+    offset-case (all 0 7) (pos 0) (all 0 7) (all 0 7)
+    ∷ offset-case (all 0 1) (pos 4) (all 4 5) (all 0 3)
+    ∷ offset-case (corners 0 1 2 3 4 5 0 4) (pos 4) (corners 4 5 6 7 8 9 4 8) (corners 0 3 5 6 8 9 0 8)
+    -- Level 3's own example: 10 + 20 × (1 + (0.5 − 1)³) is 27.5
+    ∷ offset-case (all 10 10) (pos 20) (all 30 30) (all 27 27)
+    -- one outward leaves every radius above 0 one larger
+    ∷ offset-case (corners 0 1 2 3 4 5 6 7) (pos 1) (corners 1 2 3 4 5 6 7 8) (corners 0 2 3 4 5 6 7 8)
+    -- inward both go the same way
+    ∷ offset-case (corners 2 3 4 0 5 6 1 2) (negsuc 2) (corners 0 0 1 0 2 3 0 0) (corners 0 0 1 0 2 3 0 0)
+    ∷ offset-case (all 1024 255) (negsuc 255) (all 768 0) (all 768 0)
+    -- the largest offset: (k − r)³ / k² is 256, then 253 and a rest, 32, 1 / 65536 and 0
+    ∷ offset-case (all 1024 0) (pos 256) (all 1280 256) (all 1280 0)
+    ∷ offset-case (corners 1 128 255 256 1 128 255 256) (pos 256) (corners 257 384 511 512 257 384 511 512)
+    (corners 3 352 510 512 3 352 510 512)
     ∷ []
 
-offsets-hold : map (λ c. offset (c .radii) (c .by)) offsets ≡ map (λ c. c .gives) offsets
-unfolding offset offsetCorner offsetRadius
+offsets-hold : map (λ c. offset-case (c .radii) (c .by) (offset (c .radii) (c .by)) (spread (c .radii) (c .by))) offsets ≡ offsets
+unfolding offset offsetCorner offsetRadius spread spreadCorner grownRadius ceilDiv
 offsets-hold = refl
 
 -- ---- refusal 2: at the limit, and one above it at each of the eight numbers

@@ -1,5 +1,6 @@
 -- Document 01: the corner radii of a box as 'The records' limits them, 'Rectangle and offset' offsets them and 'Corners'
--- confines them (`corner_radii.rs`); document 02, 'Two': confined radii have their fraction.
+-- confines them (`corner_radii.rs`); document 02, 'Two': confined radii have their fraction, and 'Four': those of a W3C box grow by a rule of
+-- their own.
 -- Assumes nothing.
 use mathlib.Core.Bool.{cond}
 use Prim.Native.Nat.{ℕ, _+_}
@@ -13,6 +14,7 @@ use Rattle.corner.specs.declared.edge.Edge.{Edge}
 use Rattle.corner.specs.declared.edge.Edges.{Edges}
 use Rattle.corner.specs.Edge.{S, L, over, mostOver, tightest, someOver}
 use Rattle.corner.specs.Corner.{offsetCorner, scaledCorner}
+use Rattle.corner.specs.Growth.{spreadCorner}
 use Rattle.corner_radii.specs.declared.CornerRadii.{CornerRadii}
 use Rattle.corner_radii.specs.declared.ConfinedRadii.{ConfinedRadii}
 
@@ -45,6 +47,10 @@ radiiCheck r =
 -- a crate box's radii offset by k (`OffsetOutline::offset`)
 unfoldable pub offset : CornerRadii → ℤ → CornerRadii
 offset r k = eachCorner (offsetCorner k) r
+
+-- a W3C box's radii offset by k, after they were confined: outward they grow by Level 3's rule
+unfoldable pub spread : CornerRadii → ℤ → CornerRadii
+spread r k = eachCorner (spreadCorner k) r
 
 -- ---- 'Corners'
 -- the edges of a box, in the order top, right, bottom, left

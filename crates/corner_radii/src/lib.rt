@@ -1,12 +1,13 @@
 // The four corner radii of a box, how they are offset, and the two rules that confine them, after
 // embedded-graphics 0.8.2 `rounded_rectangle/corner_radii.rs`, and `rounded_rectangle/mod.rs`
-// (`OffsetOutline`) for the offset. The W3C rule is not in the source, nor is the fraction that both
-// rules answer. Each rule finds the edge that decides and scales by it; the Rust keeps that edge in
+// (`OffsetOutline`) for the offset. The W3C rule is not in the source, nor is how a W3C box's radii
+// grow, nor the fraction that both rules answer. Each rule finds the edge that decides and scales by it; the Rust keeps that edge in
 // three mutable locals. The Rust's builder is left out.
 use corner::edge::Edge;
 use corner::edge::Edges;
 use corner::offset_corner;
 use corner::scale_corner;
+use corner::spread_corner;
 use geometry::Size;
 use refusal::Checked;
 use refusal::Refusal;
@@ -16,9 +17,9 @@ ghost use Prim.Native.Nat.{_<_};
 ghost use Rattle.signed.specs.Signed.{Near};
 ghost use Rattle.geometry.specs.Bounds.{wideSide, SizeUpTo};
 ghost use Rattle.corner.specs.EdgeBounds.{BoundedEdge, BoundedEdges};
-ghost use Rattle.corner.specs.Bounds.{wideRadius, wideStrokeSide};
+ghost use Rattle.corner.specs.Bounds.{wideOffset, wideRadius, wideStrokeSide};
 ghost use Rattle.corner_radii.specs.Bounds.{RadiiUpTo};
-ghost use Rattle.corner_radii.specs.CornerRadii.{equalRadii, radiusCheck, radiiCheck, offset as CornerRadii·offset, edges as CornerRadii·edges, scaled, reduced, confine as CornerRadii·confine, confineW3c};
+ghost use Rattle.corner_radii.specs.CornerRadii.{equalRadii, radiusCheck, radiiCheck, offset as CornerRadii·offset, spread as CornerRadii·spread, edges as CornerRadii·edges, scaled, reduced, confine as CornerRadii·confine, confineW3c};
 
 pub struct CornerRadii {
     pub top_left: Size,
@@ -168,6 +169,21 @@ impl CornerRadii {
             top_right: offset_corner(self.top_right, k),
             bottom_right: offset_corner(self.bottom_right, k),
             bottom_left: offset_corner(self.bottom_left, k),
+        }
+    }
+
+    // The radii of a W3C box changed by k: outward they grow by Level 3's rule, inward like a crate
+    // box's.
+    pub fn spread(self, k: i32) -> CornerRadii
+        requires { ⌜ RadiiUpTo wideRadius self ⌝ }
+        requires { ⌜ Near wideOffset k ⌝ }
+        ensures { λ r. ⌜ r ≡ CornerRadii·spread self k ⌝ }
+    {
+        CornerRadii {
+            top_left: spread_corner(self.top_left, k),
+            top_right: spread_corner(self.top_right, k),
+            bottom_right: spread_corner(self.bottom_right, k),
+            bottom_left: spread_corner(self.bottom_left, k),
         }
     }
 }

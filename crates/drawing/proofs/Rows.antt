@@ -26,7 +26,7 @@ use Rattle.rounded_rectangle.specs.RoundedRectangle.{row as RoundedRectangle·r
 use Rattle.rounded_rectangle.specs.ConfinedBox.{plainBox}
 use Rattle.shape.specs.declared.Shape.{Shape}
 use Rattle.shape.specs.declared.Shape.the-variants as shape-of
-use Rattle.figure.specs.Figure.{confined, confinedW3c, offsetBox}
+use Rattle.figure.specs.Figure.{confined, confinedW3c, offsetBox, spreadBox}
 use Rattle.figure.specs.Bounds.{wideAreaPosition, AreaRectangle}
 use Rattle.style.specs.declared.Style.{Style}
 use Rattle.style.specs.Style.{outsideStrokeWidth}
@@ -53,7 +53,7 @@ module _ (style : Style) where
 
   pub rows-of-w3c-box : (b : RoundedRectangle)
       → strokeRows (W3cBox b) style ≡ boxRows (Rectangle·offset (b .rectangle) outside)
-  unfolding strokeRows confinedW3c offsetBox
+  unfolding strokeRows confinedW3c spreadBox
   rows-of-w3c-box b = refl
 
 -- where rows lie

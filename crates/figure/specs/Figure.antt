@@ -9,7 +9,7 @@ use Rattle.rectangle.specs.declared.Rectangle.{Rectangle}
 use Rattle.rectangle.specs.Rectangle.{offset as Rectangle·offset}
 use Rattle.scanline.specs.declared.Row.{Row}
 use Rattle.rounded_rectangle.specs.ConfinedBox.{plainBox}
-unfoldable pub use Rattle.shape.specs.BoxRules.{confined, confinedW3c, offsetBox}
+unfoldable pub use Rattle.shape.specs.BoxRules.{confined, confinedW3c, offsetBox, spreadBox}
 pub use Rattle.shape.specs.BoxRules.{offsetW3cBox}
 use Rattle.figure.specs.declared.Figure.{Figure}
 use Rattle.figure.specs.declared.Figure.the-variants.{Ellipse, CrateBox, W3cBox}
@@ -25,7 +25,7 @@ ownRectangle (Ellipse r) = r
 ownRectangle (CrateBox b) = b .rectangle
 ownRectangle (W3cBox b) = b .rectangle
 
--- a figure offset by k: a crate box is not confined; a W3C box is confined, offset like a crate box, confined again
+-- a figure offset by k: a crate box is not confined; a W3C box is confined, offset by its own rule, confined again
 abbrev pub offset : Figure → ℤ → Figure
 offset (Ellipse r) k = Ellipse (Rectangle·offset r k)
 offset (CrateBox b) k = CrateBox (offsetBox b k)

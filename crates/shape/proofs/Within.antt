@@ -1,6 +1,5 @@
 -- Bounds: a box or rectangle that passes its check is within the wide bounds of a figure's own numbers; an offset area of it, and a
--- confined box, are within those of an area. And radii that the W3C rule has confined stay
--- when they are confined again.
+-- confined box, are within those of an area. And radii that the W3C rule has confined stay when they are confined again.
 -- Assumes nothing.
 use mathlib.Core.Path.{_≡_, refl}
 use Prim.Native.Nat.{ℕ, _+_, _≤_}
@@ -20,13 +19,13 @@ use Rattle.rectangle.proofs.Offset.{offset-size-up-to, offset-position-near}
 use Rattle.geometry.proofs.Checks.{size-passed, position-passed}
 use Rattle.corner.specs.Bounds.{wideRadius}
 use Rattle.corner_radii.specs.CornerRadii.{radiiCheck}
-use Rattle.corner_radii.proofs.Bounds.{confine-up-to, w3c-up-to, offset-up-to, radii-up-to-wider}
+use Rattle.corner_radii.proofs.Bounds.{confine-up-to, w3c-up-to, offset-up-to, radii-up-to-wider, radii-within-up-to, spread-within-offset}
 use Rattle.corner_radii.proofs.Checks.{radii-passed}
 use Rattle.corner_radii.proofs.Fraction.{w3c-confine-twice}
 use Rattle.rounded_rectangle.specs.declared.RoundedRectangle.{RoundedRectangle}
 use Rattle.rounded_rectangle.specs.Relative.{BoundedBox}
 use Rattle.rounded_rectangle.specs.ConfinedBox.{plainBox}
-use Rattle.shape.specs.BoxRules.{confined, confinedW3c, offsetBox}
+use Rattle.shape.specs.BoxRules.{confined, confinedW3c, offsetBox, spreadBox}
 use Rattle.shape.proofs.Fields.{box-by-fields}
 use Rattle.shape.specs.BoxBounds.{widePosition, wideOwnSide, wideOffset, OwnRectangle, OwnBox, AreaRectangle, AreaBox, ConfinedAreaBox}
 
@@ -93,6 +92,16 @@ offset-box-bounded b k o near =
       corners =
           radii-up-to-wider (wideOwnSide + wideOffset) wideRadius _ (omega arith)
           (offset-up-to wideOwnSide wideOffset (b .corners) k (o .corners) near);
+    }
+
+-- the radii of a W3C box grow by no more than a crate box's
+pub spread-box-bounded : (b : RoundedRectangle) (k : ℤ) → OwnBox b → Near wideOffset k → AreaBox (spreadBox b k)
+unfolding offsetBox spreadBox
+spread-box-bounded b k o near =
+    let like-crate = offset-box-bounded b k o near in
+    record {
+      rectangle = like-crate .rectangle;
+      corners = radii-within-up-to wideRadius _ _ (spread-within-offset (b .corners) k) (like-crate .corners);
     }
 
 pub confined-bounded : (b : RoundedRectangle) → AreaBox b → ConfinedAreaBox (confined b)

@@ -5,6 +5,7 @@ use Prim.Native.Nat.{ℕ, _+_}
 use Rattle.rectangle.specs.declared.Rectangle.{Rectangle}
 use Rattle.geometry.specs.Bounds.{PointNear, SizeUpTo}
 use Rattle.corner.specs.Bounds.{wideRadius, wideStrokeSide}
+pub use Rattle.corner.specs.Bounds.{wideOffset}
 use Rattle.corner_radii.specs.Bounds.{RadiiUpTo}
 use Rattle.rounded_rectangle.specs.declared.RoundedRectangle.{RoundedRectangle}
 use Rattle.rounded_rectangle.specs.declared.ConfinedBox.{ConfinedBox}
@@ -16,9 +17,6 @@ widePosition = 16384
 
 abbrev pub wideOwnSide : ℕ
 wideOwnSide = 4096
-
-abbrev pub wideOffset : ℕ
-wideOffset = 256
 
 pub record OwnRectangle (r : Rectangle) : Type 0 where
   pub at : PointNear widePosition (r .«top_left»)

@@ -1,6 +1,6 @@
 // What is done with a box before its rows are asked for: its radii confined by either rule, which
 // hands their fraction on with them, and its offset. After embedded-graphics 0.8.2
-// `rounded_rectangle/mod.rs` (`OffsetOutline`, `confine_radii`); the W3C rule is not in the source.
+// `rounded_rectangle/mod.rs` (`OffsetOutline`, `confine_radii`); the W3C rules are not in the source.
 use rounded_rectangle::ConfinedBox;
 use rounded_rectangle::RoundedRectangle;
 ghost use mathlib.Core.Path.{_≡_};
@@ -48,11 +48,17 @@ pub fn offset_box(b: RoundedRectangle, k: i32) -> RoundedRectangle
     }
 }
 
-// A W3C box offset: confined, offset like a crate box, and confined again.
+// A W3C box offset: confined, offset with its radii spread by Level 3's rule, and confined again.
 pub fn offset_w3c_box(b: RoundedRectangle, k: i32) -> ConfinedBox
     requires { ⌜ OwnBox b ⌝ }
     requires { ⌜ Near wideOffset k ⌝ }
     ensures { λ r. ⌜ (r ≡ offsetW3cBox b k) × ConfinedAreaBox r ⌝ }
 {
-    confined_w3c(offset_box(confined_w3c(b).plain(), k))
+    let once = confined_w3c(b).plain();
+    let rectangle = once.rectangle;
+    let corners = once.corners;
+    confined_w3c(RoundedRectangle {
+        rectangle: rectangle::bounded::offset(rectangle, k),
+        corners: corners.spread(k),
+    })
 }

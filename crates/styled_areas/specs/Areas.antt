@@ -12,8 +12,7 @@ use Rattle.figure.specs.Figure.{confined, offsetBox, offsetW3cBox, containsShap
 use Rattle.style.specs.declared.Style.{Style}
 use Rattle.style.specs.Style.{outsideStrokeWidth, insideStrokeWidth}
 
--- the area of a figure offset by k: a crate box is offset, then confined; a W3C box is confined, offset like a crate box, confined
--- again
+-- the area of a figure offset by k: a crate box is offset, then confined; a W3C box is confined, offset by its own rule, confined again
 abbrev pub area : Figure → ℤ → Shape
 area (Ellipse r) k = shape-of.Ellipse (Rectangle·offset r k)
 area (CrateBox b) k = shape-of.RoundedBox (confined (offsetBox b k))

@@ -1,13 +1,12 @@
 -- A row that no corner of either area touches: the stroke area's run is as wide as the area, and all of the fill area's columns
--- are contained. How far the corners of an area reach follows from the box's own: confined radii are no larger than they were.
+-- are contained. How far the corners of an area reach follows from the box's own: confined radii are no larger than they were, and those
+-- of a W3C box grow by no more than those of a crate box.
 -- Assumes nothing.
 use mathlib.Core.Path.{_≡_, sym, ap, _∙_}
 use Prim.Native.Nat.{ℕ, _+_, _-_}
-use native.Mathlib.Nat.{le-refl}
 use native.Mathlib.Omega.{arith}
 use lib.IntN.{ℤ, pos, negℤ}
 use Rattle.signed.proofs.Laws.{positive-of-opposite, negative-of-opposite}
-use Rattle.geometry.specs.declared.Size.{Size}
 use Rattle.geometry_range.specs.declared.Range.{Range}
 use Rattle.rectangle.specs.declared.Rectangle.{Rectangle}
 use Rattle.scanline.specs.declared.Row.{Row}
@@ -19,7 +18,7 @@ use Rattle.scanline.specs.Places.{Placed}
 use Rattle.corner.specs.Corner.{offsetCorner}
 use Rattle.corner.proofs.Offset.{offset-radius-by-parts}
 use Rattle.corner_radii.specs.declared.CornerRadii.{CornerRadii}
-use Rattle.corner_radii.specs.Bounds.{SizeWithin, RadiiWithin}
+use Rattle.corner_radii.specs.Bounds.{RadiiWithin}
 use Rattle.corner_radii.specs.CornerRadii.{offset as CornerRadii·offset}
 use Rattle.rounded_rectangle.specs.declared.RoundedRectangle.{RoundedRectangle}
 use Rattle.rounded_rectangle.specs.declared.Insets.{Insets}
@@ -123,17 +122,4 @@ reach-inward c u l k s =
     record {
       upper = omega (arith, p, n, shrunk (c .«top_left» .height), shrunk (c .«top_right» .height));
       lower = omega (arith, p, n, shrunk (c .«bottom_left» .height), shrunk (c .«bottom_right» .height));
-    }
-
--- ---- radii are no larger than themselves
-itself : (s : Size) → SizeWithin s s
-itself s = record { width = le-refl _; height = le-refl _ }
-
-pub radii-themselves : (r : CornerRadii) → RadiiWithin r r
-radii-themselves r =
-    record {
-      «top_left» = itself (r .«top_left»);
-      «top_right» = itself (r .«top_right»);
-      «bottom_right» = itself (r .«bottom_right»);
-      «bottom_left» = itself (r .«bottom_left»);
     }

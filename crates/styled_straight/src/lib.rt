@@ -85,7 +85,8 @@ fn row_past(
 }
 
 // The styled row at y of a box with strokes so wide outside and inside its outline, if no corner
-// touches it. Confined radii are no larger than they were, so either rule that confines them will do.
+// touches it. Confined radii are no larger than they were, and a W3C box's grow by no more than a
+// crate box's, so the row is that of either box.
 pub fn straight_row(b: RoundedRectangle, outside: u32, inside: u32, y: i32) -> StraightRow
     requires { ⌜ OwnBox b ⌝ }
     requires { ⌜ (outside ≤ wideOffset) × (inside ≤ wideOffset) ⌝ }

@@ -1,6 +1,5 @@
--- `styled_straight::straight_row` meets its contract: the areas are the rectangle offset, and their corners, confined by either
--- rule, reach
--- no further than the box's own, offset with it.
+-- `styled_straight::straight_row` meets its contract: the areas are the rectangle offset, and their corners, offset and confined by either
+-- rule, reach no further than the box's own, offset like a crate box's.
 -- Assumes nothing.
 use borrow.Author.Needs.{needs}
 use mathlib.Core.Path.{_≡_, sym, ap, subst, _∙_}
@@ -12,13 +11,13 @@ use Rattle.rectangle.specs.Rectangle.{offset as Rectangle·offset}
 use Rattle.corner_radii.specs.declared.CornerRadii.{CornerRadii}
 use Rattle.corner_radii.specs.Bounds.{RadiiWithin}
 use Rattle.corner_radii.specs.CornerRadii.{offset as CornerRadii·offset}
-use Rattle.corner_radii.proofs.Bounds.{confine-within, w3c-within}
+use Rattle.corner_radii.proofs.Bounds.{radii-themselves, radii-within-trans, confine-within, w3c-within, spread-within-offset}
 use Rattle.shape.specs.BoxBounds.{AreaRectangle}
-use Rattle.shape.specs.BoxRules.{confined, confinedW3c, offsetBox}
+use Rattle.shape.specs.BoxRules.{confined, confinedW3c, offsetBox, spreadBox}
 use Rattle.shape.proofs.Within.{own-area, area-bounded, offset-area}
 use Rattle.styled_row.specs.StyledRow.{boxStyledRow}
 use Rattle.styled_straight.specs.StraightRow.{boxWith, Reach, Told}
-use Rattle.styled_straight.proofs.Straight.{reach-within, reach-outward, reach-inward, radii-themselves}
+use Rattle.styled_straight.proofs.Straight.{reach-within, reach-outward, reach-inward}
 use Rattle.styled_straight.proofs.straight_row.Statement.{statement}
 use Rattle.styled_straight.proofs.straight_row.Tie as tie
 
@@ -168,11 +167,12 @@ told c r s t r-within s-within t-within =
     }))
 
 returns : tie.Need-returns
-unfolding confined confinedW3c offsetBox
+unfolding confined confinedW3c offsetBox spreadBox
 returns c =
     let b = entry c .args .b in (
       told c (b .corners) _ _ (radii-themselves (b .corners)) (confine-within _ _) (confine-within _ _),
-      told c _ _ _ (w3c-within (b .corners) (b .rectangle .size)) (w3c-within _ _) (w3c-within _ _),
+      told c _ _ _ (w3c-within (b .corners) (b .rectangle .size)) (radii-within-trans (w3c-within _ _) (spread-within-offset _ _))
+          (radii-within-trans (w3c-within _ _) (spread-within-offset _ _)),
     )
 
 pub straight-row-spec : {M : Type 1} → statement M
