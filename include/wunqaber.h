@@ -161,9 +161,10 @@ uint32_t wunqaber_row(const int32_t *figure, size_t figure_length, int32_t y,
 uint32_t wunqaber_points(const int32_t *figure, size_t figure_length, int32_t *list, size_t list_length,
                          int32_t *out, size_t out_length);
 
-/* The figure offset by k: 5 numbers for an ellipse, 13 for a box. The radii of a crate box change by k and are not
- * confined. Those of a W3C box are confined before and after: outward they grow by k, but by less where they are below
- * k, and 0 remains 0; inward they change by k. It may lie beyond the limits. Refused by 1, 2, 3, 5, 13. */
+/* The figure offset by k: 5 numbers for an ellipse, 13 for a box. The radii of a crate box change by k, never below 0,
+ * and are not confined. Those of a W3C box are confined before and after: outward they grow by k, but by less where
+ * they are below k, and 0 remains 0; inward they change like a crate box's. The figure may lie beyond the limits.
+ * Refused by 1, 2, 3, 5, 13. */
 uint32_t wunqaber_offset(const int32_t *figure, size_t figure_length, int32_t k,
                          int32_t *out, size_t out_length);
 

@@ -1094,7 +1094,8 @@ const fn unpainted(width: i64, align: i64) -> Style {
     Style { stroke: None, fill: None, width, align }
 }
 
-/// The checked drawings of document 01 and the smallest inputs where the Rust does not finish.
+/// The checked drawings of document 01, W3C boxes that grow (document 02), and the smallest inputs where the Rust does not
+/// finish.
 #[rustfmt::skip]
 pub const FIXED: &[(Figure, Ask, Said)] = &[
     // b, c, d, e

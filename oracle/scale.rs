@@ -113,9 +113,10 @@ impl Held {
         self.styled(f, s);
     }
 
-    /// A W3C box offset by k, by the second wording of how it grows.
+    /// A W3C box offset by k, by the reference and by the second wording of how it grows.
     fn grown(&mut self, f: &Figure, k: i64) {
         let n = figure_numbers(f);
+        self.offset(&n, k as i32, FIGURE_LENGTH);
         let wanted = Ok((given_figure(&compare::offset_in_other_words(f, k)), By::Reference));
         let make = |out: &mut [i32]| library::offset(&n, k as i32, out);
         self.values("offset", FIGURE_LENGTH, wanted, make, &[Numbers(&n), Number(k)]);

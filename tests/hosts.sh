@@ -25,7 +25,7 @@ page_is_right page
 "$work/refusals" > "$work/log" || fail 'refusals found an answer or a buffer that is not as the header says'
 echo "hosts.sh: $(cat "$work/log")"
 "$work/corners" > "$work/corners.pgm" || fail "corners ended with status $?"
-echo 'hosts.sh: corners: the borders of its tiles begin where they must'
+echo 'hosts.sh: corners: the borders of its tiles have the corners that they must have'
 if command -v "$cxx" > /dev/null; then
     echo '#include "wunqaber.h"' > "$work/header.cc"
     quietly 'include/wunqaber.h is not compiled as C++' "$cxx" -Wall -Wextra -Werror -pedantic -fsyntax-only -I"$root/include" "$work/header.cc"

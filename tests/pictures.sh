@@ -1,7 +1,7 @@
 #!/bin/sh
 # Makes the pictures of README and docs/ anew from the bytes that the programs write: enlarged so that
-# pixels show, and with the brightest byte made white. The library that corners.c links is the one that
-# `rt staticlib wunqaber` has built.
+# pixels show, and with the brightest byte made white. corners.c links the library that `rt staticlib
+# wunqaber` has built of this tree.
 set -eu
 cd "$(dirname "$0")/.."
 picture() { # the program, how much it is enlarged, the brightest byte
@@ -15,4 +15,5 @@ pamenlarge 3 crates/panel/stdout | pnmtopng > docs/pictures/panel.png
 work=$(mktemp -d)
 trap 'rm -rf "$work"' EXIT
 cc -Iinclude -o "$work/corners" hosts/corners.c target/staticlib/libwunqaber.a
-"$work/corners" | pamenlarge 4 | pnmtopng > docs/pictures/corners.png
+"$work/corners" > "$work/corners.pgm"
+pamenlarge 4 "$work/corners.pgm" | pnmtopng > docs/pictures/corners.png

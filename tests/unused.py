@@ -19,7 +19,7 @@ FOR_READERS = {
     'add-told-seven', 'paint-told-seven',  # docs/ARCHITECTURE.md, 'Where the demands are stated'
     'answers-on-rows',  # the test of a row answers as the paper's test
     'area-is-offset',  # an area has the rows of the figure that an offset call gives
-    'growth', 'growth-by-four',  # what follows from the rule by which a W3C box's corners grow
+    'growth-by-four', 'grown-box',  # what follows from the rule by which a W3C box's corners grow
     'w3c-within-box',  # under the W3C's rule no corner is larger than the box
     'rows-all-inside',  # the first row decides for all rows of an ellipse
     'length-decimal-least',  # every number has a digit

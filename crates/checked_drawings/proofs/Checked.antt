@@ -9,8 +9,8 @@ use Rattle.ellipse.specs.Ellipse.{center2x, fromCenter2x, threshold, inside, in
 use Rattle.ellipse_rows.specs.EllipsePoints.{scanline, hasRows, row as Ellipse·row, rowCount}
 use Rattle.corner.specs.Edge.{overlap, furtherOver, tighter, someOver}
 use Rattle.corner.specs.Corner.{offsetRadius, offsetCorner, scaledCorner}
-use Rattle.corner.specs.Growth.{ceilDiv, grownRadius, spreadCorner}
-use Rattle.corner_radii.specs.CornerRadii.{offset as CornerRadii·offset, spread, scaled, reducedBy, reduced, confine, confineW3c}
+use Rattle.corner.specs.Growth.{ceilDiv, grownRadius, grownCorner}
+use Rattle.corner_radii.specs.CornerRadii.{offset as CornerRadii·offset, grown, spread, scaled, reducedBy, reduced, confine, confineW3c}
 use Rattle.rounded_rectangle.specs.Quadrants.{insideTopLeft, insideTopRight, insideBottomRight, insideBottomLeft}
 use Rattle.rounded_rectangle.specs.RoundedRectangle.{contains, runStart, runEnd, row}
 use Rattle.figure.specs.Figure.{confined, confinedW3c, offsetBox, spreadBox, pointsOfShape}
@@ -32,7 +32,7 @@ checked-drawings = refl
 -- drawings of our own
 pub own-drawings : map (λ c. c .drawn) ownCases ≡ map (λ c. c .said) ownCases
 unfolding entries Ellipse·row offsetRadius offsetCorner CornerRadii·offset contains offsetBox center withCenter offsetSide offset
-    ceilDiv grownRadius spreadCorner spread spreadBox
+    ceilDiv grownRadius grownCorner grown spread spreadBox
     firstColumn lastColumn runPoints pointsFrom center2x fromCenter2x threshold inside insideAbout scanline hasRows rowCount scaledCorner
     scaled reducedBy reduced overlap furtherOver tighter someOver confine confineW3c insideTopLeft insideTopRight insideBottomRight
     insideBottomLeft runStart runEnd row confined confinedW3c pointsOfShape ellipseStyledRow fillRun boxStyledRow styledRowOfShapes

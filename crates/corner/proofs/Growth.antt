@@ -7,11 +7,7 @@ use native.Mathlib.Nat.{le-trans, mul-assoc, add-mul, mul-pos, mul-le-mul, mul-l
 use native.Mathlib.Decide.{decLe}
 use native.Mathlib.Omega.{arith}
 use borrow.Author.Tests.{lt-ltb, le-ltb}
-use lib.IntN.{ℤ, pos, negsuc}
-use Rattle.signed.specs.Signed.{positivePart as P, negativePart as N}
-use Rattle.geometry.specs.declared.Size.{Size}
-use Rattle.corner.specs.Corner.{offsetCorner}
-use Rattle.corner.specs.Growth.{ceilDiv, cube, square, grownRadius, spreadCorner, RoundedUp, Growth, GrowthByFour}
+use Rattle.corner.specs.Growth.{ceilDiv, cube, square, grownRadius, RoundedUp, Growth, GrowthByFour}
 
 -- ---- rounding up
 module _ (n m : ℕ) (p : 0 < m) where
@@ -130,17 +126,3 @@ growth k r =
 pub growth-by-four : GrowthByFour
 unfolding grownRadius ceilDiv
 growth-by-four = refl
-
--- ---- a corner, by the parts of k
-pub spread-inward : (k : ℤ) (r : Size) → P k < N k → offsetCorner k r ≡ spreadCorner k r
-unfolding spreadCorner
-spread-inward (pos k) r h = absurd (omega arith)
-spread-inward (negsuc k) r h = refl
-
-pub spread-outward : (k : ℤ) (n : ℕ) (r : Size) → n + N k ≡ P k
-    → record { width = grownRadius n (r .width); height = grownRadius n (r .height) } ≡ spreadCorner k r
-unfolding spreadCorner
-spread-outward (pos k) n r h =
-    let same : n ≡ k = omega arith in
-    ap (λ (m : ℕ). record { width = grownRadius m (r .width); height = grownRadius m (r .height) }) same
-spread-outward (negsuc k) n r h = absurd (omega arith)

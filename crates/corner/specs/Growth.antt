@@ -7,15 +7,13 @@ use mathlib.Core.Bool.{cond}
 use mathlib.Core.List.{[], _∷_, map}
 use Prim.Native.Nat.{ℕ, _+_, _-_, _*_, _/_, _≤_, _<_}
 use lib.Dec.{ltb}
-use lib.IntN.{ℤ, pos, negsuc}
 use Rattle.geometry.specs.declared.Size.{Size}
-use Rattle.corner.specs.Corner.{offsetCorner}
 
 -- ceil(n / m), for m above 0
 unfoldable pub ceilDiv : ℕ → ℕ → ℕ
 ceilDiv n m = (n + (m - 1)) / m
 
--- (k − r)³ and k²
+-- n³ and n²
 abbrev pub cube : ℕ → ℕ
 cube n = n * n * n
 
@@ -26,10 +24,9 @@ square n = n * n
 unfoldable pub grownRadius : ℕ → ℕ → ℕ
 grownRadius k r = cond (ltb r k) (r + k - ceilDiv (cube (k - r)) (square k)) (r + k)
 
--- both numbers of a W3C box's corner offset by k: outward they grow, inward they change like a crate box's
-unfoldable pub spreadCorner : ℤ → Size → Size
-spreadCorner (pos k) r = record { width = grownRadius k (r .width); height = grownRadius k (r .height) }
-spreadCorner (negsuc k) r = offsetCorner (negsuc k) r
+-- both numbers of a corner
+unfoldable pub grownCorner : ℕ → Size → Size
+grownCorner k r = record { width = grownRadius k (r .width); height = grownRadius k (r .height) }
 
 -- ---- for a reader: what follows from the rule, for every r and k (proofs/Growth.antt)
 -- c is n / m rounded up: the least number with n ≤ c × m

@@ -13,7 +13,7 @@ ghost use Rattle.signed.specs.Signed.{Near};
 ghost use Rattle.geometry.specs.Bounds.{wideSide, SizeUpTo};
 ghost use Rattle.corner.specs.EdgeBounds.{wideOffset, wideRadius, BoundedEdge};
 ghost use Rattle.corner.specs.Corner.{offsetRadius, offsetCorner, scaledCorner};
-ghost use Rattle.corner.specs.Growth.{grownRadius, spreadCorner};
+ghost use Rattle.corner.specs.Growth.{grownRadius, grownCorner};
 
 // A corner's radii times L / S, rounded down.
 pub fn scale_corner(radius: Size, edge: Edge) -> Size
@@ -65,18 +65,13 @@ fn grow_radius(radius: u32, k: u32) -> u32
     }
 }
 
-// Both numbers of a W3C box's corner offset by k: inward like those of a crate box.
-pub fn spread_corner(radius: Size, k: i32) -> Size
+pub fn grow_corner(radius: Size, k: u32) -> Size
     requires { ⌜ SizeUpTo wideRadius radius ⌝ }
-    requires { ⌜ Near wideOffset k ⌝ }
-    ensures { λ r. ⌜ r ≡ spreadCorner k radius ⌝ }
+    requires { ⌜ k ≤ wideOffset ⌝ }
+    ensures { λ r. ⌜ r ≡ grownCorner k radius ⌝ }
 {
-    if k < 0 {
-        return offset_corner(radius, k);
-    }
-    let growth = signed::floor0(k);
     Size {
-        width: grow_radius(radius.width, growth),
-        height: grow_radius(radius.height, growth),
+        width: grow_radius(radius.width, k),
+        height: grow_radius(radius.height, k),
     }
 }

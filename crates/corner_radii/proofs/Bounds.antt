@@ -10,11 +10,11 @@ use Rattle.geometry.specs.declared.Size.{Size}
 use Rattle.geometry.specs.Bounds.{SizeUpTo}
 use Rattle.corner_radii.specs.declared.CornerRadii.{CornerRadii}
 use Rattle.corner.specs.Corner.{offsetRadius, offsetCorner}
-use Rattle.corner.specs.Growth.{grownRadius, spreadCorner}
+use Rattle.corner.specs.Growth.{grownRadius, grownCorner}
 use Rattle.corner.proofs.Offset.{offset-radius-by-parts}
 use Rattle.corner.proofs.Growth.{grown-at-most}
 use Rattle.corner_radii.specs.Bounds.{RadiiUpTo, SizeWithin, RadiiWithin}
-use Rattle.corner_radii.specs.CornerRadii.{equalRadii, eachCorner, offset, spread, confine, confineW3c}
+use Rattle.corner_radii.specs.CornerRadii.{equalRadii, eachCorner, offset, grown, spread, confine, confineW3c}
 use Rattle.corner_radii.proofs.Rules.{w3c-fits-edges}
 use Rattle.corner_radii.proofs.Fraction.{fractions, fraction-within}
 
@@ -112,13 +112,13 @@ offset-up-to n m r k u near = each-corner-up-to n (n + m) (offsetCorner k) by-co
 
 -- those of a W3C box are no larger than those of a crate box
 pub spread-within-offset : (r : CornerRadii) (k : ℤ) → RadiiWithin (spread r k) (offset r k)
-unfolding spread offset spreadCorner offsetCorner
+unfolding spread offset grown grownCorner offsetCorner
 spread-within-offset r (pos k) =
     record { «top_left» = corner _; «top_right» = corner _; «bottom_right» = corner _; «bottom_left» = corner _ }
   where
     number : (x : ℕ) → grownRadius k x ≤ offsetRadius (pos k) x
     number x = omega (arith, grown-at-most k x, offset-radius-by-parts (pos k) x)
 
-    corner : (s : Size) → SizeWithin (spreadCorner (pos k) s) (offsetCorner (pos k) s)
+    corner : (s : Size) → SizeWithin (grownCorner k s) (offsetCorner (pos k) s)
     corner s = record { width = number (s .width); height = number (s .height) }
 spread-within-offset r (negsuc k) = radii-themselves (offset r (negsuc k))

@@ -14,8 +14,8 @@ use Rattle.corner.specs.declared.edge.Edge.{Edge}
 use Rattle.corner.specs.declared.edge.Edges.{Edges}
 use Rattle.corner.specs.Edge.{overlap, furtherOver, mostOver, tighter, tightest, someOver}
 use Rattle.corner.specs.Corner.{offsetRadius, offsetCorner, scaledCorner}
-use Rattle.corner.specs.Growth.{ceilDiv, grownRadius, spreadCorner}
-use Rattle.corner_radii.specs.CornerRadii.{equalRadii, radiusCheck, radiiCheck, offset, spread, scaled, reducedBy, reduced, confine, confineW3c}
+use Rattle.corner.specs.Growth.{ceilDiv, grownRadius, grownCorner}
+use Rattle.corner_radii.specs.CornerRadii.{equalRadii, radiusCheck, radiiCheck, offset, grown, spread, scaled, reducedBy, reduced, confine, confineW3c}
 
 abbrev size : ℕ → ℕ → Size
 size w h = record { width = w; height = h }
@@ -144,7 +144,7 @@ offsets =
     ∷ []
 
 offsets-hold : map (λ c. offset-case (c .radii) (c .by) (offset (c .radii) (c .by)) (spread (c .radii) (c .by))) offsets ≡ offsets
-unfolding offset offsetCorner offsetRadius spread spreadCorner grownRadius ceilDiv
+unfolding offset offsetCorner offsetRadius spread grown grownCorner grownRadius ceilDiv
 offsets-hold = refl
 
 -- ---- refusal 2: at the limit, and one above it at each of the eight numbers

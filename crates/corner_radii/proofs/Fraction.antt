@@ -93,6 +93,9 @@ module _ {r : CornerRadii} {s : Size} {c : ConfinedRadii} (f : FractionOf r s c)
   fitting-stay : FitsEdges (edges r s) → c .radii ≡ r
   fitting-stay fit = let one = f .fits fit in f .one-over-one (one .0) (one .1)
 
+pub w3c-fitting-stay : (r : CornerRadii) (s : Size) → FitsEdges (edges r s) → confineW3c r s .radii ≡ r
+w3c-fitting-stay r s fit = fitting-stay (fractions r s .w3c-rule) fit
+
 -- so radii that the W3C rule has confined stay when they are confined again
 pub w3c-confine-twice : (r : CornerRadii) (s : Size) → confineW3c (confineW3c r s .radii) s .radii ≡ confineW3c r s .radii
-w3c-confine-twice r s = fitting-stay (fractions (confineW3c r s .radii) s .w3c-rule) (w3c-fits-edges r s)
+w3c-confine-twice r s = w3c-fitting-stay (confineW3c r s .radii) s (w3c-fits-edges r s)

@@ -4,7 +4,7 @@
 -- Assumes nothing.
 use mathlib.Core.Bool.{cond}
 use Prim.Native.Nat.{ℕ, _+_}
-use lib.IntN.{ℤ}
+use lib.IntN.{ℤ, pos, negsuc}
 use Rattle.geometry.specs.declared.Size.{Size}
 use Rattle.refusal.specs.declared.Checked.{Checked}
 use Rattle.refusal.specs.declared.Refusal.the-variants.{Radius}
@@ -14,7 +14,7 @@ use Rattle.corner.specs.declared.edge.Edge.{Edge}
 use Rattle.corner.specs.declared.edge.Edges.{Edges}
 use Rattle.corner.specs.Edge.{S, L, over, mostOver, tightest, someOver}
 use Rattle.corner.specs.Corner.{offsetCorner, scaledCorner}
-use Rattle.corner.specs.Growth.{spreadCorner}
+use Rattle.corner.specs.Growth.{grownCorner}
 use Rattle.corner_radii.specs.declared.CornerRadii.{CornerRadii}
 use Rattle.corner_radii.specs.declared.ConfinedRadii.{ConfinedRadii}
 
@@ -48,9 +48,14 @@ radiiCheck r =
 unfoldable pub offset : CornerRadii → ℤ → CornerRadii
 offset r k = eachCorner (offsetCorner k) r
 
--- a W3C box's radii offset by k, after they were confined: outward they grow by Level 3's rule
+-- a W3C box's radii grown by k, by Level 3's rule
+unfoldable pub grown : CornerRadii → ℕ → CornerRadii
+grown r k = eachCorner (grownCorner k) r
+
+-- a W3C box's radii offset by k, after they were confined: outward they grow, inward they change like a crate box's
 unfoldable pub spread : CornerRadii → ℤ → CornerRadii
-spread r k = eachCorner (spreadCorner k) r
+spread r (pos k) = grown r k
+spread r (negsuc k) = offset r (negsuc k)
 
 -- ---- 'Corners'
 -- the edges of a box, in the order top, right, bottom, left

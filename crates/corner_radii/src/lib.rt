@@ -1,25 +1,25 @@
 // The four corner radii of a box, how they are offset, and the two rules that confine them, after
 // embedded-graphics 0.8.2 `rounded_rectangle/corner_radii.rs`, and `rounded_rectangle/mod.rs`
 // (`OffsetOutline`) for the offset. The W3C rule is not in the source, nor is how a W3C box's radii
-// grow, nor the fraction that both rules answer. Each rule finds the edge that decides and scales by it; the Rust keeps that edge in
-// three mutable locals. The Rust's builder is left out.
+// grow, nor the fraction that both rules answer. Each rule finds the edge that decides and scales by
+// it; the Rust keeps that edge in three mutable locals. The Rust's builder is left out.
 use corner::edge::Edge;
 use corner::edge::Edges;
+use corner::grow_corner;
 use corner::offset_corner;
 use corner::scale_corner;
-use corner::spread_corner;
 use geometry::Size;
 use refusal::Checked;
 use refusal::Refusal;
 use refusal::refuse_above;
 ghost use mathlib.Core.Path.{_≡_};
-ghost use Prim.Native.Nat.{_<_};
+ghost use Prim.Native.Nat.{_<_, _≤_};
 ghost use Rattle.signed.specs.Signed.{Near};
 ghost use Rattle.geometry.specs.Bounds.{wideSide, SizeUpTo};
 ghost use Rattle.corner.specs.EdgeBounds.{BoundedEdge, BoundedEdges};
 ghost use Rattle.corner.specs.Bounds.{wideOffset, wideRadius, wideStrokeSide};
 ghost use Rattle.corner_radii.specs.Bounds.{RadiiUpTo};
-ghost use Rattle.corner_radii.specs.CornerRadii.{equalRadii, radiusCheck, radiiCheck, offset as CornerRadii·offset, spread as CornerRadii·spread, edges as CornerRadii·edges, scaled, reduced, confine as CornerRadii·confine, confineW3c};
+ghost use Rattle.corner_radii.specs.CornerRadii.{equalRadii, radiusCheck, radiiCheck, offset as CornerRadii·offset, grown, spread as CornerRadii·spread, edges as CornerRadii·edges, scaled, reduced, confine as CornerRadii·confine, confineW3c};
 
 pub struct CornerRadii {
     pub top_left: Size,
@@ -172,18 +172,30 @@ impl CornerRadii {
         }
     }
 
-    // The radii of a W3C box changed by k: outward they grow by Level 3's rule, inward like a crate
-    // box's.
+    // The radii of a W3C box grown by k.
+    fn grow(self, k: u32) -> CornerRadii
+        requires { ⌜ RadiiUpTo wideRadius self ⌝ }
+        requires { ⌜ k ≤ wideOffset ⌝ }
+        ensures { λ r. ⌜ r ≡ grown self k ⌝ }
+    {
+        CornerRadii {
+            top_left: grow_corner(self.top_left, k),
+            top_right: grow_corner(self.top_right, k),
+            bottom_right: grow_corner(self.bottom_right, k),
+            bottom_left: grow_corner(self.bottom_left, k),
+        }
+    }
+
+    // The radii of a W3C box changed by k: outward they grow, inward they change like those of a crate
+    // box.
     pub fn spread(self, k: i32) -> CornerRadii
         requires { ⌜ RadiiUpTo wideRadius self ⌝ }
         requires { ⌜ Near wideOffset k ⌝ }
         ensures { λ r. ⌜ r ≡ CornerRadii·spread self k ⌝ }
     {
-        CornerRadii {
-            top_left: spread_corner(self.top_left, k),
-            top_right: spread_corner(self.top_right, k),
-            bottom_right: spread_corner(self.bottom_right, k),
-            bottom_left: spread_corner(self.bottom_left, k),
+        if k <= 0 {
+            return self.offset(k);
         }
+        self.grow(signed::floor0(k))
     }
 }

@@ -2,3 +2,4 @@ pub mod Shape
 pub mod Bounds
 pub mod BoxBounds
 pub mod BoxRules
+pub mod GrownBox

@@ -34,7 +34,7 @@ pub fn confined_w3c(b: RoundedRectangle) -> ConfinedBox
     }
 }
 
-// A box offset about its centre, its radii with it.
+// A crate box offset about its centre, its radii with it.
 pub fn offset_box(b: RoundedRectangle, k: i32) -> RoundedRectangle
     requires { ⌜ OwnBox b ⌝ }
     requires { ⌜ Near wideOffset k ⌝ }

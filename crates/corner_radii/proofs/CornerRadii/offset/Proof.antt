@@ -1,9 +1,11 @@
 -- `corner_radii::CornerRadii::offset` meets its contract: the four corners are those of `offsetCorner`.
 -- Assumes nothing.
+use mathlib.Core.Path.{ap, _∙_}
+use lib.IntN.{ℤ}
 use mir.Facts.{toZ-ofZ}
 use Rattle.corner.specs.Corner.{offsetCorner}
 use Rattle.corner_radii.specs.CornerRadii.{offset}
-use Rattle.corner_radii.proofs.Fields.{each-corner-changed}
+use Rattle.corner_radii.proofs.Fields.{corner-radii-by-fields}
 use Rattle.corner_radii.proofs.CornerRadii.offset.Statement.{statement}
 use Rattle.corner_radii.proofs.CornerRadii.offset.Tie as tie
 
@@ -27,10 +29,13 @@ returns : tie.Need-returns
 unfolding offset
 returns c =
     let entry = c .before .before .before .before in
-    each-corner-changed offsetCorner (entry .args .self) (toZ-ofZ (entry .fits .k)) (c .before .before .before .offset-corner .ensures)
-    (c .before .before .offset-corner2 .ensures)
-    (c .before .offset-corner3 .ensures)
-    (c .offset-corner4 .ensures)
+    let k-back = toZ-ofZ (entry .fits .k) in
+    let radii = entry .args .self in
+    corner-radii-by-fields
+    (c .before .before .before .offset-corner .ensures ∙ ap (λ (k : ℤ). offsetCorner k (radii .«top_left»)) k-back)
+    (c .before .before .offset-corner2 .ensures ∙ ap (λ (k : ℤ). offsetCorner k (radii .«top_right»)) k-back)
+    (c .before .offset-corner3 .ensures ∙ ap (λ (k : ℤ). offsetCorner k (radii .«bottom_right»)) k-back)
+    (c .offset-corner4 .ensures ∙ ap (λ (k : ℤ). offsetCorner k (radii .«bottom_left»)) k-back)
 
 pub offset-spec : {M : Type 1} → statement M
 offset-spec =
