@@ -12,7 +12,7 @@ enum {
     WIDTH = 136,
     HEIGHT = 112,
     HEADER = sizeof "P5\n136 112\n255\n" - 1,
-    /* A tile, its border, both together, and what lies between two of them. */
+    /* A tile and its oval, its border, tile and border together, what lies between two of them, and the canvas's byte. */
     BORDER = 8,
     TILE_WIDTH = 40,
     TILE_HEIGHT = 28,

@@ -47,7 +47,7 @@ enum {
 };
 
 /* The corners of a crate box are those of embedded-graphics; those of a W3C box go by the rules of the W3C's borders
- * module, Level 3, for colliding corners and, under a border outside the box, for growing ones. */
+ * module, Level 3, for colliding corners and, under what of a border lies outside the box, for growing ones. */
 enum { WUNQABER_ELLIPSE = 0, WUNQABER_CRATE_BOX = 1, WUNQABER_W3C_BOX = 2 };
 enum { WUNQABER_INSIDE = 0, WUNQABER_CENTER = 1, WUNQABER_OUTSIDE = 2 };
 enum { WUNQABER_ABSENT = -1 };

@@ -293,7 +293,7 @@ impl Report {
         }
     }
 
-    /// A W3C box is not in the original. Its rule, L and S too, is held against another wording of it, and its
+    /// A W3C box is not in the original. Its rules, L and S and the offset too, are held against another wording of them, and its
     /// rows, points and contained points against the original's box of the confined radii, which
     /// the crate's rule leaves as they are.
     fn w3c(&mut self, of: &Figure, k: i64, fully: bool) {
@@ -305,11 +305,11 @@ impl Report {
         self.check("w3c rule", &f, Ask::Confine, Ok(other), (c.radii, (c.l, c.s), fits));
 
         // offset by k: the area of a stroke or fill
-        let grown = Reference.offset(&f, k);
-        self.check("w3c rule", &f, Ask::Offset(k), Ok(offset_in_other_words(&f, k)), grown);
-        let same = Figure { kind: Kind::Crate, ..grown };
+        let made = Reference.offset(&f, k);
+        self.check("w3c rule", &f, Ask::Offset(k), Ok(offset_in_other_words(&f, k)), made);
+        let same = Figure { kind: Kind::Crate, ..made };
         let untouched = attempt(|| Original.confine(&same));
-        self.check("w3c rule", &f, Ask::Offset(k), untouched, Some(grown.radii));
+        self.check("w3c rule", &f, Ask::Offset(k), untouched, Some(made.radii));
         if !fully {
             return;
         }
@@ -329,8 +329,8 @@ impl Report {
             let original = attempt(|| Original.points(&same));
             self.check("w3c points", &same, Ask::Points, original, Reference.points(&f));
         }
-        for (px, py) in [(0, 0), (1, 0), (0, 1), (grown.w - 1, 0), (grown.w - 1, grown.h - 1), (0, grown.h - 1), (grown.w / 3, grown.h / 7)] {
-            let (px, py) = (grown.x + px, grown.y + py);
+        for (px, py) in [(0, 0), (1, 0), (0, 1), (made.w - 1, 0), (made.w - 1, made.h - 1), (0, made.h - 1), (made.w / 3, made.h / 7)] {
+            let (px, py) = (made.x + px, made.y + py);
             let original = attempt(|| Original.contains(&same, px, py));
             self.check("w3c contains", &same, Ask::Contains(px, py), original, a.contains(px, py));
         }
@@ -1094,7 +1094,7 @@ const fn unpainted(width: i64, align: i64) -> Style {
     Style { stroke: None, fill: None, width, align }
 }
 
-/// The checked drawings of document 01, W3C boxes that grow (document 02), and the smallest inputs where the Rust does not
+/// The checked drawings of document 01, W3C boxes that are offset (document 02), and the smallest inputs where the Rust does not
 /// finish.
 #[rustfmt::skip]
 pub const FIXED: &[(Figure, Ask, Said)] = &[
@@ -1131,6 +1131,8 @@ pub const FIXED: &[(Figure, Ask, Said)] = &[
     (w3c_box(0, 0, 20, 20, [(0, 1), (2, 3), (4, 5), (9, 0)]), Offset(1), Lacks(&[2, -1, -1, 22, 22, 0, 2, 3, 4, 5, 6, 10, 0])),
     (w3c_box(0, 0, 20, 20, [(0, 1), (2, 3), (4, 5), (9, 0)]), Offset(-4), Lacks(&[2, 4, 4, 12, 12, 0, 0, 0, 0, 0, 1, 5, 0])),
     (w3c_box(0, 0, 1024, 1024, [(1, 128), (255, 256), (257, 0), (2, 254)]), Offset(256), Lacks(&[2, -256, -256, 1536, 1536, 3, 352, 510, 512, 513, 0, 7, 509])),
+    // inward its corners collide, and it is confined again
+    (w3c_box(0, 0, 10, 10, [(0, 0), (10, 0), (0, 0), (0, 0)]), Offset(-3), Lacks(&[2, 3, 3, 4, 4, 0, 0, 4, 0, 0, 0, 0, 0])),
     // confined to (5, 33) before it grows
     (w3c_box(0, 0, 10, 100, [(9, 60); 4]), Offset(6), Lacks(&[2, -6, -6, 22, 112, 10, 39, 10, 39, 10, 39, 10, 39])),
     // oval

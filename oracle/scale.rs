@@ -113,8 +113,8 @@ impl Held {
         self.styled(f, s);
     }
 
-    /// A W3C box offset by k, by the reference and by the second wording of how it grows.
-    fn grown(&mut self, f: &Figure, k: i64) {
+    /// A W3C box offset by k, by the reference and by the second wording.
+    fn w3c_offset(&mut self, f: &Figure, k: i64) {
         let n = figure_numbers(f);
         self.offset(&n, k as i32, FIGURE_LENGTH);
         let wanted = Ok((given_figure(&compare::offset_in_other_words(f, k)), By::Reference));
@@ -423,11 +423,11 @@ fn equal_edges(r: &mut Held, rng: &mut Rng, styles: &[Style], count: usize) {
 
 /// W3C boxes grown by every k from 0 to 256, with every radius number from 0 to 256, eight at a time and none reduced; and at
 /// random up to the limits, outward and inward, with corners that collide too.
-fn grown(r: &mut Held, rng: &mut Rng, count: usize) {
+fn w3c_offsets(r: &mut Held, rng: &mut Rng, count: usize) {
     for k in 0..=256 {
         for first in (0..=256).step_by(8) {
             let pair = |at: i64| ((first + at).min(256), (first + at + 1).min(256));
-            r.grown(&w3c_box(-5, 7, 1024, 1000, [pair(0), pair(2), pair(4), pair(6)]), k);
+            r.w3c_offset(&w3c_box(-5, 7, 1024, 1000, [pair(0), pair(2), pair(4), pair(6)]), k);
         }
     }
     for n in 0..count {
@@ -436,7 +436,7 @@ fn grown(r: &mut Held, rng: &mut Rng, count: usize) {
             1 => rng.small_box(),
             _ => rng.figure(10),
         };
-        r.grown(&Figure { kind: Kind::W3c, ..f }, rng.within(-64, 256));
+        r.w3c_offset(&Figure { kind: Kind::W3c, ..f }, rng.within(-64, 256));
     }
 }
 
@@ -553,7 +553,7 @@ pub fn run(seed: u64, effort: u64, seconds: u64) {
         })
     });
     part("boxes with equal edges, both rules", &mut |r| equal_edges(r, &mut Rng(seed), &styles, 100_000));
-    part("W3C boxes grown, radii and k 0..256, and at random", &mut |r| grown(r, &mut Rng(seed), 200_000));
+    part("W3C boxes grown, radii and k 0..256, and at random", &mut |r| w3c_offsets(r, &mut Rng(seed), 200_000));
     part("first row of all ellipse sizes and of all top-left corners", &mut |r| {
         for w in 0..=reference::MAX_SIDE {
             for h in 0..=reference::MAX_SIDE {

@@ -197,7 +197,7 @@ int main(int count, char **words)
     MEASURE(26, "offset by 4, W3C box 64 x 48, radius 1", offset(w3c(64, 48, 1), 4))
     MEASURE(27, "offset by -4, W3C box 64 x 48, radius 8", offset(w3c(64, 48, 8), -4))
     MEASURE(28, "styled corner row, W3C box 64 x 48, radius 8", styled_rows_by(w3c(64, 48, 8), inside(2, 90), 8, 8))
-    MEASURE(29, "the same, border 4 outside", styled_rows_by(w3c(64, 48, 8), outside(4, 90), 4, 8))
+    MEASURE(29, "the same, border 4 outside", styled_rows_by(w3c(64, 48, 8), outside(4, 90), 4, 12))
     MEASURE(30, "the same, radius 2, border 4 outside", styled_rows_by(w3c(64, 48, 2), outside(4, 90), 4, 5))
     MEASURE(31, "paint call on a sheet, W3C box 64 x 48, radius 8, border 4 outside",
             on_sheet(one(80, 64, w3c(64, 48, 8), outside(4, 220))))

@@ -31,6 +31,20 @@ bottomCorners =
           };
     }
 
+-- a box 10 by 10 whose top-right corner is as wide as it
+abbrev wideCorner : RoundedRectangle
+wideCorner =
+    record {
+      rectangle = rectangle 10 10;
+      corners =
+          record {
+            «top_left» = record { width = 0; height = 0 };
+            «top_right» = record { width = 10; height = 0 };
+            «bottom_right» = record { width = 0; height = 0 };
+            «bottom_left» = record { width = 0; height = 0 };
+          };
+    }
+
 abbrev point : ℤ → ℤ → Point
 point x y = record { x = x; y = y }
 
@@ -58,6 +72,9 @@ ownCases =
     -- a W3C box is confined, offset and confined again
     ∷ case (figureValues (Figure·offset (W3cBox (box 10 100 9 60)) (pos 5)))
     (pos 2 ∷ negsuc 4 ∷ negsuc 4 ∷ numbers (20 ∷ 110 ∷ 10 ∷ 38 ∷ 10 ∷ 38 ∷ 10 ∷ 38 ∷ 10 ∷ 38 ∷ []))
+    -- inward that shows: a corner (10, 0) of a box 10 by 10 is 7 wide after −3, its box 4, and it is confined to that
+    ∷ case (figureValues (Figure·offset (W3cBox wideCorner) (negsuc 2)))
+    (numbers (2 ∷ 3 ∷ 3 ∷ 4 ∷ 4 ∷ 0 ∷ 0 ∷ 4 ∷ 0 ∷ 0 ∷ 0 ∷ 0 ∷ 0 ∷ []))
     -- document 02, 'Four': a W3C box 6 by 4 with square corners and a stroke of 4 outside, 14 by 12 at (−4, −4). Row 0 of that reaches from
     -- end to end
     ∷ case (figureValues (Figure·offset (W3cBox (box 6 4 0 0)) (pos 4)))

@@ -49,8 +49,8 @@ pub fn offset_corner(radius: Size, k: i32) -> Size
     }
 }
 
-// A radius number of a W3C box grown by k: by all of k from k on, and below that by the less the
-// smaller it is, so that 0 remains 0. What is taken off is rounded up.
+// A radius number of a W3C box grown by k: by all of k from k on, and below that by less, down to
+// nothing for 0. What is taken off is rounded up.
 fn grow_radius(radius: u32, k: u32) -> u32
     requires { ⌜ radius ≤ wideRadius ⌝ }
     requires { ⌜ k ≤ wideOffset ⌝ }

@@ -1,6 +1,6 @@
 -- Document 01: the corner radii of a box as 'The records' limits them, 'Rectangle and offset' offsets them and 'Corners'
--- confines them (`corner_radii.rs`); document 02, 'Two': confined radii have their fraction, and 'Four': those of a W3C box grow by a rule of
--- their own.
+-- confines them (`corner_radii.rs`); document 02, 'Two': confined radii have their fraction, and 'Four': those of a W3C box grow by a
+-- rule of their own.
 -- Assumes nothing.
 use mathlib.Core.Bool.{cond}
 use Prim.Native.Nat.{ℕ, _+_}

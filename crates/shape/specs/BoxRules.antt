@@ -23,7 +23,7 @@ offsetBox b k = record { rectangle = Rectangle·offset (b .rectangle) k; corners
 unfoldable pub spreadBox : RoundedRectangle → ℤ → RoundedRectangle
 spreadBox b k = record { rectangle = Rectangle·offset (b .rectangle) k; corners = CornerRadii·spread (b .corners) k }
 
--- a W3C box offset: confined, offset by that rule, confined again
+-- a W3C box offset: confined, offset by that step, confined again
 abbrev pub offsetW3cBox : RoundedRectangle → ℤ → ConfinedBox
 offsetW3cBox b k = confinedW3c (spreadBox (plainBox (confinedW3c b)) k)
 

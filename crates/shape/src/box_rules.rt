@@ -48,7 +48,8 @@ pub fn offset_box(b: RoundedRectangle, k: i32) -> RoundedRectangle
     }
 }
 
-// A W3C box offset: confined, offset with its radii spread by Level 3's rule, and confined again.
+// A W3C box offset: confined, offset with its radii spread, which outward goes by Level 3's rule, and
+// confined again.
 pub fn offset_w3c_box(b: RoundedRectangle, k: i32) -> ConfinedBox
     requires { ⌜ OwnBox b ⌝ }
     requires { ⌜ Near wideOffset k ⌝ }
