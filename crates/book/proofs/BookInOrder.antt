@@ -1,9 +1,10 @@
 -- The half of the invariant that the answers need, with nothing of the picture: the book is in order. It notes no more
 -- figures than a sheet has places, each within limits and with a count within its rows, and no later figure has painted a
--- row that an earlier one owes. An accepted paint call keeps this, since no earlier figure owes the one row it adds.
+-- row that an earlier one owes. An accepted paint call keeps this, since no earlier figure owes the one row it adds; so does a
+-- removal, which only takes a figure away.
 -- Assumes nothing.
 use mathlib.Core.Path.{_≡_, refl, sym, ap, _∙_, subst}
-use mathlib.Core.List.{[], _∷_, _++_}
+use mathlib.Core.List.{List, [], _∷_, _++_}
 use mathlib.Core.Option.{Option, none, some}
 use mathlib.Core.Bool.{Bool, true, false}
 use Prim.Native.Nat.{ℕ, suc, _≤_, _<_}
@@ -12,18 +13,18 @@ use lib.Dec.{leb}
 use lib.IntN.{ℤ, ℤ-discrete}
 use lib.ListN.{length, take, drop, set, getElem?, length-append}
 use borrow.Author.Tests.{leb-false}
-use Rattle.refusal.specs.declared.Refusal.the-variants.{SheetFull, NoRowLeft, RowOwed}
+use Rattle.refusal.specs.declared.Refusal.the-variants.{SheetFull, NoLayer, NoRowLeft, RowOwed}
 use Rattle.refusal.specs.declared.Checked.{Checked}
 use Rattle.refusal.specs.declared.Checked.the-variants.{Passed, Refused}
 use Rattle.refusal.specs.Refusal.{refuseIf, keeping}
 use Rattle.refusal.proofs.Checks.{refused-apart, passed-first, passed-next, passed-condition}
 use Rattle.book.specs.Each.{Each, EachTwo}
-use Rattle.book.specs.Book.{Drawing, Call, add, paint, Entry, Book, firstLeft, hasPainted, owes, someOwes, noneLeft}
+use Rattle.book.specs.Book.{without, Drawing, Call, add, paint, remove, Entry, Book, firstLeft, hasPainted, owes, someOwes, noneLeft}
 use Rattle.book.specs.Book.{entryAnswer, bookAnswer, noted, bookAfter}
 use Rattle.book.proofs.Tests.{true-false-apart}
 use Rattle.book.proofs.EachLaws.{each-append, each-left, each-right, each-of-every, each-implies, each-two-replace}
-use Rattle.book.proofs.EachLaws.{each-two-last}
-use Rattle.book.proofs.Lists.{split-at-element, set-at-element}
+use Rattle.book.proofs.EachLaws.{each-two-last, each-two-without}
+use Rattle.book.proofs.Lists.{split-at-element, set-at-element, element-there}
 use Rattle.book.proofs.EntryRows.{oneMore, one-more-painted-other, one-more-owes, new-entry-painted-none}
 use Rattle.book.proofs.EntryRows.{none-owes-each}
 
@@ -87,6 +88,19 @@ module _ (d : Drawing) where
             free = passed-condition owed RowOwed (passed-next eleven twelve q);
           }
 
+  -- a removal is accepted: the entry is there
+  pub record Removing (book : Book d) (i : ℕ) : Type 0 where
+    pub entry : Entry (d .Item)
+    pub there : getElem? book i ≡ some entry
+
+  pub remove-accepted : (book : Book d) (i : ℕ) (background : List ℕ) → bookAnswer d book (remove i background) ≡ Passed
+      → Removing book i
+  unfolding bookAnswer
+  remove-accepted book i background h =
+      let within = leb-false (length book) i (passed-condition (leb (length book) i) NoLayer h) in
+      let found = element-there book i within in
+      record { entry = found .0; there = found .1 }
+
   -- ---- the order is kept
   pub in-order-add : (book : Book d) (item : d .Item) → InOrder book → Adding book item
       → InOrder (book ++ (record { item = item; count = 0 } ∷ []))
@@ -135,6 +149,21 @@ module _ (d : Drawing) where
       (p .left)
       (p .free))
 
+  pub in-order-without : (before : Book d) (e : Entry (d .Item)) (later : Book d) → InOrder (before ++ e ∷ later)
+      → InOrder (before ++ later)
+  in-order-without before e later ordered =
+      record {
+        few = omega (arith, ordered .few, length-append before (e ∷ later), length-append before later);
+        within = each-append Within before later (each-left Within before (e ∷ later) (ordered .within))
+            (each-right Within before (e ∷ later) (ordered .within) .1);
+        order = each-two-without NotAhead before e later (ordered .order);
+      }
+
+  pub in-order-remove : (book : Book d) (i : ℕ) → InOrder book → Removing book i → InOrder (without i book)
+  in-order-remove book i ordered r =
+      in-order-without (take i book) (r .entry) (drop (suc i) book)
+      (subst InOrder (split-at-element book i (r .entry) (r .there)) ordered)
+
   pub in-order-after : (book : Book d) (call : Call (d .Item)) → InOrder book → InOrder (bookAfter d book call)
   unfolding bookAfter noted
   in-order-after book call ordered = by-answer (bookAnswer d book call) refl
@@ -142,6 +171,7 @@ module _ (d : Drawing) where
       when-noted : (c : Call (d .Item)) → bookAnswer d book c ≡ Passed → InOrder (noted d book c)
       when-noted (add item) h = in-order-add book item ordered (add-accepted book item h)
       when-noted (paint i) h = let p = paint-accepted book i h in rw (p .there) (in-order-paint book i ordered p)
+      when-noted (remove i background) h = in-order-remove book i ordered (remove-accepted book i background h)
 
       by-answer : (a : Checked) → bookAnswer d book call ≡ a → InOrder (keeping a book (noted d book call))
       by-answer Passed h = when-noted call h

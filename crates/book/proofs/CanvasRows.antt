@@ -1,4 +1,5 @@
--- The rows of a canvas: lengths, a row after it is put and the other rows beside it, two canvases that are equal by rows.
+-- The rows of a canvas: lengths, a row after it is put and the other rows beside it, two canvases that are equal by rows, and the
+-- rows of a canvas that is made of them.
 -- Byte by byte: byte k of row y is byte y × W + k of the canvas, and rows of different numbers share no byte.
 -- Assumes nothing.
 use mathlib.Core.Path.{_≡_, refl, sym, ap, _∙_}
@@ -9,9 +10,9 @@ use native.Mathlib.Nat.{mul-le-mul-right, mod-lt, div-lt-iff-lt-mul, div-add-mod
 use native.Mathlib.Omega.{arith}
 use lib.Dec.{ltb}
 use lib.ListN.{length, take, drop, getD, length-append, length-take, length-drop, take-append-drop, List·getD-append}
-use lib.Seq.{ext-getD, getD-take, getD-drop, getD-append-add, take-at, drop-at, length-take-le}
+use lib.Seq.{ext-getD, getD-take, getD-drop, getD-append-add, take-at, drop-at, drop-drop, length-take-le}
 use borrow.Author.Tests.{ltb-true, ltb-false}
-use Rattle.book.specs.Canvas.{canvasRow, putRow}
+use Rattle.book.specs.Canvas.{canvasRow, putRow, rowsFrom, canvasOf}
 
 module _ (W H y : ℕ) (canvas : List ℕ) (low : y < H) (size : length canvas ≡ W * H) where
   pub row-within : y * W + W ≤ length canvas
@@ -111,3 +112,51 @@ canvases-equal-by-rows W H c e p q rows = ext-getD 0 c e (p ∙ sym q) byte-of-r
         ∙ ap (λ (l : List ℕ). getD l (i % W) 0) (rows (i / W) low)
         ∙ canvas-row-byte W H (i / W) e low q (i % W) column
         ∙ ap (λ (n : ℕ). getD e n 0) (div-add-mod' i W)
+
+-- ---- a canvas of rows one behind the other
+module _ (W : ℕ) where
+  pub rows-down : (z : ℕ) → suc z * W ≡ W + z * W
+  rows-down z = omega arith
+
+  -- the row after the first of two parts
+  pub row-of-append : (z : ℕ) (row rest : List ℕ) → length row ≡ W → canvasRow W (suc z) (row ++ rest) ≡ canvasRow W z rest
+  unfolding canvasRow
+  row-of-append z row rest wide =
+      ap (take W)
+      (ap (λ (n : ℕ). drop n (row ++ rest)) (rows-down z)
+      ∙ sym (drop-drop (z * W) W (row ++ rest))
+      ∙ ap (drop (z * W)) (drop-at row rest W wide))
+
+  -- the first row
+  pub row-at-start : (canvas : List ℕ) → canvasRow W 0 canvas ≡ take W canvas
+  unfolding canvasRow
+  row-at-start canvas = ap (λ (n : ℕ). take W (drop n canvas)) (zero-mul W)
+
+  pub row-of-start : (row rest : List ℕ) → length row ≡ W → canvasRow W 0 (row ++ rest) ≡ row
+  row-of-start row rest wide = row-at-start (row ++ rest) ∙ take-at row rest W wide
+
+  module _ (row : ℕ → List ℕ) where
+    rows-from-length : (n y : ℕ) → ((z : ℕ) → z < y + n → length (row z) ≡ W) → length (rowsFrom row y n) ≡ n * W
+    unfolding rowsFrom
+    rows-from-length zero y wide = sym (zero-mul W)
+    rows-from-length (suc n) y wide =
+        length-append (row y) (rowsFrom row (suc y) n)
+        ∙ omega (arith, wide y (omega arith), rows-from-length n (suc y) (λ z h. wide z (omega arith)))
+
+    rows-from-row : (n y z : ℕ) → z < n → ((k : ℕ) → k < y + n → length (row k) ≡ W)
+        → canvasRow W z (rowsFrom row y n) ≡ row (y + z)
+    unfolding rowsFrom
+    rows-from-row zero y z low wide = absurd (omega arith)
+    rows-from-row (suc n) y zero low wide =
+        row-of-start (row y) (rowsFrom row (suc y) n) (wide y (omega arith)) ∙ ap row (omega arith)
+    rows-from-row (suc n) y (suc z) low wide =
+        row-of-append z (row y) (rowsFrom row (suc y) n) (wide y (omega arith))
+        ∙ rows-from-row n (suc y) z (omega arith) (λ k h. wide k (omega arith))
+        ∙ ap row (omega arith)
+
+    module _ (H : ℕ) (wide : (y : ℕ) → y < H → length (row y) ≡ W) where
+      pub canvas-of-length : length (canvasOf row H) ≡ W * H
+      canvas-of-length = rows-from-length H 0 (λ z h. wide z (omega arith)) ∙ mul-comm H W
+
+      pub canvas-of-row : (y : ℕ) → y < H → canvasRow W y (canvasOf row H) ≡ row y
+      canvas-of-row y low = rows-from-row H 0 y low (λ z h. wide z (omega arith)) ∙ ap row (omega arith)

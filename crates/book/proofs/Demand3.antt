@@ -14,17 +14,17 @@ use Rattle.refusal.specs.declared.Checked.the-variants.{Passed, Refused}
 use Rattle.refusal.specs.Refusal.{refuseIf, orElse}
 use Rattle.refusal.proofs.Checks.{refused-apart}
 use Rattle.book.specs.Each.{Each}
-use Rattle.book.specs.Book.{Drawing, Call, paint}
+use Rattle.book.specs.Book.{Drawing, Call, add, paint, remove}
 use Rattle.book.specs.Book.{Entry, Book, firstLeft, owes, someOwes, noneLeft, bookAnswer, bookAfter, bookAnswers}
 use Rattle.book.specs.Book.{bookAfterAll}
 use Rattle.book.specs.Sheet.{State, WithinSide, answer, answers, afterAll, opened}
-use Rattle.book.specs.Demand3.{NoRowLeft, SomeRowLeft, OwedBy, AfterCalls, Demand3}
+use Rattle.book.specs.Demand3.{NoRowLeft, SomeRowLeft, OwedBy, AfterCalls, OverLent, Demand3}
 use Rattle.book.proofs.EachLaws.{each-implies}
 use Rattle.book.proofs.Lists.{element-at-seam}
 use Rattle.book.proofs.EntryRows.{none-left-iff, some-left-not-none, some-owes-owed, owed-some-owes}
 use Rattle.book.proofs.EntryRows.{each-owes-none}
 use Rattle.book.proofs.BookInOrder.{InOrder, empty-book-in-order, in-order-after}
-use Rattle.book.proofs.SheetOfBook.{sheetOf, in-order-rules, answer-is-book, canvasAfter, after-is-book}
+use Rattle.book.proofs.SheetOfBook.{sheetOf, in-order-rules, Fits, answer-is-book, canvasAfter, after-is-book}
 use Rattle.book.proofs.Picture.{Shows, lent-shows-empty, shows-after, canvas-after-length}
 
 module _ (d : Drawing) where
@@ -72,19 +72,25 @@ module _ (d : Drawing) where
   -- ---- one call after another
   module _ (W H : ℕ) (width : WithinSide d W) (height : WithinSide d H) where
     -- from any book in order, and any canvas of the size: the answers need nothing of the picture
-    pub answers-are-book : (calls : List (Call (d .Item))) (book : Book d) (canvas : List ℕ) → InOrder d book
-        → length canvas ≡ W * H → answers d W H (sheetOf d book canvas) calls ≡ bookAnswers d book calls
+    pub answers-are-book : (calls : List (Call (d .Item))) → Each (Fits d W H) calls → (book : Book d) (canvas : List ℕ)
+        → InOrder d book → length canvas ≡ W * H → answers d W H (sheetOf d book canvas) calls ≡ bookAnswers d book calls
     unfolding answers bookAnswers
-    answers-are-book [] book canvas ordered size = refl
-    answers-are-book (call ∷ calls) book canvas ordered size =
-        ap₂ {C = List Checked} (λ a rest. a ∷ rest) (answer-is-book d W H width height book canvas ordered size call)
+    answers-are-book [] fit book canvas ordered size = refl
+    answers-are-book (call ∷ calls) fit book canvas ordered size =
+        ap₂ {C = List Checked} (λ a rest. a ∷ rest) (answer-is-book d W H width height book canvas ordered size call (fit .0))
         (ap (λ (t : State (d .Item)). answers d W H t calls)
-        (after-is-book d W H width height book canvas ordered size call)
-        ∙ answers-are-book calls (bookAfter d book call) (canvasAfter d W H book canvas call)
+        (after-is-book d W H width height book canvas ordered size call (fit .0))
+        ∙ answers-are-book calls (fit .1) (bookAfter d book call) (canvasAfter d W H book canvas call)
         (in-order-after d book call ordered)
-        (canvas-after-length d W H book canvas call size))
+        (canvas-after-length d W H book canvas call (fit .0) size))
 
-    module _ (lent : List ℕ) where
+    module _ (lent : List ℕ) (long : length lent ≡ W * H) where
+      -- the canvas as first lent has the length of the canvas
+      over-lent-fits : (call : Call (d .Item)) → OverLent d lent call → Fits d W H call
+      over-lent-fits (add item) o = tt
+      over-lent-fits (paint i) o = tt
+      over-lent-fits (remove i background) o = ap length o ∙ long
+
       -- both halves of the invariant, of a sheet with its canvas and a book
       pub record Reached (s : State (d .Item)) (book : Book d) : Type 0 where
         pub canvas : List ℕ
@@ -92,21 +98,22 @@ module _ (d : Drawing) where
         pub in-order : InOrder d book
         pub shows : Shows d W H lent book canvas
 
-      pub reached-after : (calls : List (Call (d .Item))) (book : Book d) (canvas : List ℕ) → InOrder d book
-          → Shows d W H lent book canvas
+      pub reached-after : (calls : List (Call (d .Item))) → Each (OverLent d lent) calls → (book : Book d) (canvas : List ℕ)
+          → InOrder d book → Shows d W H lent book canvas
           → Reached (afterAll d W H (sheetOf d book canvas) calls) (bookAfterAll d book calls)
       unfolding afterAll bookAfterAll
-      reached-after [] book canvas ordered shown =
+      reached-after [] over book canvas ordered shown =
           record { canvas = canvas; sheet = refl; in-order = ordered; shows = shown }
-      reached-after (call ∷ calls) book canvas ordered shown =
-          rw (after-is-book d W H width height book canvas ordered (shown .size) call)
-          (reached-after calls (bookAfter d book call) (canvasAfter d W H book canvas call)
+      reached-after (call ∷ calls) over book canvas ordered shown =
+          rw (after-is-book d W H width height book canvas ordered (shown .size) call (over-lent-fits call (over .0)))
+          (reached-after calls (over .1) (bookAfter d book call) (canvasAfter d W H book canvas call)
           (in-order-after d book call ordered)
-          (shows-after d W H lent book canvas call ordered shown))
+          (shows-after d W H lent long book canvas call (over .0) ordered shown))
 
-      pub opened-reaches : length lent ≡ W * H → (calls : List (Call (d .Item)))
+      pub opened-reaches : (calls : List (Call (d .Item))) → Each (OverLent d lent) calls
           → Reached (afterAll d W H (opened d lent) calls) (bookAfterAll d [] calls)
-      opened-reaches size calls = reached-after calls [] lent (empty-book-in-order d) (lent-shows-empty d W H lent size)
+      opened-reaches calls over =
+          reached-after calls over [] lent (empty-book-in-order d) (lent-shows-empty d W H lent long)
 
       -- ---- what both halves say
       sheet-after-calls : (book : Book d) (canvas : List ℕ) → InOrder d book → Shows d W H lent book canvas
@@ -130,16 +137,19 @@ module _ (d : Drawing) where
               → answer d W H (sheetOf d book canvas) (paint (length before))
               ≡ bookAnswer d (before ++ e ∷ later) (paint (length before))
           answer-at before e later split =
-              answer-is-book d W H width height book canvas ordered (shown .size) (paint (length before))
+              answer-is-book d W H width height book canvas ordered (shown .size) (paint (length before)) tt
               ∙ ap (λ (t : Book d). bookAnswer d t (paint (length before))) split
 
       pub reached-after-calls : (s : State (d .Item)) (book : Book d) → Reached s book → AfterCalls d W H lent s book
       reached-after-calls s book r = rw (r .sheet) (sheet-after-calls book (r .canvas) (r .in-order) (r .shows))
 
   pub demand3 : Demand3 d
-  demand3 W H width height lent size calls =
+  demand3 W H width height lent size calls over =
       record {
-        answered = answers-are-book W H width height calls [] lent (empty-book-in-order d) size;
-        reached = reached-after-calls W H width height lent (afterAll d W H (opened d lent) calls) (bookAfterAll d [] calls)
-            (opened-reaches W H width height lent size calls);
+        answered = answers-are-book W H width height calls
+            (each-implies (OverLent d lent) (Fits d W H) (over-lent-fits W H width height lent size) calls over)
+            [] lent (empty-book-in-order d) size;
+        reached = reached-after-calls W H width height lent size (afterAll d W H (opened d lent) calls)
+            (bookAfterAll d [] calls)
+            (opened-reaches W H width height lent size calls over);
       }

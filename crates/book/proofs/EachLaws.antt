@@ -1,5 +1,5 @@
--- A fact of each element, and of each two in order, where lists are joined or mapped, and an element is replaced or
--- comes last; and both facts of each two in one. By recursion on the list.
+-- A fact of each element, and of each two in order, where lists are joined or mapped, and an element is replaced, is taken out
+-- or comes last; and both facts of each two in one. By recursion on the list.
 -- Assumes nothing.
 use mathlib.Core.List.{List, [], _∷_, _++_, map}
 use Rattle.book.specs.Each.{Each, EachTwo}
@@ -45,6 +45,12 @@ module _ {A : Type 0} (R : A → A → Type 0) where
         each-append (R x) l (b ∷ m) (each-left (R x) l (a ∷ m) (p .0)) (g .0 (q .0), q .1),
         each-two-replace l a b m f (g .1) (p .1),
       )
+
+  pub each-two-without : (l : List A) (a : A) (m : List A) → EachTwo R (l ++ a ∷ m) → EachTwo R (l ++ m)
+  each-two-without [] a m p = p .1
+  each-two-without (x ∷ l) a m p =
+      let q = each-right (R x) l (a ∷ m) (p .0) in
+      (each-append (R x) l m (each-left (R x) l (a ∷ m) (p .0)) (q .1), each-two-without l a m (p .1))
 
   pub each-two-last : (l : List A) (a : A) → Each (λ x. R x a) l → EachTwo R l → EachTwo R (l ++ a ∷ [])
   each-two-last [] a f p = (tt, tt)

@@ -15,7 +15,7 @@ use Rattle.signed.proofs.Laws.{int, add-law}
 use Rattle.book.specs.Each.{Each}
 use Rattle.book.specs.Book.{inRun, Drawing, Entry, Book, endRow, firstLeft, hasRow, hasPainted, isLeft, owes}
 use Rattle.book.specs.Book.{someOwes, noneLeft}
-use Rattle.book.specs.Sheet.{layerOwes}
+use Rattle.book.specs.Sheet.{layerOwes, layerHasPainted}
 use Rattle.book.specs.Demand3.{layerOf, NoRowLeft, SomeRowLeft, OwedBy}
 use Rattle.book.proofs.Tests.{and-true-parts, and-true-of, or-false-parts, true-unless, false-unless}
 use Rattle.book.proofs.Tests.{true-false-apart, tests-equal}
@@ -211,6 +211,10 @@ module _ (d : Drawing) where
           let p = owes-true e y h in
           let low : leZ (d .first (e .item)) y ≡ true = omega (arith, int, add-law (d .first (e .item)) (pos (e .count))) in
           and-true-of (has-row-holds (e .item) y (record { from-start = low; before-end = p .before-end })) (p .from-start)
+
+  pub layer-painted-is : (e : Entry (d .Item)) (y : ℤ) → layerHasPainted d (layerOf d e) y ≡ hasPainted d e y
+  unfolding layerHasPainted hasPainted
+  layer-painted-is e y = refl
 
   pub layer-none-left-is : (e : Entry (d .Item)) → leZ (endRow d (e .item)) (firstLeft d e) ≡ noneLeft d e
   unfolding noneLeft

@@ -1,11 +1,14 @@
--- An element of a list by its number: the list split there, the element replaced, and both in the image of a list. All by
--- recursion on the number and the list.
+-- An element of a list by its number: the list split there, the element replaced or taken out, and these in the image of a
+-- list. All by recursion on the number and the list.
 -- Assumes nothing.
-use mathlib.Core.Path.{_≡_, refl, ap}
-use mathlib.Core.List.{List, [], _∷_, _++_, map}
+use mathlib.Core.Path.{_≡_, refl, sym, ap, ap₂, _∙_}
+use mathlib.Core.List.{List, [], _∷_, _++_, map, map-append}
 use mathlib.Core.Option.{some, Option·map, Option·some-injective, Option·none-ne-some}
-use Prim.Native.Nat.{ℕ, zero, suc}
+use Prim.Native.Nat.{ℕ, zero, suc, _<_, _≤_}
+use native.Mathlib.Omega.{arith}
 use lib.ListN.{length, take, drop, set, getElem?}
+use lib.Seq.{take-append-le}
+use Rattle.book.specs.Book.{without}
 
 module _ {A : Type 0} where
   pub split-at-element : (l : List A) (i : ℕ) (a : A) → getElem? l i ≡ some a → l ≡ take i l ++ a ∷ drop (suc i) l
@@ -22,6 +25,23 @@ module _ {A : Type 0} where
   element-at-seam [] a m = refl
   element-at-seam (x ∷ l) a m = element-at-seam l a m
 
+  pub element-there : (l : List A) (i : ℕ) → i < length l → (a : A) × (getElem? l i ≡ some a)
+  element-there [] i h = absurd (omega arith)
+  element-there (x ∷ l) zero h = (x, refl)
+  element-there (x ∷ l) (suc i) h = element-there l i (omega arith)
+
+  -- a part of a list that begins with that list without an element
+  pub take-without : (n i : ℕ) (l m : List A) → i ≤ n → n < length l → take n (without i l ++ m) ≡ without i (take (suc n) l)
+  take-without n i [] m le h = absurd (omega arith)
+  take-without n zero (x ∷ l) m le h = take-append-le n l m (omega arith)
+  take-without zero (suc i) (x ∷ l) m le h = absurd (omega arith)
+  take-without (suc n) (suc i) (x ∷ l) m le h = ap {B = List A} (λ t. x ∷ t) (take-without n i l m (omega arith) (omega arith))
+
+  pub length-without : (i : ℕ) (l : List A) → i < length l → suc (length (without i l)) ≡ length l
+  length-without i [] h = absurd (omega arith)
+  length-without zero (x ∷ l) h = refl
+  length-without (suc i) (x ∷ l) h = ap suc (length-without i l (omega arith))
+
 module _ {A B : Type 0} (f : A → B) where
   pub element-map : (l : List A) (i : ℕ) → getElem? (map f l) i ≡ Option·map f (getElem? l i)
   element-map [] i = refl
@@ -37,3 +57,12 @@ module _ {A B : Type 0} (f : A → B) where
   set-map [] i a = refl
   set-map (x ∷ l) zero a = refl
   set-map (x ∷ l) (suc i) a = ap {B = List B} (λ t. f x ∷ t) (set-map l i a)
+
+  drop-map : (i : ℕ) (l : List A) → drop i (map f l) ≡ map f (drop i l)
+  drop-map zero l = refl
+  drop-map (suc i) [] = refl
+  drop-map (suc i) (x ∷ l) = drop-map i l
+
+  pub without-map : (i : ℕ) (l : List A) → without i (map f l) ≡ map f (without i l)
+  without-map i l =
+      ap₂ {C = List B} (λ a b. a ++ b) (take-map i l) (drop-map (suc i) l) ∙ sym (map-append f (take i l) (drop (suc i) l))

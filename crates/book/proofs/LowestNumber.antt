@@ -3,7 +3,7 @@
 -- definition of `answer` or `after`, with the tests put in.
 -- Assumes nothing.
 use mathlib.Core.Path.{_≡_, refl, sym, ap, _∙_}
-use mathlib.Core.Bool.{Bool, true, false}
+use mathlib.Core.Bool.{Bool, true, false, not}
 use mathlib.Core.List.{List}
 use mathlib.Core.Option.{Option, none, some}
 use Prim.Native.Nat.{ℕ, _*_}
@@ -13,12 +13,12 @@ use lib.Signed.{leZ}
 use lib.ListN.{length, take, getElem?}
 use borrow.Author.Tests.{eqb-true, eqb-false, eq-eqb, ne-eqb}
 use Rattle.refusal.specs.declared.Refusal.{Refusal}
-use Rattle.refusal.specs.declared.Refusal.the-variants.{SheetRule, CanvasLength, SheetFull, NoRowLeft, RowOwed}
+use Rattle.refusal.specs.declared.Refusal.the-variants.{SheetRule, CanvasLength, SheetFull, NoLayer, NoRowLeft, RowOwed}
 use Rattle.refusal.specs.declared.Checked.{Checked}
 use Rattle.refusal.specs.declared.Checked.the-variants.{Passed, Refused}
 use Rattle.refusal.specs.Refusal.{answerNumber, refuseIf, orElse, keeping}
 use Rattle.refusal.proofs.Checks.{refused-apart}
-use Rattle.book.specs.Book.{Drawing, Call, add, paint, endRow}
+use Rattle.book.specs.Book.{Drawing, Call, add, paint, remove, endRow}
 use Rattle.book.specs.Sheet.{Layer, State, someLayerOwes, keepsRules, layerAnswer, answer, carriedOut, after}
 use Rattle.book.proofs.Tests.{false-unless}
 
@@ -115,6 +115,57 @@ module _ (d : Drawing) (W H : ℕ) (s : State (d .Item)) where
         by-length kept false other =
             let eight = paint-refused-canvas kept (eqb-false (length (s .canvas)) (W * H) other) in
             omega (arith, ap answerNumber (sym eight ∙ told))
+
+  -- ---- a removal: 7, then 8 for either buffer, then 10
+  module _ (i : ℕ) (background : List ℕ) where
+    pub remove-refused-broken-sheet : keepsRules d W H (s .layers) ≡ false
+        → answer d W H s (remove i background) ≡ Refused SheetRule
+    unfolding answer
+    remove-refused-broken-sheet broken = rw broken
+
+    pub remove-refused-canvas : keepsRules d W H (s .layers) ≡ true → (length (s .canvas) ≡ W * H → ⊥)
+        → answer d W H s (remove i background) ≡ Refused CanvasLength
+    unfolding answer
+    remove-refused-canvas kept other = rw (kept, ne-eqb (length (s .canvas)) (W * H) other)
+
+    pub remove-refused-background : keepsRules d W H (s .layers) ≡ true → length (s .canvas) ≡ W * H
+        → (length background ≡ W * H → ⊥) → answer d W H s (remove i background) ≡ Refused CanvasLength
+    unfolding answer
+    remove-refused-background kept size other =
+        rw (kept, eq-eqb (length (s .canvas)) (W * H) size, ne-eqb (length background) (W * H) other)
+
+    pub remove-answer-on-sheet : keepsRules d W H (s .layers) ≡ true → length (s .canvas) ≡ W * H → length background ≡ W * H
+        → answer d W H s (remove i background) ≡ refuseIf (leb (length (s .layers)) i) NoLayer
+    unfolding answer
+    remove-answer-on-sheet kept size long =
+        rw (kept, eq-eqb (length (s .canvas)) (W * H) size, eq-eqb (length background) (W * H) long)
+
+    -- 7 is answered only where the sheet breaks the rules
+    pub remove-broken-sheet-only : answer d W H s (remove i background) ≡ Refused SheetRule
+        → keepsRules d W H (s .layers) ≡ false
+    unfolding answer
+    remove-broken-sheet-only told = by-tests (keepsRules d W H (s .layers)) refl
+      where
+        rest : Bool → Bool → Bool → Checked
+        rest canvas-other background-other past =
+            orElse (refuseIf canvas-other CanvasLength) (orElse (refuseIf background-other CanvasLength) (refuseIf past NoLayer))
+
+        not-broken : (a b c : Bool) → rest a b c ≡ Refused SheetRule → ⊥
+        not-broken true b c e = omega (arith, ap answerNumber e)
+        not-broken false true c e = omega (arith, ap answerNumber e)
+        not-broken false false true e = omega (arith, ap answerNumber e)
+        not-broken false false false e = refused-apart (sym e)
+
+        by-tests : (t : Bool) → keepsRules d W H (s .layers) ≡ t → t ≡ false
+        by-tests false e = refl
+        by-tests true kept =
+            absurd
+            (not-broken (not (eqb (length (s .canvas)) (W * H))) (not (eqb (length background) (W * H)))
+            (leb (length (s .layers)) i)
+            (sym (ap (λ (t : Bool). orElse (refuseIf (not t) SheetRule)
+            (rest (not (eqb (length (s .canvas)) (W * H))) (not (eqb (length background) (W * H)))
+            (leb (length (s .layers)) i))) kept)
+            ∙ told))
 
   -- ---- sheet and canvas
   pub refused-changes-nothing : (call : Call (d .Item)) {refusal : Refusal} → answer d W H s call ≡ Refused refusal → after d W H s call ≡ s

@@ -1,9 +1,10 @@
 -- The half of the invariant that the picture needs: each canvas row is the row as first lent, overpainted by the figures
 -- that have painted it, in the order of adding. In a book in order, an accepted paint call puts its figure last among
--- those that have painted its row, since no later figure has painted a row that it owes; other rows stay.
+-- those that have painted its row, since no later figure has painted a row that it owes; other rows stay. A removal shows the
+-- rows that its figure had painted anew over the background, by the other figures; on other rows the figure was not.
 -- Assumes nothing.
-use mathlib.Core.Path.{_≡_, refl, sym, ap, _∙_, subst}
-use mathlib.Core.List.{List, [], _∷_, _++_, append-nil}
+use mathlib.Core.Path.{_≡_, refl, sym, ap, ap₂, _∙_, subst}
+use mathlib.Core.List.{List, [], _∷_, _++_, map, append-nil}
 use mathlib.Core.Option.{Option, none, some}
 use mathlib.Core.Bool.{Bool, true, false, cond}
 use Prim.Native.Nat.{ℕ, suc, _*_, _<_}
@@ -16,17 +17,19 @@ use Rattle.book.specs.Canvas.{canvasRow, putRow}
 use Rattle.refusal.specs.declared.Checked.{Checked}
 use Rattle.refusal.specs.declared.Checked.the-variants.{Passed, Refused}
 use Rattle.refusal.specs.Refusal.{keeping}
-use Rattle.book.specs.Book.{Drawing, Call, add, paint, Entry, Book}
+use Rattle.book.specs.Book.{without, Drawing, Call, add, paint, remove, Entry, Book}
 use Rattle.book.specs.Book.{firstLeft, hasPainted, bookAnswer, noted, bookAfter, painters, overpainted}
-use Rattle.book.specs.Sheet.{withRow, paintRow}
+use Rattle.book.specs.Sheet.{Layer, Layers, withRow, paintRow, layerHasPainted, layerPainters, restoredRow, restored}
+use Rattle.book.specs.Demand3.{layerOf, OverLent}
 use Rattle.book.proofs.Tests.{false-unless}
 use Rattle.book.proofs.EachLaws.{each-implies, each-two-later}
 use Rattle.book.proofs.Lists.{split-at-element, set-at-element}
 use Rattle.book.proofs.CanvasRows.{canvas-row-length, put-row-length, put-row-here, put-row-other}
+use Rattle.book.proofs.CanvasRows.{canvas-of-length, canvas-of-row}
 use Rattle.book.proofs.EntryRows.{oneMore, one-more-painted-other, one-more-painted-here, first-left-not-painted}
-use Rattle.book.proofs.EntryRows.{first-left-owed, new-entry-painted-none}
-use Rattle.book.proofs.BookInOrder.{NotAhead, InOrder, Painting, paint-accepted}
-use Rattle.book.proofs.SheetOfBook.{canvasPainted, canvasCarriedOut, canvasAfter}
+use Rattle.book.proofs.EntryRows.{first-left-owed, new-entry-painted-none, layer-painted-is}
+use Rattle.book.proofs.BookInOrder.{NotAhead, InOrder, Painting, paint-accepted, Removing, remove-accepted}
+use Rattle.book.proofs.SheetOfBook.{Fits, canvasPainted, canvasRemoved, canvasCarriedOut, canvasAfter}
 
 module _ (d : Drawing) where
   -- ---- who has painted a row
@@ -90,6 +93,26 @@ module _ (d : Drawing) where
           append-nil (painters d before y),
         )
 
+  -- a figure that had not painted a row was not among those that had
+  pub painters-without : (before : Book d) (e : Entry (d .Item)) (later : Book d) (y : ℤ) → hasPainted d e y ≡ false
+      → painters d (before ++ later) y ≡ painters d (before ++ e ∷ later) y
+  unfolding painters
+  painters-without before e later y not-painted =
+      painters-append before later y ∙ sym (painters-append before (e ∷ later) y ∙ rw not-painted)
+
+  -- the layers of a book that have painted a row are its figures that have
+  layer-painters-are : (book : Book d) (y : ℤ) → layerPainters d (map (layerOf d) book) y ≡ painters d book y
+  unfolding layerPainters painters
+  layer-painters-are [] y = refl
+  layer-painters-are (e ∷ rest) y =
+      ap₂ (λ (t : Bool) (items : List (d .Item)). cond t (e .item ∷ items) items) (layer-painted-is d e y)
+      (layer-painters-are rest y)
+
+  pub overpainted-length : (items : List (d .Item)) (y : ℤ) (row : List ℕ) → length (overpainted d items y row) ≡ length row
+  unfolding overpainted
+  overpainted-length [] y row = refl
+  overpainted-length (item ∷ items) y row = overpainted-length items y (d .over item y row) ∙ d .over-length item y row
+
   -- ---- a row written onto the canvas
   module _ (W H : ℕ) where
     over-row-length : (item : d .Item) (y : ℕ) (canvas : List ℕ) → length canvas ≡ W * H → y < H
@@ -136,21 +159,51 @@ module _ (d : Drawing) where
         by-test false e = refl
     paint-row-other item (negsuc z) y canvas size low other = refl
 
-    pub canvas-after-length : (book : Book d) (canvas : List ℕ) (call : Call (d .Item)) → length canvas ≡ W * H
-        → length (canvasAfter d W H book canvas call) ≡ W * H
+    -- ---- the rows of a layer that is removed
+    module _ (l : Layer (d .Item)) (others : Layers d) (background canvas : List ℕ) (long : length background ≡ W * H)
+        (size : length canvas ≡ W * H) where
+      restored-row-length : (y : ℕ) → y < H → length (restoredRow d W l others background canvas y) ≡ W
+      unfolding restoredRow
+      restored-row-length y low = by-test (layerHasPainted d l (pos y))
+        where
+          row : List ℕ
+          row = overpainted d (layerPainters d others (pos y)) (pos y) (canvasRow W y background)
+
+          by-test : (t : Bool) → length (cond t row (canvasRow W y canvas)) ≡ W
+          by-test true =
+              overpainted-length (layerPainters d others (pos y)) (pos y) (canvasRow W y background)
+              ∙ canvas-row-length W H y background low long
+          by-test false = canvas-row-length W H y canvas low size
+
+      pub restored-length : length (restored d W H (some l) others background canvas) ≡ W * H
+      restored-length = canvas-of-length W (restoredRow d W l others background canvas) H restored-row-length
+
+      pub restored-row : (y : ℕ) → y < H
+          → canvasRow W y (restored d W H (some l) others background canvas) ≡ restoredRow d W l others background canvas y
+      restored-row = canvas-of-row W (restoredRow d W l others background canvas) H restored-row-length
+
+    pub canvas-after-length : (book : Book d) (canvas : List ℕ) (call : Call (d .Item)) → Fits d W H call
+        → length canvas ≡ W * H → length (canvasAfter d W H book canvas call) ≡ W * H
     unfolding canvasAfter
-    canvas-after-length book canvas call size = by-answer (bookAnswer d book call)
+    canvas-after-length book canvas call fits size = by-answer (bookAnswer d book call)
       where
         by-entry : (o : Option (Entry (d .Item))) → length (canvasPainted d W H canvas o) ≡ W * H
         by-entry none = size
         by-entry (some e) = paint-row-length (e .item) (firstLeft d e) canvas size
 
-        by-call : (c : Call (d .Item)) → length (canvasCarriedOut d W H book canvas c) ≡ W * H
-        by-call (add item) = size
-        by-call (paint i) = by-entry (getElem? book i)
+        by-removed : (others : Book d) (background : List ℕ) → length background ≡ W * H → (o : Option (Entry (d .Item)))
+            → length (canvasRemoved d W H others background canvas o) ≡ W * H
+        by-removed others background long none = size
+        by-removed others background long (some e) =
+            restored-length (layerOf d e) (map (layerOf d) others) background canvas long size
+
+        by-call : (c : Call (d .Item)) → Fits d W H c → length (canvasCarriedOut d W H book canvas c) ≡ W * H
+        by-call (add item) fits = size
+        by-call (paint i) fits = by-entry (getElem? book i)
+        by-call (remove i background) fits = by-removed (without i book) background fits (getElem? book i)
 
         by-answer : (a : Checked) → length (keeping a canvas (canvasCarriedOut d W H book canvas call)) ≡ W * H
-        by-answer Passed = by-call call
+        by-answer Passed = by-call call fits
         by-answer (Refused refusal) = size
 
     -- ---- the canvas shows the book over the canvas as first lent
@@ -221,19 +274,56 @@ module _ (d : Drawing) where
           (shows-one-more (take i book) (p .entry) (drop (suc i) book) canvas (subst (InOrder d) split ordered) (p .left)
           (subst (λ (t : Book d). Shows lent t canvas) split shown))
 
-      pub shows-after : (book : Book d) (canvas : List ℕ) (call : Call (d .Item)) → InOrder d book → Shows lent book canvas
+      -- without a figure, its rows restored over the canvas as first lent
+      shows-without : length lent ≡ W * H → (before : Book d) (e : Entry (d .Item)) (later : Book d) (canvas : List ℕ)
+          → Shows lent (before ++ e ∷ later) canvas
+          → Shows lent (before ++ later) (canvasRemoved d W H (before ++ later) lent canvas (some e))
+      unfolding restoredRow
+      shows-without long before e later canvas shown =
+          record {
+            size = restored-length (layerOf d e) layers lent canvas long (shown .size);
+            row = λ y low.
+                restored-row (layerOf d e) layers lent canvas long (shown .size) y low
+                ∙ by-row y low (layerHasPainted d (layerOf d e) (pos y)) refl;
+          }
+        where
+          layers : Layers d
+          layers = map (layerOf d) (before ++ later)
+
+          by-row : (y : ℕ) → y < H → (t : Bool) → layerHasPainted d (layerOf d e) (pos y) ≡ t
+              → cond t (overpainted d (layerPainters d layers (pos y)) (pos y) (canvasRow W y lent)) (canvasRow W y canvas)
+              ≡ shownRow (before ++ later) y
+          by-row y low true painted = painters-row y (layer-painters-are (before ++ later) (pos y))
+          by-row y low false not-painted =
+              shown .row y low
+              ∙ painters-row y (sym (painters-without before e later (pos y) (sym (layer-painted-is d e (pos y)) ∙ not-painted)))
+
+      pub shows-remove : length lent ≡ W * H → (book : Book d) (i : ℕ) (canvas : List ℕ) → (r : Removing d book i)
+          → Shows lent book canvas
+          → Shows lent (without i book) (canvasRemoved d W H (without i book) lent canvas (some (r .entry)))
+      shows-remove long book i canvas r shown =
+          shows-without long (take i book) (r .entry) (drop (suc i) book) canvas
+          (subst (λ (t : Book d). Shows lent t canvas) (split-at-element book i (r .entry) (r .there)) shown)
+
+      pub shows-after : length lent ≡ W * H → (book : Book d) (canvas : List ℕ) (call : Call (d .Item)) → OverLent d lent call
+          → InOrder d book → Shows lent book canvas
           → Shows lent (bookAfter d book call) (canvasAfter d W H book canvas call)
       unfolding bookAfter noted canvasAfter
-      shows-after book canvas call ordered shown = by-answer (bookAnswer d book call) refl
+      shows-after long book canvas call over-lent ordered shown = by-answer (bookAnswer d book call) refl
         where
-          when-noted : (c : Call (d .Item)) → bookAnswer d book c ≡ Passed
+          when-noted : (c : Call (d .Item)) → OverLent d lent c → bookAnswer d book c ≡ Passed
               → Shows lent (noted d book c) (canvasCarriedOut d W H book canvas c)
-          when-noted (add item) h = shows-add book item canvas shown
-          when-noted (paint i) h =
+          when-noted (add item) over-lent h = shows-add book item canvas shown
+          when-noted (paint i) over-lent h =
               let p = paint-accepted d book i h in
               rw (p .there) (shows-paint book i canvas ordered p shown)
+          when-noted (remove i background) over-lent h =
+              let r = remove-accepted d book i background h in
+              let over : List ℕ → List ℕ = λ bytes. canvasRemoved d W H (without i book) bytes canvas (getElem? book i) in
+              subst (λ (bytes : List ℕ). Shows lent (without i book) (over bytes)) (sym over-lent)
+              (rw (r .there) (shows-remove long book i canvas r shown))
 
           by-answer : (a : Checked) → bookAnswer d book call ≡ a
               → Shows lent (keeping a book (noted d book call)) (keeping a canvas (canvasCarriedOut d W H book canvas call))
-          by-answer Passed h = when-noted call h
+          by-answer Passed h = when-noted call over-lent h
           by-answer (Refused refusal) h = shown

@@ -1,7 +1,7 @@
 -- The rules are kept from any sheet that keeps them, also one that no call has led to: it is the sheet of a book in order,
 -- where a layer has painted as many rows as its next row lies below its first. So a call leaves the sheet of the book after
--- it, which is in order again. A canvas of another length changes nothing of that: an add call does not look at it, and a
--- paint call is refused for it.
+-- it, which is in order again. A canvas or a background of another length changes nothing of that: an add call does not look
+-- at it, and a paint call or a removal is refused for it.
 -- Assumes nothing.
 use mathlib.Core.Path.{_≡_, refl, sym, ap, ap₂, subst, _∙_}
 use mathlib.Core.List.{List, [], _∷_, map}
@@ -16,16 +16,17 @@ use lib.ListN.{length, replicate, length-map, length-replicate}
 use Rattle.signed.specs.Signed.{floor0}
 use Rattle.signed.proofs.Laws.{int, add-law, sub-law}
 use Rattle.book.specs.Each.{Each}
-use Rattle.book.specs.Book.{Drawing, Call, add, paint, Entry, Book, firstLeft}
-use Rattle.book.specs.Sheet.{Layer, State, Layers, layerOwes, LayerRules, OrderRule, Rules, after, afterAll}
+use Rattle.book.specs.Book.{Drawing, Call, add, paint, remove, Entry, Book, firstLeft}
+use Rattle.book.specs.Sheet.{Layer, State, Layers, layerOwes, LayerRules, OrderRule, Rules, keepsRules, after, afterAll}
 use Rattle.book.specs.Sheet.{RulesKept, RulesKeptByAll}
 use Rattle.book.specs.Demand3.{layerOf}
 use Rattle.book.proofs.EachLaws.{each-map, each-two-map, AndOfEach, each-two-and-each}
 use Rattle.book.proofs.EntryRows.{painted-true, has-row-holds, layer-owes-is}
 use Rattle.book.proofs.RulesTest.{rules-test}
-use Rattle.book.proofs.LowestNumber.{add-any-canvas, paint-refused-canvas, refused-changes-nothing}
+use Rattle.book.proofs.LowestNumber.{add-any-canvas, paint-refused-canvas, remove-refused-canvas, remove-refused-background}
+use Rattle.book.proofs.LowestNumber.{refused-changes-nothing}
 use Rattle.book.proofs.BookInOrder.{Within, NotAhead, InOrder, in-order-after}
-use Rattle.book.proofs.SheetOfBook.{sheetOf, in-order-rules, after-is-book}
+use Rattle.book.proofs.SheetOfBook.{sheetOf, in-order-rules, Fits, after-is-book}
 
 module _ (d : Drawing) where
   -- ---- the book of a sheet
@@ -88,15 +89,15 @@ module _ (d : Drawing) where
   module _ (W H : ℕ) where
     -- on a canvas of the sheet's size
     kept-on-its-canvas : (s : State (d .Item)) → Rules d W H (s .layers) → length (s .canvas) ≡ W * H
-        → (call : Call (d .Item)) → Rules d W H (after d W H s call .layers)
-    kept-on-its-canvas s r size call =
+        → (call : Call (d .Item)) → Fits d W H call → Rules d W H (after d W H s call .layers)
+    kept-on-its-canvas s r size call fits =
         let book = bookOf (s .layers) in
         let ordered = book-in-order W H (s .layers) r in
         let back : sheetOf d book (s .canvas) ≡ s =
         ap (λ (l : Layers d). record { layers = l; canvas = s .canvas }) (layers-of-book (s .layers) (r .each)) in
         let left =
         ap (λ (t : State (d .Item)). after d W H t call) (sym back)
-        ∙ after-is-book d W H (r .width) (r .height) book (s .canvas) ordered size call in
+        ∙ after-is-book d W H (r .width) (r .height) book (s .canvas) ordered size call fits in
         subst (λ (t : State (d .Item)). Rules d W H (t .layers)) (sym left)
         (in-order-rules d W H (r .width) (r .height) _ (in-order-after d book call ordered))
 
@@ -104,16 +105,35 @@ module _ (d : Drawing) where
   rules-kept W H s r (add item) =
       let blank : List ℕ = replicate (W * H) 0 in
       subst (λ (t : State (d .Item)). Rules d W H (t .layers)) (sym (add-any-canvas d W H s item blank))
-      (kept-on-its-canvas W H (record { layers = s .layers; canvas = blank }) r (length-replicate (W * H) 0) (add item))
+      (kept-on-its-canvas W H (record { layers = s .layers; canvas = blank }) r (length-replicate (W * H) 0) (add item) tt)
   rules-kept W H s r (paint i) = by-length (eqb (length (s .canvas)) (W * H)) refl
     where
       by-length : (t : Bool) → eqb (length (s .canvas)) (W * H) ≡ t → Rules d W H (after d W H s (paint i) .layers)
-      by-length true size = kept-on-its-canvas W H s r (eqb-true (length (s .canvas)) (W * H) size) (paint i)
+      by-length true size = kept-on-its-canvas W H s r (eqb-true (length (s .canvas)) (W * H) size) (paint i) tt
       by-length false other =
           let eight =
           paint-refused-canvas d W H s i (rules-test d W H (s .layers) r)
           (eqb-false (length (s .canvas)) (W * H) other) in
           rw (refused-changes-nothing d W H s (paint i) eight) r
+  rules-kept W H s r (remove i background) =
+      by-lengths (eqb (length (s .canvas)) (W * H)) (eqb (length background) (W * H)) refl refl
+    where
+      kept : keepsRules d W H (s .layers) ≡ true
+      kept = rules-test d W H (s .layers) r
+
+      by-lengths : (t u : Bool) → eqb (length (s .canvas)) (W * H) ≡ t → eqb (length background) (W * H) ≡ u
+          → Rules d W H (after d W H s (remove i background) .layers)
+      by-lengths true true size long =
+          kept-on-its-canvas W H s r (eqb-true (length (s .canvas)) (W * H) size) (remove i background)
+          (eqb-true (length background) (W * H) long)
+      by-lengths true false size other =
+          let eight =
+          remove-refused-background d W H s i background kept (eqb-true (length (s .canvas)) (W * H) size)
+          (eqb-false (length background) (W * H) other) in
+          rw (refused-changes-nothing d W H s (remove i background) eight) r
+      by-lengths false u other long =
+          let eight = remove-refused-canvas d W H s i background kept (eqb-false (length (s .canvas)) (W * H) other) in
+          rw (refused-changes-nothing d W H s (remove i background) eight) r
 
   -- ---- a list of calls
   pub rules-kept-by-all : RulesKeptByAll d

@@ -14,16 +14,16 @@ use Rattle.refusal.specs.declared.Refusal.the-variants.{NoRowLeft, RowOwed}
 use Rattle.refusal.specs.declared.Checked.{Checked}
 use Rattle.refusal.specs.declared.Checked.the-variants.{Passed, Refused}
 use Rattle.refusal.specs.Refusal.{refuseIf, orElse, keeping}
-use Rattle.book.specs.Book.{Drawing, Call, add, paint, Entry, Book, firstLeft, someOwes, entryAnswer, bookAnswer}
+use Rattle.book.specs.Book.{without, Drawing, Call, add, paint, remove, Entry, Book, firstLeft, someOwes, entryAnswer, bookAnswer}
 use Rattle.book.specs.Book.{counted, noted, bookAfter}
 use Rattle.book.specs.Sheet.{State, Layers, someLayerOwes, WithinSide, LayerRules, OrderRule, Rules, keepsRules}
-use Rattle.book.specs.Sheet.{layerAnswer, answer, paintRow, paintedLayer, carriedOut, after}
+use Rattle.book.specs.Sheet.{layerAnswer, answer, paintRow, paintedLayer, restored, carriedOut, after}
 use Rattle.book.specs.Demand3.{layerOf}
 use Rattle.book.proofs.EachLaws.{each-map, each-two-map}
-use Rattle.book.proofs.Lists.{element-map, take-map, set-map}
+use Rattle.book.proofs.Lists.{element-map, take-map, set-map, without-map}
 use Rattle.book.proofs.EntryRows.{has-row-true, painted-holds, layer-owes-is, layer-none-left-is}
 use Rattle.book.proofs.RulesTest.{rules-test}
-use Rattle.book.proofs.LowestNumber.{add-answer-on-sheet, paint-answer-on-sheet}
+use Rattle.book.proofs.LowestNumber.{add-answer-on-sheet, paint-answer-on-sheet, remove-answer-on-sheet}
 use Rattle.book.proofs.BookInOrder.{Within, NotAhead, InOrder}
 
 module _ (d : Drawing) where
@@ -77,16 +77,27 @@ module _ (d : Drawing) where
       (ap (λ (earlier : Layers d). someLayerOwes d earlier (firstLeft d e)) (take-map (layerOf d) i book)
       ∙ some-layer-owes-is (take i book) (firstLeft d e))
 
+  -- a removal's background has the length of the sheet's canvas
+  abbrev pub Fits : ℕ → ℕ → Call (d .Item) → Type 0
+  Fits W H (add item) = Unit {0}
+  Fits W H (paint i) = Unit {0}
+  Fits W H (remove i background) = length background ≡ W * H
+
   module _ (W H : ℕ) (width : WithinSide d W) (height : WithinSide d H) (book : Book d) (canvas : List ℕ)
       (ordered : InOrder d book) (size : length canvas ≡ W * H) where
-    pub answer-is-book : (call : Call (d .Item)) → answer d W H (sheetOf book canvas) call ≡ bookAnswer d book call
+    pub answer-is-book : (call : Call (d .Item)) → Fits W H call
+        → answer d W H (sheetOf book canvas) call ≡ bookAnswer d book call
     unfolding bookAnswer
-    answer-is-book (add item) =
+    answer-is-book (add item) fits =
         add-answer-on-sheet d W H (sheetOf book canvas) item (in-order-keeps-rules W H width height book ordered)
         ∙ rw (length-map book (layerOf d))
-    answer-is-book (paint i) =
+    answer-is-book (paint i) fits =
         paint-answer-on-sheet d W H (sheetOf book canvas) i (in-order-keeps-rules W H width height book ordered) size
         ∙ rw (element-map (layerOf d) book i) (layer-answer-is book i (getElem? book i))
+    answer-is-book (remove i background) fits =
+        remove-answer-on-sheet d W H (sheetOf book canvas) i background
+        (in-order-keeps-rules W H width height book ordered) size fits
+        ∙ rw (length-map book (layerOf d))
 
   -- ---- the sheet and the canvas after a call
   -- one more row moves the next row down by one, and none is the first row
@@ -114,9 +125,15 @@ module _ (d : Drawing) where
     canvasPainted canvas none = canvas
     canvasPainted canvas (some e) = paintRow d W H (e .item) (firstLeft d e) canvas
 
+    abbrev pub canvasRemoved : Book d → List ℕ → List ℕ → Option (Entry (d .Item)) → List ℕ
+    canvasRemoved others background canvas o =
+        restored d W H (Option·map (layerOf d) o) (map (layerOf d) others) background canvas
+
     abbrev pub canvasCarriedOut : Book d → List ℕ → Call (d .Item) → List ℕ
     canvasCarriedOut book canvas (add item) = canvas
     canvasCarriedOut book canvas (paint i) = canvasPainted canvas (getElem? book i)
+    canvasCarriedOut book canvas (remove i background) =
+        canvasRemoved (without i book) background canvas (getElem? book i)
 
     -- the canvas after a call, by the book before it
     unfoldable pub canvasAfter : Book d → List ℕ → Call (d .Item) → List ℕ
@@ -140,11 +157,17 @@ module _ (d : Drawing) where
         ∙ sym (map-append (layerOf d) book (record { item = item; count = 0 } ∷ [])))
     carried-out-is book canvas (paint i) =
         rw (element-map (layerOf d) book i) (painted-layer-is book canvas i (getElem? book i))
+    carried-out-is book canvas (remove i background) =
+        rw (element-map (layerOf d) book i)
+        (ap (λ (l : Layers d). record {
+          layers = l;
+          canvas = restored d W H (Option·map (layerOf d) (getElem? book i)) l background canvas;
+        }) (without-map (layerOf d) i book))
 
     pub after-is-book : WithinSide d W → WithinSide d H → (book : Book d) (canvas : List ℕ) → InOrder d book
-        → length canvas ≡ W * H → (call : Call (d .Item))
+        → length canvas ≡ W * H → (call : Call (d .Item)) → Fits W H call
         → after d W H (sheetOf book canvas) call ≡ sheetOf (bookAfter d book call) (canvasAfter book canvas call)
     unfolding after bookAfter canvasAfter
-    after-is-book width height book canvas ordered size call =
-        rw (answer-is-book W H width height book canvas ordered size call, carried-out-is book canvas call)
+    after-is-book width height book canvas ordered size call fits =
+        rw (answer-is-book W H width height book canvas ordered size call fits, carried-out-is book canvas call)
         (keeping-sheet (bookAnswer d book call) book (noted d book call) canvas (canvasCarriedOut book canvas call))

@@ -53,13 +53,13 @@ module _ (d : Drawing) (W H : ℕ) where
         ≡ sheetOf d (only (suc n)) (paintRow d W H item (firstLeft d (record { item = item; count = n })) canvas)
     unfolding bookAfter noted canvasAfter
     only-painted n canvas h size =
-        after-is-book d W H width height (only n) canvas (only-in-order n (omega arith)) size (paint 0)
+        after-is-book d W H width height (only n) canvas (only-in-order n (omega arith)) size (paint 0) tt
         ∙ rw (only-paint-accepted n h)
 
     only-added : (lent : List ℕ) → length lent ≡ W * H → after d W H (opened d lent) (add item) ≡ sheetOf d (only 0) lent
     unfolding bookAfter noted canvasAfter
     only-added lent size =
-        after-is-book d W H width height [] lent (empty-book-in-order d) size (add item) ∙ rw only-add-accepted
+        after-is-book d W H width height [] lent (empty-book-in-order d) size (add item) tt ∙ rw only-add-accepted
 
     -- the k rows that are left after n
     rest-accepted : (k n : ℕ) (canvas : List ℕ) → n + k ≡ d .rows item → length canvas ≡ W * H
@@ -70,7 +70,7 @@ module _ (d : Drawing) (W H : ℕ) where
         let y : ℤ = firstLeft d (record { item = item; count = n }) in
         let left : n < d .rows item = omega arith in
         ap₂ {C = List Checked} (λ a rest. a ∷ rest)
-        (answer-is-book d W H width height (only n) canvas (only-in-order n (omega arith)) size (paint 0)
+        (answer-is-book d W H width height (only n) canvas (only-in-order n (omega arith)) size (paint 0) tt
         ∙ only-paint-accepted n left)
         (rw (only-painted n canvas left size)
         (rest-accepted k (suc n) (paintRow d W H item y canvas) (omega arith) (paint-row-length d W H item y canvas size)))
@@ -97,7 +97,7 @@ module _ (d : Drawing) (W H : ℕ) where
         let first-row : d .first item +ℤ pos 0 ≡ d .first item = omega (arith, int, add-law (d .first item) (pos 0)) in
         record {
           all-accepted = ap₂ {C = List Checked} (λ a rest. a ∷ rest)
-              (answer-is-book d W H width height [] lent (empty-book-in-order d) size (add item) ∙ only-add-accepted)
+              (answer-is-book d W H width height [] lent (empty-book-in-order d) size (add item) tt ∙ only-add-accepted)
               (rw (only-added lent size) (rest-accepted (d .rows item) 0 lent (omega arith) size));
           finished =
               ap (λ (s : State (d .Item)). afterAll d W H s (replicate (d .rows item) (paint 0))) (only-added lent size)

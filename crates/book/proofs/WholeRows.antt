@@ -5,12 +5,12 @@ use mathlib.Core.Path.{_≡_, refl, sym, ap, _∙_}
 use mathlib.Core.List.{List, _++_}
 use mathlib.Core.Bool.{Bool, true, false, cond}
 use Prim.Native.Nat.{ℕ, zero, suc, _+_, _*_, _<_}
-use native.Mathlib.Nat.{zero-mul, mul-comm}
+use native.Mathlib.Nat.{mul-comm}
 use native.Mathlib.Omega.{arith}
 use lib.IntN.{ℤ, pos, _+ℤ_}
 use lib.Signed.{leZ, ltZ}
 use lib.ListN.{length, take, drop, length-append, length-drop, take-append-drop}
-use lib.Seq.{take-at, drop-at, drop-drop, length-take-le}
+use lib.Seq.{drop-drop, length-take-le}
 use Rattle.signed.proofs.Laws.{int, add-law}
 use Rattle.book.specs.Book.{Drawing, inRun, hasRow}
 use Rattle.book.specs.Canvas.{canvasRow}
@@ -18,7 +18,7 @@ use Rattle.book.specs.Sheet.{paintRow}
 use Rattle.book.specs.Whole.{paintRows, paintWhole, overpaintRows}
 use Rattle.book.proofs.Tests.{false-unless, tests-equal}
 use Rattle.book.proofs.EntryRows.{run-true, run-holds}
-use Rattle.book.proofs.CanvasRows.{canvases-equal-by-rows}
+use Rattle.book.proofs.CanvasRows.{canvases-equal-by-rows, rows-down, row-of-append, row-at-start, row-of-start}
 use Rattle.book.proofs.Picture.{paint-row-length, paint-row-here, paint-row-other}
 use Rattle.book.proofs.Whole.{paint-rows-length}
 
@@ -78,7 +78,7 @@ module _ (d : Drawing) (item : d .Item) (W H : ℕ) where
             before-end = omega (arith, int, add-law y (pos 1), add-law (y +ℤ pos 1) (pos n), add-law y (pos (suc n)));
           }
 
-  paint-rows-row : (n : ℕ) (y : ℤ) (canvas : List ℕ) (z : ℕ) → length canvas ≡ W * H → z < H
+  pub paint-rows-row : (n : ℕ) (y : ℤ) (canvas : List ℕ) (z : ℕ) → length canvas ≡ W * H → z < H
       → canvasRow W z (paintRows d W H item y n canvas) ≡ rowAfter y n z (canvasRow W z canvas)
   unfolding paintRows
   paint-rows-row zero y canvas z size low = rw (none-after y z)
@@ -118,29 +118,9 @@ module _ (d : Drawing) (item : d .Item) (W H : ℕ) where
       take-drop-length : (n : ℕ) (l : List ℕ) → length (take n l) + length (drop n l) ≡ length l
       take-drop-length n l = sym (length-append (take n l) (drop n l)) ∙ ap length (take-append-drop n l)
 
-  rows-down : (z : ℕ) → suc z * W ≡ W + z * W
-  rows-down z = omega arith
-
-  -- the row after the first of two parts
-  row-of-append : (z : ℕ) (row rest : List ℕ) → length row ≡ W → canvasRow W (suc z) (row ++ rest) ≡ canvasRow W z rest
-  unfolding canvasRow
-  row-of-append z row rest wide =
-      ap (take W)
-      (ap (λ (n : ℕ). drop n (row ++ rest)) (rows-down z)
-      ∙ sym (drop-drop (z * W) W (row ++ rest))
-      ∙ ap (drop (z * W)) (drop-at row rest W wide))
-
-  -- the first row, and a row after it, of a canvas
-  row-at-start : (canvas : List ℕ) → canvasRow W 0 canvas ≡ take W canvas
-  unfolding canvasRow
-  row-at-start canvas = ap (λ (n : ℕ). take W (drop n canvas)) (zero-mul W)
-
-  row-of-start : (row rest : List ℕ) → length row ≡ W → canvasRow W 0 (row ++ rest) ≡ row
-  row-of-start row rest wide = row-at-start (row ++ rest) ∙ take-at row rest W wide
-
   row-of-drop : (z : ℕ) (canvas : List ℕ) → canvasRow W z (drop W canvas) ≡ canvasRow W (suc z) canvas
   unfolding canvasRow
-  row-of-drop z canvas = ap (take W) (drop-drop (z * W) W canvas ∙ ap (λ (n : ℕ). drop n canvas) (sym (rows-down z)))
+  row-of-drop z canvas = ap (take W) (drop-drop (z * W) W canvas ∙ ap (λ (n : ℕ). drop n canvas) (sym (rows-down W z)))
 
   first-wide : (n y : ℕ) (canvas : List ℕ) → length canvas ≡ suc n * W → length (d .over item (pos y) (take W canvas)) ≡ W
   first-wide n y canvas size = d .over-length item (pos y) (take W canvas) ∙ length-take-le W canvas (omega (arith, size))
@@ -150,11 +130,11 @@ module _ (d : Drawing) (item : d .Item) (W H : ℕ) where
   unfolding overpaintRows
   overpaint-rows-row zero y canvas z size low = absurd (omega arith)
   overpaint-rows-row (suc n) y canvas zero size low =
-      row-of-start (d .over item (pos y) (take W canvas)) (overpaintRows d W item (suc y) n (drop W canvas)) (first-wide n y canvas size)
+      row-of-start W (d .over item (pos y) (take W canvas)) (overpaintRows d W item (suc y) n (drop W canvas)) (first-wide n y canvas size)
       ∙ ap (λ (k : ℕ). d .over item (pos k) (take W canvas)) (omega arith)
-      ∙ ap (d .over item (pos (y + zero))) (sym (row-at-start canvas))
+      ∙ ap (d .over item (pos (y + zero))) (sym (row-at-start W canvas))
   overpaint-rows-row (suc n) y canvas (suc z) size low =
-      row-of-append z (d .over item (pos y) (take W canvas)) (overpaintRows d W item (suc y) n (drop W canvas)) (first-wide n y canvas size)
+      row-of-append W z (d .over item (pos y) (take W canvas)) (overpaintRows d W item (suc y) n (drop W canvas)) (first-wide n y canvas size)
       ∙ overpaint-rows-row n (suc y) (drop W canvas) z (simp length-drop (omega (arith, size))) (omega arith)
       ∙ ap (λ (k : ℕ). d .over item (pos k) (canvasRow W z (drop W canvas))) (omega arith)
       ∙ ap (d .over item (pos (y + suc z))) (row-of-drop z canvas)

@@ -11,7 +11,7 @@ use Prim.Native.Nat.{ℕ, suc}
 use lib.Dec.{leb}
 use lib.IntN.{ℤ, pos, _+ℤ_}
 use lib.Signed.{leZ, ltZ}
-use lib.ListN.{length, take, set, getElem?}
+use lib.ListN.{length, take, drop, set, getElem?}
 use Rattle.refusal.specs.declared.Refusal.the-variants.{SheetFull, NoLayer, NoRowLeft, RowOwed}
 use Rattle.refusal.specs.declared.Checked.{Checked}
 use Rattle.refusal.specs.declared.Checked.the-variants.{Refused}
@@ -20,6 +20,11 @@ use Rattle.refusal.specs.Refusal.{refuseIf, orElse, keeping}
 -- The run a..b (document 01, first lines): from a up to but not including b.
 abbrev pub inRun : ℤ → ℤ → ℤ → Bool
 inRun a b y = leZ a y && ltZ y b
+
+-- A list without its element i: those before it, and those behind it, each of which moves down one number (document 02,
+-- "Five").
+abbrev pub without : {A : Type 0} → ℕ → List A → List A
+without i l = take i l ++ drop (suc i) l
 
 -- What the book has to know of figures and canvases. Every definition below takes it as its first argument.
 pub record Drawing : Type 1 where
@@ -37,11 +42,13 @@ pub record Drawing : Type 1 where
   pub maxLayers : ℕ
   pub maxSide : ℕ
 
--- The calls of demand 3, with their arguments other than sheets and buffers ("The book"): an item is added, or a row of
--- the layer with this number, counted from 0, is painted.
+-- The calls of demand 3, with their arguments other than the sheet and its canvas ("The book"; document 02, "Five"): an item
+-- is added; a row of the layer with this number, counted from 0, is painted; or the layer with this number is removed, with
+-- this background.
 pub data Call (A : Type 0) : Type 0 where
   add : A → Call A
   paint : ℕ → Call A
+  remove : ℕ → List ℕ → Call A
 
 -- A figure noted with its style, and its count ("The book").
 pub record Entry (A : Type 0) : Type 0 where
@@ -92,20 +99,24 @@ module _ (d : Drawing) where
   entryAnswer book i (some e) =
       orElse (refuseIf (noneLeft e) NoRowLeft) (refuseIf (someOwes (take i book) (firstLeft e)) RowOwed)
 
-  -- The book's answer to a call ("The book"). To an add call: the drawing's own refusal, else 9 by the figures noted.
+  -- The book's answer to a call ("The book"). To an add call: the drawing's own refusal, else 9 by the figures noted. To a
+  -- removal of layer i (document 02, "Five"): 10 if no more than i figures are noted.
   unfoldable pub bookAnswer : Book → Call (d .Item) → Checked
   bookAnswer book (add item) = orElse (d .refuse item) (refuseIf (leb (d .maxLayers) (length book)) SheetFull)
   bookAnswer book (paint i) = entryAnswer book i (getElem? book i)
+  bookAnswer book (remove i background) = refuseIf (leb (length book) i) NoLayer
 
   -- One more row of the entry at i is painted: its count grows by 1 ("The book").
   abbrev pub counted : Book → ℕ → Option (Entry (d .Item)) → Book
   counted book i none = book
   counted book i (some e) = set book i (record { item = e .item; count = suc (e .count) })
 
-  -- An accepted call in the book ("The book"): the item is noted at the end with count 0, or a row is counted.
+  -- An accepted call in the book ("The book"): the item is noted at the end with count 0, or a row is counted, or figure i
+  -- is struck out with its count, whether or not it has rows left (document 02, "Five").
   unfoldable pub noted : Book → Call (d .Item) → Book
   noted book (add item) = book ++ (record { item = item; count = 0 } ∷ [])
   noted book (paint i) = counted book i (getElem? book i)
+  noted book (remove i background) = without i book
 
   -- The book after a call ("The book"): a refused one leaves it as it is.
   unfoldable pub bookAfter : Book → Call (d .Item) → Book

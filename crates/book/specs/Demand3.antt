@@ -10,7 +10,7 @@ use lib.ListN.{length}
 use Rattle.refusal.specs.declared.Checked.the-variants.{Passed}
 use Rattle.book.specs.Each.{Each}
 use Rattle.book.specs.Canvas.{canvasRow}
-use Rattle.book.specs.Book.{Drawing, Call, paint, Entry, Book, firstLeft, isLeft, owes, bookAnswers}
+use Rattle.book.specs.Book.{Drawing, Call, add, paint, remove, Entry, Book, firstLeft, isLeft, owes, bookAnswers}
 use Rattle.book.specs.Book.{bookAfterAll, painters, overpainted}
 use Rattle.book.specs.Sheet.{Layer, State, WithinSide, Rules, answer, answers, afterAll, opened}
 
@@ -55,8 +55,15 @@ module _ (d : Drawing) where
     pub answered : answers d W H (opened d lent) calls ≡ bookAnswers d [] calls
     pub reached : AfterCalls W H lent (afterAll d W H (opened d lent) calls) (bookAfterAll d [] calls)
 
-  -- Demand 3: every W and H within limits, every canvas of that size with any bytes, every list of calls.
+  -- The background of a removal is the canvas as first lent; other calls have none (document 02, "Five").
+  abbrev pub OverLent : List ℕ → Call (d .Item) → Type 0
+  OverLent lent (add item) = Unit {0}
+  OverLent lent (paint i) = Unit {0}
+  OverLent lent (remove i background) = background ≡ lent
+
+  -- Demand 3: every W and H within limits, every canvas of that size with any bytes, every list of calls, each removal among
+  -- them with that canvas as first lent for its background.
   abbrev pub Demand3 : Type 0
   Demand3 =
       (W H : ℕ) → WithinSide d W → WithinSide d H → (lent : List ℕ) → length lent ≡ W * H → (calls : List (Call (d .Item)))
-      → Demand3Of W H lent calls
+      → Each (OverLent lent) calls → Demand3Of W H lent calls

@@ -17,8 +17,8 @@ use Rattle.refusal.specs.declared.Checked.{Checked}
 use Rattle.refusal.specs.declared.Checked.the-variants.{Passed, Refused}
 use Rattle.refusal.specs.Refusal.{refuseIf, orElse, keeping}
 use Rattle.book.specs.Each.{Each, EachTwo}
-use Rattle.book.specs.Canvas.{canvasRow, putRow}
-use Rattle.book.specs.Book.{Drawing, Call, add, paint, endRow, hasRow}
+use Rattle.book.specs.Canvas.{canvasRow, putRow, canvasOf}
+use Rattle.book.specs.Book.{inRun, without, Drawing, Call, add, paint, remove, endRow, hasRow, overpainted}
 
 -- A layer of a sheet ("The records"): a figure with its style, and its next row.
 pub record Layer (A : Type 0) : Type 0 where
@@ -125,7 +125,8 @@ module _ (d : Drawing) where
       (refuseIf (someLayerOwes (take i layers) (l .next)) RowOwed)
 
   -- The answer to a call on a sheet of W by H with its canvas ("The records", the table, lowest number first): an add call
-  -- gets 1, 2, 3 or 5 by its item, then 7, then 9; a paint call gets 7, then 8, then 10, 11 or 12.
+  -- gets 1, 2, 3 or 5 by its item, then 7, then 9; a paint call gets 7, then 8, then 10, 11 or 12; a removal gets 7, then 8 for
+  -- the canvas or the background, then 10 (document 02, "Five").
   unfoldable pub answer : ℕ → ℕ → State (d .Item) → Call (d .Item) → Checked
   answer W H s (add item) =
       orElse (d .refuse item)
@@ -135,6 +136,11 @@ module _ (d : Drawing) where
       orElse (refuseIf (not (keepsRules W H (s .layers))) SheetRule)
       (orElse (refuseIf (not (eqb (length (s .canvas)) (W * H))) CanvasLength)
       (layerAnswer (s .layers) i (getElem? (s .layers) i)))
+  answer W H s (remove i background) =
+      orElse (refuseIf (not (keepsRules W H (s .layers))) SheetRule)
+      (orElse (refuseIf (not (eqb (length (s .canvas)) (W * H))) CanvasLength)
+      (orElse (refuseIf (not (eqb (length background) (W * H))) CanvasLength)
+      (refuseIf (leb (length (s .layers)) i) NoLayer)))
 
   -- The styled row of an item at y written onto the canvas ("Sheet"): nothing where y is not a row of the canvas.
   abbrev pub paintRow : ℕ → ℕ → d .Item → ℤ → List ℕ → List ℕ
@@ -149,11 +155,39 @@ module _ (d : Drawing) where
         canvas = paintRow W H (l .item) (l .next) (s .canvas);
       }
 
-  -- An accepted call ("Sheet"): an added item goes on top, its next row its first.
+  -- A layer has painted y ("Sheet"): y is from its first row on, and above its next row.
+  unfoldable pub layerHasPainted : Layer (d .Item) → ℤ → Bool
+  layerHasPainted l y = inRun (d .first (l .item)) (l .next) y
+
+  -- The items of the layers that have painted y, in the order of adding (document 02, "Five").
+  unfoldable pub layerPainters : Layers → ℤ → List (d .Item)
+  layerPainters [] y = []
+  layerPainters (l ∷ rest) y = cond (layerHasPainted l y) (l .item ∷ layerPainters rest y) (layerPainters rest y)
+
+  -- Row y after a layer is removed (document 02, "Five"): a row that the layer had painted is the background's, overpainted by
+  -- the other layers that had painted it, the first added first; any other row stays.
+  unfoldable pub restoredRow : ℕ → Layer (d .Item) → Layers → List ℕ → List ℕ → ℕ → List ℕ
+  restoredRow W l others background canvas y =
+      cond (layerHasPainted l (pos y))
+      (overpainted d (layerPainters others (pos y)) (pos y) (canvasRow W y background))
+      (canvasRow W y canvas)
+
+  -- The canvas after a layer is removed, all H rows of it (document 02, "Five").
+  abbrev pub restored : ℕ → ℕ → Option (Layer (d .Item)) → Layers → List ℕ → List ℕ → List ℕ
+  restored W H none others background canvas = canvas
+  restored W H (some l) others background canvas = canvasOf (restoredRow W l others background canvas) H
+
+  -- An accepted call ("Sheet"): an added item goes on top, its next row its first; a removed layer is taken out, and the later
+  -- ones move down one number (document 02, "Five").
   unfoldable pub carriedOut : ℕ → ℕ → State (d .Item) → Call (d .Item) → State (d .Item)
   carriedOut W H s (add item) =
       record { layers = s .layers ++ (record { item = item; next = d .first item } ∷ []); canvas = s .canvas }
   carriedOut W H s (paint i) = paintedLayer W H s i (getElem? (s .layers) i)
+  carriedOut W H s (remove i background) =
+      record {
+        layers = without i (s .layers);
+        canvas = restored W H (getElem? (s .layers) i) (without i (s .layers)) background (s .canvas);
+      }
 
   -- Sheet and canvas after a call ("The records", below the table): a refused one changes neither.
   unfoldable pub after : ℕ → ℕ → State (d .Item) → Call (d .Item) → State (d .Item)
@@ -174,8 +208,8 @@ module _ (d : Drawing) where
   opened lent = record { layers = []; canvas = lent }
 
   -- A call on any sheet that keeps the rules leaves one that keeps them ("Sheet"), also on one that no calls have led to, and
-  -- whatever canvas comes with it: an add call does not look at the canvas, and a paint call gets 8 if that has another
-  -- length than W × H. That it holds is `rules-kept` (proofs/RulesKept.antt).
+  -- whatever canvas and background come with it: an add call does not look at the canvas, and a paint call or a removal gets 8
+  -- if one of them has another length than W × H. That it holds is `rules-kept` (proofs/RulesKept.antt).
   abbrev pub RulesKept : Type 0
   RulesKept =
       (W H : ℕ) (s : State (d .Item)) → Rules W H (s .layers) → (call : Call (d .Item))

@@ -1,20 +1,21 @@
 -- The record after a call is the sheet of `book`'s definitions after it: a layer put behind the first `count` places is one more
--- layer, and a layer put in place i of them is that layer of the sheet.
+-- layer, a layer put in place i of them is that layer of the sheet, and places moved down over place i leave that layer out.
 -- Assumes nothing.
 use mathlib.Core.Path.{_≡_, refl, sym, ap, ap₂, _∙_}
 use mathlib.Core.List.{List, [], _∷_, _++_, map, map-append}
-use Prim.Native.Nat.{ℕ, _+_, _≤_}
+use mathlib.Core.Option.{some}
+use Prim.Native.Nat.{ℕ, suc, _+_, _-_, _<_, _≤_}
 use native.Mathlib.Omega.{arith}
 use native.Mathlib.Numerals.{add-one}
-use lib.ListN.{length, take, set, getD, length-set}
+use lib.ListN.{length, take, set, getD, length-set, length-append}
 use lib.Seq.{take-suc-set, take-set-lt}
 use Rattle.refusal.specs.declared.Refusal.{Refusal}
 use Rattle.refusal.specs.declared.Checked.{Checked}
 use Rattle.refusal.specs.declared.Checked.the-variants.{Passed, Refused}
 use Rattle.refusal.specs.Refusal.{keeping}
-use Rattle.book.specs.Book.{Call, add, paint}
-use Rattle.book.specs.Sheet.{Layers, State, answer, carriedOut, after, paintRow}
-use Rattle.book.proofs.Lists.{set-map}
+use Rattle.book.specs.Book.{without, Call, add, paint, remove}
+use Rattle.book.specs.Sheet.{Layers, State, answer, carriedOut, after, paintRow, restored}
+use Rattle.book.proofs.Lists.{set-map, without-map, take-without, length-without}
 use Rattle.book.proofs.LowestNumber.{add-any-canvas, refused-changes-nothing, accepted-is-carried-out}
 use Rattle.drawing.specs.Drawing.{StyledFigure, styledFigure, drawing}
 use Rattle.sheet_layers.specs.declared.Layer.{Layer}
@@ -23,7 +24,7 @@ use Rattle.sheet.specs.declared.Sheet.{Sheet}
 use Rattle.sheet.specs.Sheet.{stateOf, sheetAnswer, addedLayer, paintedLayer, carriedOutSheet, sheetAfter, canvasAfter}
 use Rattle.sheet.specs.SheetDemand3.{AddTakesNoCanvas}
 use Rattle.sheet_checks.proofs.Places.{layers-are, layer-at, kept-few}
-use Rattle.sheet_checks.proofs.Answers.{added-room, PaintAccepted, painted-accepted}
+use Rattle.sheet_checks.proofs.Answers.{added-room, PaintAccepted, painted-accepted, RemoveAccepted, removed-accepted}
 
 module _ (s : Sheet) (sixteen : length (s .layers) ≡ 16) (canvas : List ℕ) where
   -- ---- refused: the record
@@ -94,6 +95,60 @@ module _ (s : Sheet) (sixteen : length (s .layers) ≡ 16) (canvas : List ℕ) w
         ap₂ (λ (l : Layers drawing) (bytes : List ℕ). record { layers = l; canvas = bytes }) painted-layers painted-canvas
         ∙ sym painted-carried-out
 
+  -- ---- removed
+  module _ (i : ℕ) (background : List ℕ) (e : sheetAnswer s canvas (remove i background) ≡ Passed) where
+    accepted : RemoveAccepted (s .width) (s .height) (s .count) (s .layers) sixteen i background canvas
+    accepted = removed-accepted (s .width) (s .height) (s .count) (s .layers) sixteen i background canvas e
+
+    at-most : s .count ≤ 16
+    at-most = kept-few (s .width) (s .height) (s .count) (s .layers) sixteen (accepted .rules)
+
+    pub removed-record : sheetAfter s canvas (remove i background) ≡ carriedOutSheet s (remove i background)
+    removed-record = rw e
+
+    abbrev moved : List Layer
+    moved = without i (s .layers) ++ (blankLayer ∷ [])
+
+    pub removed-places : length moved ≡ 16
+    removed-places =
+        let within = accepted .within in
+        length-append (without i (s .layers)) (blankLayer ∷ [])
+        ∙ omega (arith, at-most, length-without i (s .layers) (omega (arith, at-most)))
+
+    removed-layers : layersOf (s .count - 1) moved ≡ without i (layersOf (s .count) (s .layers))
+    removed-layers =
+        let within = accepted .within in
+        let whole : suc (s .count - 1) ≡ s .count = omega arith in
+        layers-are (s .count - 1) moved removed-places (omega (arith, at-most))
+        ∙ ap (map layerOf)
+        (take-without (s .count - 1) i (s .layers) (blankLayer ∷ []) (omega arith) (omega (arith, at-most))
+        ∙ ap (λ (n : ℕ). without i (take n (s .layers))) whole)
+        ∙ sym (without-map layerOf i (take (s .count) (s .layers)))
+        ∙ ap (without i) (sym (layers-are (s .count) (s .layers) sixteen at-most))
+
+    removed-carried-out : carriedOut drawing (s .width) (s .height) (stateOf s canvas) (remove i background)
+        ≡ record {
+          layers = without i (layersOf (s .count) (s .layers));
+          canvas = restored drawing (s .width) (s .height) (some (layerOf (getD (s .layers) i blankLayer)))
+              (without i (layersOf (s .count) (s .layers))) background canvas;
+        }
+    unfolding carriedOut
+    removed-carried-out = rw (layer-at (s .count) (s .layers) sixteen at-most i (accepted .within))
+
+    pub removed-canvas : canvasAfter s canvas (remove i background)
+        ≡ restored drawing (s .width) (s .height) (some (layerOf (getD (s .layers) i blankLayer)))
+        (without i (layersOf (s .count) (s .layers))) background canvas
+    removed-canvas =
+        ap (λ (t : State StyledFigure). t .canvas)
+        (accepted-is-carried-out drawing (s .width) (s .height) (stateOf s canvas) (remove i background) e ∙ removed-carried-out)
+
+    removed-state : stateOf (carriedOutSheet s (remove i background)) (canvasAfter s canvas (remove i background))
+        ≡ carriedOut drawing (s .width) (s .height) (stateOf s canvas) (remove i background)
+    unfolding carriedOutSheet
+    removed-state =
+        ap₂ (λ (l : Layers drawing) (bytes : List ℕ). record { layers = l; canvas = bytes }) removed-layers removed-canvas
+        ∙ sym removed-carried-out
+
   -- ---- refused: the canvas
   pub refused-canvas : (call : Call StyledFigure) (refusal : Refusal) → sheetAnswer s canvas call ≡ Refused refusal
       → canvasAfter s canvas call ≡ canvas
@@ -119,6 +174,10 @@ module _ (s : Sheet) (sixteen : length (s .layers) ≡ 16) (canvas : List ℕ) w
           ap (λ (t : Sheet). stateOf t (canvasAfter s canvas (paint i))) (painted-record i e)
           ∙ painted-state i e
           ∙ sym (accepted-is-carried-out drawing (s .width) (s .height) (stateOf s canvas) (paint i) e)
+      by-answer (remove i background) Passed e =
+          ap (λ (t : Sheet). stateOf t (canvasAfter s canvas (remove i background))) (removed-record i background e)
+          ∙ removed-state i background e
+          ∙ sym (accepted-is-carried-out drawing (s .width) (s .height) (stateOf s canvas) (remove i background) e)
 
   -- ---- A call leaves the size and the number of places.
   pub record SameFrame (r : Sheet) : Type 0 where
@@ -128,14 +187,17 @@ module _ (s : Sheet) (sixteen : length (s .layers) ≡ 16) (canvas : List ℕ) w
 
   pub same-frame-after : (call : Call StyledFigure) → SameFrame (sheetAfter s canvas call)
   unfolding carriedOutSheet
-  same-frame-after call = by-answer call (sheetAnswer s canvas call)
+  same-frame-after call = by-answer call (sheetAnswer s canvas call) refl
     where
-      by-answer : (call : Call StyledFigure) (a : Checked) → SameFrame (keeping a s (carriedOutSheet s call))
-      by-answer call (Refused refusal) = record { width = refl; height = refl; places = sixteen }
-      by-answer (add item) Passed =
+      by-answer : (call : Call StyledFigure) (a : Checked) → sheetAnswer s canvas call ≡ a
+          → SameFrame (keeping a s (carriedOutSheet s call))
+      by-answer call (Refused refusal) e = record { width = refl; height = refl; places = sixteen }
+      by-answer (add item) Passed e =
           record { width = refl; height = refl; places = length-set (s .layers) (s .count) (addedLayer item) ∙ sixteen }
-      by-answer (paint i) Passed =
+      by-answer (paint i) Passed e =
           record { width = refl; height = refl; places = length-set (s .layers) i (paintedLayer (getD (s .layers) i blankLayer)) ∙ sixteen }
+      by-answer (remove i background) Passed e =
+          record { width = refl; height = refl; places = removed-places i background e }
 
 -- ---- An add call takes no canvas.
 pub add-takes-no-canvas : (s : Sheet) (canvas : List ℕ) (item : StyledFigure) → AddTakesNoCanvas s canvas item

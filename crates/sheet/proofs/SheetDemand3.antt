@@ -52,8 +52,8 @@ calls-made (call ∷ calls) s sixteen canvas =
 
 -- ---- from a sheet just opened
 pub sheet-demand3 : SheetDemand3
-sheet-demand3 W H width height lent size calls =
-    let demand = demand3 drawing W H width height lent size calls in
+sheet-demand3 W H width height lent size calls over =
+    let demand = demand3 drawing W H width height lent size calls over in
     let made = calls-made calls (openedSheet W H) refl lent in
     let state : State StyledFigure = stateOf (sheetReached W H lent calls) (canvasReached W H lent calls) in
     record {

@@ -1,8 +1,8 @@
 -- Document 01, 'Sheet', of a sheet record: what the calls answer, and the record and the canvas after them. The answer is that of
 -- `book`'s definitions over the drawing of figures with their styles (specs/Sheet.antt of `book`).
 -- Assumes nothing.
-use mathlib.Core.List.{List}
-use Prim.Native.Nat.{ℕ, _+_}
+use mathlib.Core.List.{List, [], _∷_, _++_}
+use Prim.Native.Nat.{ℕ, _+_, _-_}
 use lib.IntN.{pos, _+ℤ_}
 use lib.ListN.{set, getD, replicate}
 use Rattle.refusal.specs.declared.Checked.{Checked}
@@ -10,7 +10,7 @@ use Rattle.refusal.specs.declared.Checked.the-variants.{Passed, Refused}
 use Rattle.refusal.specs.Refusal.{keeping}
 use Rattle.geometry.specs.Limits.{maxLayers}
 use Rattle.canvas_size.specs.CanvasSize.{canvasSizeCheck}
-use Rattle.book.specs.Book.{Call, add, paint}
+use Rattle.book.specs.Book.{without, Call, add, paint, remove}
 use Rattle.book.specs.Sheet.{State, answer, after}
 use Rattle.drawing.specs.Drawing.{StyledFigure, drawing}
 use Rattle.drawing.specs.Rows.{strokeRows}
@@ -37,10 +37,10 @@ openAnswer W H = canvasSizeCheck W H
 abbrev pub openedSheet : ℕ → ℕ → Sheet
 openedSheet W H = record { width = W; height = H; count = 0; layers = replicate maxLayers blankLayer }
 
--- ---- Adding and painting.
+-- ---- Adding, painting and removing.
 
 -- the answer to a call on any sheet record ('The records', the table): 1, 2, 3, 5, 7, 9 to an add call, whatever the canvas;
--- 7, 8, 10, 11, 12 to a paint call
+-- 7, 8, 10, 11, 12 to a paint call; 7, 8, 10 to a removal (document 02, 'Five')
 abbrev pub sheetAnswer : Sheet → List ℕ → Call StyledFigure → Checked
 sheetAnswer s canvas call = answer drawing (s .width) (s .height) (stateOf s canvas) call
 
@@ -59,10 +59,18 @@ abbrev pub paintedLayer : Layer → Layer
 paintedLayer l = record { figure = l .figure; style = l .style; «next_row» = l .«next_row» +ℤ pos 1 }
 
 -- the record after an accepted call ('Sheet'): a layer more, in the first place that was unused; or the layer painted. All
--- other places stay as they were
+-- other places stay as they were. Or a layer less: each place behind it moves down one number, and the last is left blank
+-- (document 02, 'Five')
 unfoldable pub carriedOutSheet : Sheet → Call StyledFigure → Sheet
 carriedOutSheet s (add item) = withLayer s (s .count + 1) (s .count) (addedLayer item)
 carriedOutSheet s (paint i) = withLayer s (s .count) i (paintedLayer (getD (s .layers) i blankLayer))
+carriedOutSheet s (remove i background) =
+    record {
+      width = s .width;
+      height = s .height;
+      count = s .count - 1;
+      layers = without i (s .layers) ++ (blankLayer ∷ []);
+    }
 
 -- the record after a call: after a refused one as given ('The records', below the table)
 abbrev pub sheetAfter : Sheet → List ℕ → Call StyledFigure → Sheet

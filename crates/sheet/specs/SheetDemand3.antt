@@ -1,7 +1,7 @@
 -- Demand 3 (document 00) of a sheet record, as one statement over lists of `Sheet`'s own calls: each call gets the record
--- that the last one handed back, and each paint call the one canvas. The numbers in figures, styles and calls are any. The
--- definitions are those by which `Sheet::open`, `Sheet::add` and `Sheet::paint` make their promises (specs/Sheet.antt). That
--- it holds is `sheet-demand3` (proofs/SheetDemand3.antt).
+-- that the last one handed back, and each paint call and removal the one canvas. The numbers in figures, styles and calls are
+-- any. The definitions are those by which `Sheet::open`, `Sheet::add`, `Sheet::paint` and `Sheet::remove` make their promises
+-- (specs/Sheet.antt). That it holds is `sheet-demand3` (proofs/SheetDemand3.antt).
 -- Assumes nothing.
 use mathlib.Core.Path.{_≡_}
 use mathlib.Core.List.{List, [], _∷_}
@@ -12,15 +12,16 @@ use Rattle.refusal.specs.declared.Checked.{Checked}
 use Rattle.refusal.specs.declared.Checked.the-variants.{Passed}
 use Rattle.book.specs.Book.{Call, add, bookAnswers, bookAfterAll}
 use Rattle.book.specs.Sheet.{WithinSide, Rules, answer}
-use Rattle.book.specs.Demand3.{AfterCalls}
+use Rattle.book.specs.Each.{Each}
+use Rattle.book.specs.Demand3.{AfterCalls, OverLent}
 use Rattle.drawing.specs.Drawing.{StyledFigure, drawing}
 use Rattle.sheet_layers.specs.Layers.{layersOf}
 use Rattle.sheet.specs.declared.Sheet.{Sheet}
 use Rattle.sheet.specs.Sheet.{stateOf, openAnswer, openedSheet, sheetAnswer, sheetAfter, canvasAfter}
 
--- ---- Lists of calls. Each step is what the call's method promises. `Sheet::paint` is lent the canvas, and promises
--- `sheetAnswer`, `sheetAfter` and `canvasAfter` of it, which is the step itself. `Sheet::add` is lent none, and promises the
--- first two of an empty one: by `AddTakesNoCanvas` below, that is the step with any canvas.
+-- ---- Lists of calls. Each step is what the call's method promises. `Sheet::paint` and `Sheet::remove` are lent the canvas, and
+-- promise `sheetAnswer`, `sheetAfter` and `canvasAfter` of it, which is the step itself. `Sheet::add` is lent none, and promises
+-- the first two of an empty one: by `AddTakesNoCanvas` below, that is the step with any canvas.
 
 -- the answers to a list of calls on a record with a canvas (demand 3)
 unfoldable pub sheetAnswers : Sheet → List ℕ → List (Call StyledFigure) → List Checked
@@ -73,11 +74,12 @@ pub record SheetDemand3Of (W H : ℕ) (lent : List ℕ) (calls : List (Call Styl
       → sheetAnswer (sheetReached W H lent calls) (canvasReached W H lent calls) call
       ≡ answer drawing W H (stateOf (sheetReached W H lent calls) (canvasReached W H lent calls)) call
 
--- Demand 3: every W and H within limits, every canvas of that size with any bytes, every list of calls.
+-- Demand 3: every W and H within limits, every canvas of that size with any bytes, every list of calls, each removal among them
+-- with that canvas as first lent for its background.
 abbrev pub SheetDemand3 : Type 0
 SheetDemand3 =
     (W H : ℕ) → WithinSide drawing W → WithinSide drawing H → (lent : List ℕ) → length lent ≡ W * H
-    → (calls : List (Call StyledFigure)) → SheetDemand3Of W H lent calls
+    → (calls : List (Call StyledFigure)) → Each (OverLent drawing lent) calls → SheetDemand3Of W H lent calls
 
 -- ---- The rules of any record.
 
@@ -86,7 +88,7 @@ abbrev pub KeepsRules : Sheet → Type 0
 KeepsRules s = Rules drawing (s .width) (s .height) (layersOf (s .count) (s .layers))
 
 -- Every list of calls on a record that keeps the rules leaves one that keeps them ('Sheet'), also on one that no calls have
--- led to, and with any canvas. A record has 16 places, whatever number of layers it says. That it holds is
+-- led to, and with any canvas and any background. A record has 16 places, whatever number of layers it says. That it holds is
 -- `sheet-rules-kept` (proofs/SheetDemand3.antt).
 abbrev pub SheetRulesKept : Type 0
 SheetRulesKept =

@@ -20,7 +20,7 @@ use Rattle.refusal.specs.Refusal.{orElse, refuseIf}
 use Rattle.refusal.proofs.Checks.{refused-apart, passed-first, passed-next, passed-condition}
 use Rattle.canvas_size.specs.CanvasSize.{canvasLengthCheck}
 use Rattle.canvas_size.proofs.Sides.{canvas-length-passed}
-use Rattle.book.specs.Book.{add, paint}
+use Rattle.book.specs.Book.{add, paint, remove}
 use Rattle.book.specs.Sheet.{keepsRules, layerAnswer, answer}
 use Rattle.book.proofs.Lists.{take-map}
 use Rattle.book.proofs.LowestNumber.{paint-refused-broken-sheet, paint-answer-on-sheet}
@@ -31,6 +31,7 @@ use Rattle.sheet_layers.specs.LayerRows.{someRowsOwe}
 use Rattle.sheet_layers.specs.Layers.{blankLayer, layersOf, stateOf, layerRows}
 use Rattle.sheet_layers.proofs.RowTests.{noRows}
 use Rattle.sheet_layers.proofs.LayerRules.{owe-by-rows}
+use Rattle.sheet_checks.specs.Asked.{removeCheck}
 use Rattle.sheet_checks.proofs.Places.{layers-many, layer-at, layer-past, layers-before, kept-few}
 
 module _ (W H count : ℕ) (places : List Layer) (sixteen : length places ≡ 16) where
@@ -155,6 +156,51 @@ module _ (W H count : ℕ) (places : List Layer) (sixteen : length places ≡ 16
             let lacking = layer-past count places sixteen (few rules) i (leb-true count i past) in
             absurd (refused-apart (sym (ap (layerAnswer drawing (layersOf count places) i) lacking) ∙ e))
         by-place rules false past e = leb-false count i past
+
+  -- ---- a removal
+  module _ (i : ℕ) (background canvas : List ℕ) where
+    abbrev removed : Checked
+    removed = answer drawing W H (stateOf count places canvas) (remove i background)
+
+    -- the check made by the record's own count is the answer
+    pub remove-check-is : removeCheck kept W H (length canvas) (length background) count i ≡ removed
+    unfolding answer removeCheck canvasLengthCheck
+    remove-check-is = by-rules kept refl
+      where
+        rest : ℕ → Checked
+        rest n =
+            orElse (refuseIf (not (eqb (length canvas) (W * H))) CanvasLength)
+            (orElse (refuseIf (not (eqb (length background) (W * H))) CanvasLength) (refuseIf (leb n i) NoLayer))
+
+        by-rules : (t : Bool) → kept ≡ t
+            → orElse (refuseIf (not t) SheetRule) (rest count)
+            ≡ orElse (refuseIf (not t) SheetRule) (rest (length (layersOf count places)))
+        by-rules true rules = ap rest (sym (layers-many count places sixteen (kept-few W H count places sixteen rules)))
+        by-rules false broken = refl
+
+    -- accepted, the sheet keeps its rules, both buffers have its length, and there is such a layer
+    pub record RemoveAccepted : Type 0 where
+      pub rules : kept ≡ true
+      pub size : length canvas ≡ W * H
+      pub long : length background ≡ W * H
+      pub within : i < count
+
+    pub removed-accepted : removed ≡ Passed → RemoveAccepted
+    unfolding removeCheck
+    removed-accepted e =
+        let ten = refuseIf (leb count i) NoLayer in
+        let eight = canvasLengthCheck W H (length background) in
+        let first = canvasLengthCheck W H (length canvas) in
+        let seven = refuseIf (not kept) SheetRule in
+        let all = remove-check-is ∙ e in
+        let rest = passed-next seven (orElse first (orElse eight ten)) all in
+        let last = passed-next first (orElse eight ten) rest in
+        record {
+          rules = not-false kept (passed-condition (not kept) SheetRule (passed-first seven (orElse first (orElse eight ten)) all));
+          size = canvas-length-passed W H (length canvas) (passed-first first (orElse eight ten) rest);
+          long = canvas-length-passed W H (length background) (passed-first eight ten last);
+          within = leb-false count i (passed-condition (leb count i) NoLayer (passed-next eight ten last));
+        }
 
 -- ---- rows that were found for the first n places
 module _ (n i : ℕ) (within : i < n) (rows : List LayerRows) (layers : List Layer)

@@ -15,7 +15,7 @@ ghost use Rattle.book.specs.Book.{add as Call·add, paint as Call·paint};
 ghost use Rattle.book.specs.Sheet.{keepsRules, answer};
 ghost use Rattle.drawing.specs.Drawing.{StyledFigure, drawing};
 ghost use Rattle.sheet_layers.specs.Layers.{layersOf, stateOf, layerRows};
-ghost use Rattle.sheet_checks.specs.Asked.{askedAnswer, askedRefusal, NextRow};
+ghost use Rattle.sheet_checks.specs.Asked.{askedAnswer, askedRefusal, NextRow, removeCheck};
 
 // The largest number of layers, also `Sheet::MAX_LAYERS`.
 pub const MAX_LAYERS: u32 = Layer::PLACES as u32;
@@ -39,7 +39,7 @@ impl Asked {
 }
 
 // Tests all rules of a sheet: its size, the number of its layers, and the layers.
-fn test_rules(size: CanvasSize, count: u32, places: [Layer; Layer::PLACES]) -> RulesTested
+pub fn test_rules(size: CanvasSize, count: u32, places: [Layer; Layer::PLACES]) -> RulesTested
     ensures { λ r. ⌜ r .kept ≡ keepsRules drawing (size .width) (size .height) (layersOf count places) ⌝ }
     ensures { λ r. ⌜ (r .kept ≡ true → take count (r .rows) ≡ map layerRows (take count places)) ⌝ }
 {
@@ -102,4 +102,29 @@ pub fn asked_row(
         return Asked::Refused(Refusal::RowOwed);
     }
     Asked::Row(next)
+}
+
+// Refusals 7, 8 and 10 of a removal, by whether the rules are kept, where the canvas and the background
+// are so many bytes long.
+pub fn check_remove(
+    kept: bool,
+    size: CanvasSize,
+    count: u32,
+    layer: u32,
+    bytes: usize,
+    background: usize,
+) -> Checked
+    ensures { λ r. ⌜ r ≡ removeCheck kept (size .width) (size .height) bytes background count layer ⌝ }
+{
+    if !kept {
+        return Checked::Refused(Refusal::SheetRule);
+    }
+    let lent = size.check_length(bytes).or_else(size.check_length(background));
+    let Checked::Passed = lent else {
+        return lent;
+    };
+    if count <= layer {
+        return Checked::Refused(Refusal::NoLayer);
+    }
+    Checked::Passed
 }
