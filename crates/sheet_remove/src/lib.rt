@@ -112,7 +112,7 @@ pub fn restore(
         (Book·without place (map layerOf (take count layers))) (now (background .entry)) (now (canvas .entry)) ⌝ }
 {
     let own = rows[place];
-    let from = signed::floor0(own.first);
+    let from = signed::least(size.height, signed::floor0(own.first));
     let to = signed::least(size.height, signed::floor0(own.next));
     let width = size.width as usize;
     copy_bytes(canvas, background, width * (from as usize), width * (to as usize));
