@@ -115,7 +115,12 @@ pub fn restore(
     let from = signed::least(size.height, signed::floor0(own.first));
     let to = signed::least(size.height, signed::floor0(own.next));
     let width = size.width as usize;
-    copy_bytes(canvas, background, width * (from as usize), width * (to as usize));
+    copy_bytes(
+        canvas,
+        background,
+        width * (from as usize),
+        width * (to as usize),
+    );
     lay_over(canvas, size, layers, rows, 0, place, from, to);
     lay_over(canvas, size, layers, rows, place + 1, count, from, to);
 }
