@@ -977,11 +977,17 @@ impl Script {
         Some(self.note(call))
     }
 
-    /// One of the layers that can be removed, if there is one.
-    pub fn any_layer(&self, rng: &mut Rng) -> Option<usize> {
-        let noted = self.page.book.figures().count() as i64;
-        let fits = self.background.len() == self.lent.len();
-        (fits && noted > 0).then(|| rng.within(0, noted - 1) as usize)
+    /// How many layers can be removed.
+    pub fn removable(&self) -> usize {
+        match self.background.len() == self.lent.len() {
+            true => self.page.book.figures().count(),
+            false => 0,
+        }
+    }
+
+    /// One of them.
+    pub fn any_layer(&self, rng: &mut Rng) -> usize {
+        rng.within(0, self.removable() as i64 - 1) as usize
     }
 
     pub fn lent(&self) -> Lent<'_> {
@@ -1273,7 +1279,8 @@ fn removing_scripts(r: &mut Report, rng: &mut Rng, count: u64) {
     scripts(r, count, |n| rng.removing_script(n));
     for n in 0..count {
         let mut script = rng.removing_script(n);
-        while let Some(i) = script.any_layer(rng) {
+        for _ in 0..script.removable() {
+            let i = script.any_layer(rng);
             r.removals.note(script.w, script.h, &script.page.book.layers(), i);
             script.note(Call::Remove(i));
         }

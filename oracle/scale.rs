@@ -163,7 +163,8 @@ impl Held {
                 assert_eq!(answer, 0, "oracle: the earliest figure with rows left is refused");
             }
         }
-        while let Some(layer) = script.any_layer(rng) {
+        for _ in 0..script.removable() {
+            let layer = script.any_layer(rng);
             script.note(Call::Remove(layer));
             self.calls(&script, &mut done, &mut sheet, &mut canvas);
         }
