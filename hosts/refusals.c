@@ -32,9 +32,10 @@ enum change {
     AS_IS, UNEVEN_BOX, BORDERED, OBLONG, NINE_BY_TWO, CORNERS, KIND, X, WIDTH, RADIUS, FIGURE_LENGTH, STROKE, FILL,
     STROKE_WIDTH, ALIGNMENT, STYLE_LENGTH, ASKED, CENTER_X, CENTER_WIDTH, CANVAS_WIDTH, CANVAS_LENGTH, LIST_LENGTH,
     FILE_LENGTH, OUT_LENGTH, ANSWERS_LENGTH, SHEET_COUNT, SHEET_NEXT_ROW, SHEET_LAYER_KIND, SHEET_LENGTH,
-    SHEET_LAYER_X, SHEET_LAYER_Y, LAYER, THIRD_LAYER, CALL_KIND, CALL_LAYER, CALLS_LENGTH, BACKGROUND_LENGTH, REMOVAL,
-    REMOVAL_BETWEEN, PICTURE, BOTH_LENGTHS, SHEET_LENGTH_WITHOUT_BUFFERS, SHEET_COUNT_WITHOUT_BUFFERS,
-    LAYER_WITHOUT_BACKGROUND, CANVAS_LENGTH_WITHOUT_OUT, CANVAS_LENGTH_CUT_OFF, OUT_LENGTH_CUT_OFF
+    SHEET_LAYER_X, SHEET_LAYER_Y, SHEET_LAYER_HEIGHT, LAYER, THIRD_LAYER, CALL_KIND, CALL_LAYER, CALLS_LENGTH,
+    BACKGROUND_LENGTH, REMOVAL, REMOVAL_BETWEEN, PICTURE, BOTH_LENGTHS, SHEET_LENGTH_WITHOUT_BUFFERS,
+    SHEET_COUNT_WITHOUT_BUFFERS, LAYER_WITHOUT_BACKGROUND, CANVAS_LENGTH_WITHOUT_OUT, CANVAS_LENGTH_CUT_OFF,
+    OUT_LENGTH_CUT_OFF
 };
 
 /* The boxes with other radii, by what is of note in them: radii that touch and fit, so that none is reduced; no
@@ -224,6 +225,7 @@ static const check checks[] = {
     {SHEET_REMOVE, SHEET_LAYER_X, 4, 0},
     {SHEET_REMOVE, SHEET_LAYER_Y, -4, 0},
     {SHEET_REMOVE, SHEET_LAYER_Y, 4, 0},
+    {SHEET_REMOVE, SHEET_LAYER_HEIGHT, 0, 0},
     {SHEET_REMOVE, SHEET_COUNT, 17, 7},
     {SHEET_REMOVE, SHEET_COUNT, -1, 7},
     {SHEET_REMOVE, SHEET_NEXT_ROW, -1, 7},
@@ -503,6 +505,10 @@ static void change(const check *c, arguments *a, buffers *b)
     case SHEET_LAYER_Y:
         b->sheet.layers[0].figure.y = value;
         b->sheet.layers[0].next_row = value + 3;
+        break;
+    case SHEET_LAYER_HEIGHT:
+        b->sheet.layers[0].figure.height = value;
+        b->sheet.layers[0].next_row = 0;
         break;
     case LAYER: a->layer = (uint32_t)value; break;
     case THIRD_LAYER:
@@ -832,8 +838,8 @@ static void written_radii(const check *c, buffers *b)
 
 /* The sheet without a layer, and its canvas: on the rows that the layer had painted the background, and over it what
  * the other ovals had painted there, the first in 9 on three rows, the second with a border of 40 on two, the third, if
- * there is one, in 9. Where the first lies beside the canvas its rows are copied all the same, and where it lies above
- * or below it none is. */
+ * there is one, in 9. Where the first lies beside the canvas its rows are copied all the same; where it lies above or
+ * below it, or has no row, none is. */
 static void written_without(const check *c, buffers *b)
 {
     static const uint8_t plain[] = {100, 9, 9, 103, 9, 9, 9, 9};
@@ -843,7 +849,7 @@ static void written_without(const check *c, buffers *b)
 
     if (layer == 1 || (three && layer == 0))
         memcpy(b->canvas, plain, sizeof plain);
-    else if (c->change != SHEET_LAYER_Y)
+    else if (c->change != SHEET_LAYER_Y && c->change != SHEET_LAYER_HEIGHT)
         memcpy(b->canvas, border, (size_t)rows * 4);
     memmove(&b->sheet.layers[layer], &b->sheet.layers[layer + 1], (15 - (size_t)layer) * sizeof b->sheet.layers[0]);
     memset(&b->sheet.layers[15], 0, sizeof b->sheet.layers[15]);

@@ -103,7 +103,7 @@ const REMOVALS: [&str; 17] = [
     "a later layer waits for it",
 ];
 
-/// And the lists that removals stand in, by their background: that of the first was taken from the canvas as first lent.
+/// And the lists in which layers are removed, by their background, or by what a removal was answered.
 const REMOVING_LISTS: [&str; 5] = [
     "lists over the canvas as first lent",
     "lists over another background",
@@ -164,8 +164,8 @@ fn removal(w: i64, h: i64, layers: &[(Figure, Style, i64)], i: usize) -> [bool; 
     let meets = |a: i64, b: i64| seen.start.max(a) < seen.end.min(b);
     let has_painted = |j: usize| meets(areas[j].rows().start, layers[j].2);
     let earlier = (0..i).any(has_painted);
-    let later = (i + 1..layers.len()).any(has_painted);
-    let mut behind = i + 1..layers.len();
+    let behind = || i + 1..layers.len();
+    let later = behind().any(has_painted);
     [
         layers.len() == 1,
         layers.len() > 1 && i == 0,
@@ -182,8 +182,8 @@ fn removal(w: i64, h: i64, layers: &[(Figure, Style, i64)], i: usize) -> [bool; 
         later && !earlier,
         earlier && later,
         !seen.is_empty() && !earlier && !later,
-        behind.any(|j| meets(layers[j].2, areas[j].rows().end)),
-        (i + 1..layers.len()).any(|j| {
+        behind().any(|j| meets(layers[j].2, areas[j].rows().end)),
+        behind().any(|j| {
             let waits_at = layers[j].2;
             areas[j].rows().contains(&waits_at) && next <= waits_at && rows.contains(&waits_at)
         }),

@@ -265,7 +265,7 @@ impl Held {
 }
 
 /// How many lists with removals are made before the random rounds.
-const REMOVING_LISTS: u64 = 2000;
+const LISTS_WITH_REMOVALS: u64 = 2000;
 
 /// How many random rounds are made at least.
 const LEAST_ROUNDS: u64 = 20;
@@ -715,7 +715,7 @@ pub fn run(seed: u64, effort: u64, seconds: u64) {
     part("every sheet of three small boxes, each layer removed", &mut small_sheets);
     part("lists with removals", &mut |r| {
         let mut rng = Rng(seed).apart();
-        for n in 0..REMOVING_LISTS {
+        for n in 0..LISTS_WITH_REMOVALS {
             let script = rng.removing_script(n);
             r.removing_script(script, &mut rng);
         }
