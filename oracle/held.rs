@@ -2,7 +2,7 @@
 //! answer, on any numbers: 100, 101 and the lowest refusal by the header and the reference; values by the
 //! ORIGINAL where it finishes, else by the reference, which also has what the original lacks (W3C boxes, L and S of
 //! confined radii, sheets, lists of calls, files). Answers, values and every number and byte of every buffer are
-//! compared, with some right behind the part that is lent for values, and for files before it too; after a refusal none
+//! compared, with some right behind the part that is lent for values, and for files and removals before it too; after a refusal none
 //! may differ. The first difference is printed whole, with the call as a line that `replay` reads, and ends the program
 //! with status 1.
 
