@@ -2,7 +2,8 @@
  *
  * Link target/staticlib/libwunqaber.a, which `rt staticlib wunqaber` proves and builds. What each call
  * promises stands in crates/wunqaber: for every list of numbers and every length, an equation for the
- * answer and for each buffer lent (for wunqaber_run_calls, that answers and canvas are those of a plain book).
+ * answer and for each buffer lent (for wunqaber_run_calls, that answers and canvas are those of the sheet calls made one
+ * after the other, and those of a plain book where removals have the canvas as lent for their background).
  *
  * Each call stands here twice. The library's own take numbers: int32_t in and out, records as runs of them in
  * the order of the structs below. The typed forms at the end take the structs themselves, and are what a host
