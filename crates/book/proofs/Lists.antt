@@ -58,7 +58,7 @@ module _ {A B : Type 0} (f : A → B) where
   set-map (x ∷ l) zero a = refl
   set-map (x ∷ l) (suc i) a = ap {B = List B} (λ t. f x ∷ t) (set-map l i a)
 
-  drop-map : (i : ℕ) (l : List A) → drop i (map f l) ≡ map f (drop i l)
+  pub drop-map : (i : ℕ) (l : List A) → drop i (map f l) ≡ map f (drop i l)
   drop-map zero l = refl
   drop-map (suc i) [] = refl
   drop-map (suc i) (x ∷ l) = drop-map i l

@@ -11,7 +11,7 @@ use sheet_layers::Layer;
 use style::Style;
 ghost use mathlib.Core.Path.{_≡_};
 ghost use mathlib.Core.List.{[]};
-ghost use Rattle.book.specs.Book.{add as Call·add, paint as Call·paint};
+ghost use Rattle.book.specs.Book.{add as Call·add, paint as Call·paint, remove as Call·remove};
 ghost use Rattle.drawing.specs.Drawing.{styledFigure};
 ghost use Rattle.sheet.specs.Sheet.{said, openAnswer, openedSheet, sheetAnswer, sheetAfter, canvasAfter};
 
@@ -131,6 +131,57 @@ impl Sheet {
         };
         SheetOutcome {
             sheet: sheet,
+            answer: SheetAnswer::Accepted,
+        }
+    }
+
+    // Takes a layer out, counted from 0; later layers move down one number. Canvas rows that it had
+    // painted become the background's, overpainted by the other layers that had painted them (refusals
+    // 7, 8 for either buffer, and 10).
+    pub fn remove(self, layer: u32, canvas: &mut [u8], background: &[u8]) -> SheetOutcome
+        ensures { λ r. ⌜ said (r .answer) ≡ sheetAnswer self (now (canvas .entry)) (Call·remove layer (now (background .entry))) ⌝ }
+        ensures { λ r. ⌜ r .sheet ≡ sheetAfter self (now (canvas .entry)) (Call·remove layer (now (background .entry))) ⌝ }
+        ensures { λ r. ⌜ now (canvas .exit) ≡ canvasAfter self (now (canvas .entry)) (Call·remove layer (now (background .entry))) ⌝ }
+    {
+        let size = CanvasSize {
+            width: self.width,
+            height: self.height,
+        };
+        let places = self.layers;
+        let count = self.count;
+        let tested = sheet_checks::test_rules(size, count, places);
+        let checked = sheet_checks::check_remove(
+            tested.kept,
+            size,
+            count,
+            layer,
+            canvas.len(),
+            background.len(),
+        );
+        let Checked::Passed = checked else {
+            return SheetOutcome {
+                sheet: self,
+                answer: SheetAnswer::Refused(checked.refusal()),
+            };
+        };
+        let place = layer as usize;
+        let rows = tested.rows;
+        sheet_remove::restore(
+            canvas,
+            background,
+            size,
+            places,
+            rows,
+            count as usize,
+            place,
+        );
+        SheetOutcome {
+            sheet: Sheet {
+                width: self.width,
+                height: self.height,
+                count: count - 1,
+                layers: sheet_remove::without(places, place),
+            },
             answer: SheetAnswer::Accepted,
         }
     }

@@ -139,6 +139,9 @@ module _ (W H count : ℕ) (places : List Layer) where
     pub kept-width : kept ≡ true → W ≤ maxCanvasSide
     kept-width e = test-rules drawing W H (layersOf count places) e .width .1
 
+    pub kept-height : kept ≡ true → H ≤ maxCanvasSide
+    kept-height e = test-rules drawing W H (layersOf count places) e .height .1
+
 -- a record has 16 places: what owning one tells of them
 pub sixteen-places : (places : List Layer) → length (map (the-field .into) places) ≡ 16 → length places ≡ 16
 sixteen-places places e = sym (length-map places (the-field .into)) ∙ e

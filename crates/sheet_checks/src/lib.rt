@@ -119,7 +119,8 @@ pub fn check_remove(
     if !kept {
         return Checked::Refused(Refusal::SheetRule);
     }
-    let lent = size.check_length(bytes).or_else(size.check_length(background));
+    let lent = size.check_length(bytes)
+        .or_else(size.check_length(background));
     let Checked::Passed = lent else {
         return lent;
     };
