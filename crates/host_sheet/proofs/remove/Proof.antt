@@ -89,6 +89,17 @@ place c =
     let within = removed-within (a .sheet .now) (a .layer) (a .canvas .now) (a .background .now) (is-accepted c) in
     omega (arith, few c)
 
+-- the counts before and after it are small
+small-counts : (c : tie.After-enum-told)
+    → (c .before .before .before .before .before .before .sheet-of .result .count ≤ maxLayers)
+    × (c .before .before .before .before .remove .result .sheet .count ≤ maxLayers)
+unfolding carriedOutSheet
+small-counts c =
+    let at-most = few c in
+    let before = ap (λ (s : Sheet). s .count) (c .before .before .before .before .before .before .sheet-of .ensures) in
+    let left = ap (λ (s : Sheet). s .count) (carried c) in
+    (omega arith, omega arith)
+
 -- the numbers have a sheet's length
 long : (c : tie.After-enum-told) → length (start-told c .args .sheet .now) ≡ sheetLength
 long c = sheet-length (start-told c .args .sheet .now) (is-one (c .before .before .before .before .before .before .before .before))
@@ -140,11 +151,8 @@ remove-place-requires : tie.Need-remove-place-requires
 remove-place-requires c κs = (long (c .before .before), place (c .before .before))
 
 from-u32-requires : tie.Need-from-u32-requires
-unfolding carriedOutSheet
 from-u32-requires c κs =
-    let told = c .before .before .before .before in
-    let at-most = few told in
-    let same = ap (λ (s : Sheet). s .count) (carried told) in
+    let small = small-counts (c .before .before .before .before) in
     omega arith
 
 slice-set-from-sheet : tie.Need-slice-set-from-sheet
