@@ -15,7 +15,8 @@ ROOT = os.path.join(os.path.dirname(os.path.abspath(__file__)), '..')
 # Laws that no proof needs: each says to a reader that a definition means what it should.
 FOR_READERS = {
     'checked-drawings', 'own-drawings',  # the checked drawings of the scope, and our own
-    'sheet-rules-kept', 'host-demand3', 'sheet-comes-to-the-same',  # README, 'What is proved'
+    'host-demand3', 'sheet-comes-to-the-same',  # README, 'What is proved'
+    'over-lent-same', 'over-lent-no-removal',  # of which lists of `run_calls` demand 3 speaks
     'add-told-seven', 'paint-told-seven',  # docs/ARCHITECTURE.md, 'Where the demands are stated'
     'answers-on-rows',  # the test of a row answers as the paper's test
     'area-is-offset',  # an area has the rows of the figure that an offset call gives

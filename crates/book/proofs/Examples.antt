@@ -1,5 +1,5 @@
 -- The definitions, computed: the table's examples of the numbers 7 to 12, sheets within the rules and not, a short list of
--- calls with its picture. The drawing is one of plain bars, which overpaint whole canvas rows in one colour.
+-- calls with its picture, and removals. The drawing is one of plain bars, which overpaint whole canvas rows in one colour.
 -- Assumes nothing.
 use mathlib.Core.Path.{_≡_, refl}
 use mathlib.Core.List.{List, [], _∷_, map}
@@ -10,14 +10,14 @@ use lib.ListN.{length, replicate, length-replicate}
 use Rattle.refusal.specs.declared.Refusal.the-variants.{Side}
 use Rattle.refusal.specs.declared.Checked.{Checked}
 use Rattle.refusal.specs.Refusal.{answerNumber, refuseIf}
-use Rattle.book.specs.Book.{Drawing, Call, add, paint, hasRow, hasPainted}
+use Rattle.book.specs.Book.{Drawing, Call, add, paint, remove, Entry, hasRow, hasPainted}
 use Rattle.book.specs.Book.{isLeft, someOwes, noneLeft, bookAnswer, noted, bookAfter, bookAnswers, bookAfterAll}
 use Rattle.book.specs.Book.{painters, overpainted}
-use Rattle.book.specs.Canvas.{canvasRow, putRow}
+use Rattle.book.specs.Canvas.{canvasRow, putRow, rowsFrom}
 use Rattle.book.specs.Whole.{paintRows, paintWhole}
 use Rattle.book.specs.Sheet.{State, layerOwes, someLayerOwes, layerKeepsRules, overtakes, noneOvertakes}
 use Rattle.book.specs.Sheet.{layersKeepRules, keepsRules, answer, withRow, carriedOut, after, answers, afterAll}
-use Rattle.book.specs.Sheet.{opened}
+use Rattle.book.specs.Sheet.{opened, layerHasPainted, layerPainters, restoredRow}
 
 -- a bar: its first row, how many rows it has, and its colour
 record Bar : Type 0 where
@@ -136,3 +136,91 @@ list-book-row = refl
 whole-canvas : paintWhole bars 2 2 (tall 5) lentCanvas ≡ 5 ∷ 5 ∷ 3 ∷ 4 ∷ []
 unfolding paintRows withRow putRow canvasRow
 whole-canvas = refl
+
+-- ---- removals
+
+-- the canvas's two rows and no other
+abbrev low : ℕ → Bar
+low colour = record { top = pos 0; height = 2; colour = colour }
+
+-- three bars, all of which have painted row 0, and the last of them row 1 too
+abbrev threeBars : List (Call Bar)
+threeBars =
+    add (tall 5) ∷ add (low 7) ∷ add (low 9) ∷ paint 0 ∷ paint 0 ∷ paint 1 ∷ paint 2 ∷ paint 1 ∷ paint 2 ∷ paint 1 ∷ []
+
+abbrev restoring : Call Bar
+restoring = remove 0 lentCanvas
+
+-- the first leaves, then the one in the middle, then the last; then there is none
+abbrev removals : List (Call Bar)
+removals = restoring ∷ restoring ∷ remove 1 lentCanvas ∷ restoring ∷ restoring ∷ []
+
+removal-answers : map answerNumber (answers bars 2 2 (afterAll bars 2 2 (opened bars lentCanvas) threeBars) removals)
+    ≡ 0 ∷ 0 ∷ 10 ∷ 0 ∷ 10 ∷ []
+unfolding answers afterAll answer keepsRules layersKeepRules layerKeepsRules noneOvertakes overtakes someLayerOwes layerOwes hasRow
+    after carriedOut withRow putRow canvasRow rowsFrom restoredRow layerHasPainted layerPainters overpainted
+removal-answers = refl
+
+removal-book-answers : map answerNumber (bookAnswers bars (bookAfterAll bars [] threeBars) removals) ≡ 0 ∷ 0 ∷ 10 ∷ 0 ∷ 10 ∷ []
+unfolding bookAnswers bookAfterAll bookAnswer bookAfter noted noneLeft someOwes isLeft hasRow hasPainted
+removal-book-answers = refl
+
+-- the figures that are left keep their counts, whether or not they have rows left, and move down one number
+removal-book : bookAfterAll bars (bookAfterAll bars [] threeBars) (restoring ∷ [])
+    ≡ record { item = low 7; count = 2 } ∷ record { item = low 9; count = 2 } ∷ []
+unfolding bookAfterAll bookAnswer bookAfter noted noneLeft someOwes isLeft hasRow hasPainted
+removal-book = refl
+
+removal-half-painted : bookAfterAll bars [] (add (tall 5) ∷ add (low 7) ∷ paint 0 ∷ paint 0 ∷ paint 1 ∷ restoring ∷ [])
+    ≡ record { item = low 7; count = 1 } ∷ []
+unfolding bookAfterAll bookAnswer bookAfter noted noneLeft someOwes isLeft hasRow hasPainted
+removal-half-painted = refl
+
+-- a canvas of any bytes, and three layers that have painted: the first both its rows, the second and the third the canvas's first
+abbrev painted : State Bar
+painted =
+    record {
+      layers = record { item = tall 5; next = pos 1 } ∷ record { item = low 7; next = pos 1 } ∷ record { item = low 9; next = pos 1 } ∷ [];
+      canvas = 11 ∷ 12 ∷ 13 ∷ 14 ∷ [];
+    }
+
+-- the row that the first had painted is the background's, with the second and then the third over it; the other stays
+removed-first : after bars 2 2 painted restoring .canvas ≡ 9 ∷ 9 ∷ 13 ∷ 14 ∷ []
+unfolding answer keepsRules layersKeepRules layerKeepsRules noneOvertakes overtakes someLayerOwes layerOwes hasRow
+    after carriedOut canvasRow rowsFrom restoredRow layerHasPainted layerPainters overpainted
+removed-first = refl
+
+-- one layer alone: the row that it had painted is the background's. It has a row on the canvas that it has not painted, which stays
+removed-only : after bars 2 2 (record { layers = record { item = low 7; next = pos 1 } ∷ []; canvas = 11 ∷ 12 ∷ 13 ∷ 14 ∷ [] }) restoring
+    ≡ record { layers = []; canvas = 1 ∷ 2 ∷ 13 ∷ 14 ∷ [] }
+unfolding answer keepsRules layersKeepRules layerKeepsRules noneOvertakes overtakes someLayerOwes layerOwes hasRow
+    after carriedOut canvasRow rowsFrom restoredRow layerHasPainted layerPainters overpainted
+removed-only = refl
+
+-- a layer that has not painted the row is not laid over it: the second has painted nothing
+removed-beside-unpainted : after bars 2 2
+    (record {
+      layers = record { item = tall 5; next = pos 1 } ∷ record { item = low 7; next = pos 0 } ∷ [];
+      canvas = 11 ∷ 12 ∷ 13 ∷ 14 ∷ [];
+    })
+    restoring
+    ≡ record { layers = record { item = low 7; next = pos 0 } ∷ []; canvas = 1 ∷ 2 ∷ 13 ∷ 14 ∷ [] }
+unfolding answer keepsRules layersKeepRules layerKeepsRules noneOvertakes overtakes someLayerOwes layerOwes hasRow
+    after carriedOut canvasRow rowsFrom restoredRow layerHasPainted layerPainters overpainted
+removed-beside-unpainted = refl
+
+-- 7 before 8, 8 for either buffer before 10, and no other number: a layer above the canvas leaves like any other
+abbrev removalNumbers : List Checked
+removalNumbers =
+    answer bars 4 4 (sheet 17 (tall 5) 15) (remove 0 [])
+    ∷ answer bars 4 4 (sheet 0 (tall 5) 15) (remove 0 (replicate 16 0))
+    ∷ answer bars 4 4 (sheet 0 (tall 5) 16) (remove 0 (replicate 15 0))
+    ∷ answer bars 4 4 (sheet 1 (tall 5) 16) (remove 1 (replicate 16 0))
+    ∷ answer bars 4 4 (sheet 1 flat 16) (remove 0 (replicate 16 0))
+    ∷ answer bars 4 4 (sheet 2 (tall 5) 16) (remove 1 (replicate 16 0))
+    ∷ answer bars 4 4 (sheet 1 (record { top = negsuc 8; height = 2; colour = 5 }) 16) (remove 0 (replicate 16 0))
+    ∷ []
+
+removal-numbers : map answerNumber removalNumbers ≡ 7 ∷ 8 ∷ 8 ∷ 10 ∷ 0 ∷ 0 ∷ 0 ∷ []
+unfolding answer keepsRules layersKeepRules layerKeepsRules noneOvertakes overtakes someLayerOwes layerOwes hasRow
+removal-numbers = refl

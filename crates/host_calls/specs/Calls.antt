@@ -15,7 +15,8 @@ runNumber allRan = 0
 runNumber notCalls = noRecord
 runNumber (refusedBy n) = n
 
--- and what it leaves: the canvas and the answers are those of the run, with some sheet that the host does not get
-pub record RunTold (W H : ℕ) (numbers : List ℤ) (lent list canvas told : List ℕ) : Type 0 where
+-- and what it leaves: the canvas and the answers are those of the run, each removal with the background that is lent, and with some
+-- sheet that the host does not get
+pub record RunTold (W H : ℕ) (numbers : List ℤ) (lent background list canvas told : List ℕ) : Type 0 where
   pub sheet : Sheet
-  pub leaves : RunLeaves (runAnswer W H numbers (length lent) (length list)) W H (callsOf numbers) lent list sheet canvas told
+  pub leaves : RunLeaves (runAnswer W H numbers (length lent) (length list)) W H (callsOf background numbers) lent list sheet canvas told

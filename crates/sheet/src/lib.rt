@@ -142,6 +142,7 @@ impl Sheet {
         ensures { λ r. ⌜ said (r .answer) ≡ sheetAnswer self (now (canvas .entry)) (Call·remove layer (now (background .entry))) ⌝ }
         ensures { λ r. ⌜ r .sheet ≡ sheetAfter self (now (canvas .entry)) (Call·remove layer (now (background .entry))) ⌝ }
         ensures { λ r. ⌜ now (canvas .exit) ≡ canvasAfter self (now (canvas .entry)) (Call·remove layer (now (background .entry))) ⌝ }
+        ensures { λ _. ⌜ now (background .exit) ≡ now (background .entry) ⌝ }
     {
         let size = CanvasSize {
             width: self.width,

@@ -11,8 +11,8 @@ ghost use Rattle.sheet_call_numbers.specs.CallNumbers.{callLength, isCal
 // How many numbers a call has.
 pub const CALL_LENGTH: usize = 20;
 
-// Where its kind stands, and behind that the layer of a paint call, or the figure and the style of an
-// add call up to the style's end.
+// Where its kind stands, and behind that the layer of a paint call or a removal, or the figure and the
+// style of an add call up to the style's end.
 pub const KIND: usize = 0;
 
 pub const LAYER: usize = 1;
@@ -23,17 +23,19 @@ pub const STYLE: usize = FIGURE + FIGURE_LENGTH;
 
 pub const STYLE_END: usize = STYLE + STYLE_LENGTH;
 
-// The kinds of a call.
+// The kinds of a call. Those that name a layer are the last ones.
 pub const ADD: i32 = 0;
 
 pub const PAINT: i32 = 1;
+
+pub const REMOVE: i32 = 2;
 
 // Whether the numbers are a call's.
 fn is_call(numbers: &[i32]) -> bool
     requires { ⌜ length (now numbers) ≡ callLength ⌝ }
     ensures { λ r. ⌜ r ≡ isCall (now (numbers .entry)) ⌝ }
 {
-    if !is_within(ADD, PAINT, numbers[KIND]) {
+    if !is_within(ADD, REMOVE, numbers[KIND]) {
         return false;
     }
     if PAINT <= numbers[KIND] {

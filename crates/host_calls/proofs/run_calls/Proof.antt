@@ -11,7 +11,7 @@ use Rattle.host_calls.proofs.run_calls.Statement.{statement}
 use Rattle.host_calls.proofs.run_calls.Tie as tie
 
 abbrev start-run-calls : tie.After-run-calls → tie.Start
-start-run-calls c = c .before .before .before .before .before
+start-run-calls c = c .before .before .before .before .before .before
 
 -- what the run says, and what it leaves
 says : (c : tie.After-run-calls)
@@ -22,16 +22,16 @@ says c = c .run-calls .ensures .0
 
 leaves : (c : tie.After-run-calls)
     → RunTold (start-run-calls c .args .width) (start-run-calls c .args .height) (start-run-calls c .args .calls .now)
-    (start-run-calls c .args .canvas .now) (start-run-calls c .args .answers .now)
-    (c .run-calls .last .1 .1 .1 .0) (c .run-calls .last .1 .1 .1 .1 .0)
+    (start-run-calls c .args .canvas .now) (start-run-calls c .args .background .now) (start-run-calls c .args .answers .now)
+    (c .run-calls .last .1 .1 .1 .0) (c .run-calls .last .1 .1 .1 .1 .1 .0)
 leaves c =
-    let a = c .before .before .before .before .before .args in
+    let a = c .before .before .before .before .before .before .args in
     record {
       sheet = c .run-calls .result .sheet;
       leaves = subst
           (λ (s : RunSays).
-          RunLeaves s (a .width) (a .height) (callsOf (a .calls .now)) (a .canvas .now) (a .answers .now) (c .run-calls .result .sheet)
-          (c .run-calls .last .1 .1 .1 .0) (c .run-calls .last .1 .1 .1 .1 .0))
+          RunLeaves s (a .width) (a .height) (callsOf (a .background .now) (a .calls .now)) (a .canvas .now) (a .answers .now)
+          (c .run-calls .result .sheet) (c .run-calls .last .1 .1 .1 .0) (c .run-calls .last .1 .1 .1 .1 .1 .0))
           (says c) (c .run-calls .ensures .1);
     }
 

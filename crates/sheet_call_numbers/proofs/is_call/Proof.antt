@@ -1,4 +1,4 @@
--- `sheet_call_numbers::is_call` meets its contract: the first number says which of the two it may be.
+-- `sheet_call_numbers::is_call` meets its contract: the first number says which of the kinds it may be.
 -- Assumes nothing.
 use mathlib.Core.Path.{_≡_, sym, ap, _∙_}
 use mathlib.Core.Bool.{Bool, true}
@@ -10,24 +10,24 @@ use mir.Syntax.{w32}
 use mir.Val.{toZ, ofZ}
 use Rattle.host_records.specs.RecordNumbers.{figureLength, numberAt, within, isFigure}
 use Rattle.host_records.proofs.Walks.{read-back}
-use Rattle.sheet_call_numbers.specs.CallNumbers.{callKindAt, callLayerAt, callFigureAt, addKind, paintKind, isCall}
+use Rattle.sheet_call_numbers.specs.CallNumbers.{callKindAt, callLayerAt, callFigureAt, addKind, paintKind, removeKind, isCall}
 use borrow.Author.Needs.{needs}
 use Rattle.sheet_call_numbers.proofs.is_call.Statement.{statement}
 use Rattle.sheet_call_numbers.proofs.is_call.Tie as tie
 
-kind : (c : tie.After-is-within) → within addKind paintKind (numberAt (c .before .before .args .numbers .now) callKindAt)
+kind : (c : tie.After-is-within) → within addKind removeKind (numberAt (c .before .before .args .numbers .now) callKindAt)
     ≡ c .is-within .result
 kind c =
-    sym (c .is-within .ensures ∙ ap (within addKind paintKind)
+    sym (c .is-within .ensures ∙ ap (within addKind removeKind)
     (read-back (c .before .before .args .numbers .now) callKindAt (c .before .is-within-arg .given)))
 
-after-kind : (c : tie.Else1) → within addKind paintKind (numberAt (c .before .before .before .args .numbers .now) callKindAt) ≡ true
+after-kind : (c : tie.Else1) → within addKind removeKind (numberAt (c .before .before .before .args .numbers .now) callKindAt) ≡ true
 after-kind c = kind (c .before) ∙ not-false _ (c .if1 .left)
 
 abbrev start-if22 : tie.After-if22 → tie.Start
 start-if22 c = c .before .before .before .before
 
--- whether a row is painted
+-- whether it names a layer
 by-kind : (c : tie.After-if22) {t : Bool} → leZ paintKind (toZ w32 (ofZ w32 (numberAt (start-if22 c .args .numbers .now) callKindAt))) ≡ t
     → leZ paintKind (numberAt (start-if22 c .args .numbers .now) callKindAt) ≡ t
 by-kind c test =

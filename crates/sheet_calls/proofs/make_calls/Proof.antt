@@ -5,28 +5,24 @@ use Prim.Native.Nat.{_-_, _≤_}
 use native.Mathlib.Omega.{arith}
 use borrow.Author.Needs.{needs}
 use lib.ListN.{length, length-set}
-use Rattle.geometry.specs.Limits.{maxLayers}
-use Rattle.sheet_checks.proofs.Places.{sixteen-places}
 use Rattle.sheet_call_numbers.proofs.Walks.{call-part-length}
 use Rattle.sheet_calls.proofs.Runs.{CallsLeft, all-left, one-less-left, called-part, none-left}
 use Rattle.sheet_calls.proofs.make_calls.Statement.{statement}
 use Rattle.sheet_calls.proofs.make_calls.Tie as tie
 
 abbrev Inv-loop : tie.InvT-loop
-Inv-loop count numbers canvas₀ answers₀ current₀ j₀ canvas answers current j =
+Inv-loop count numbers canvas₀ background answers₀ current₀ j₀ canvas answers current j =
     (j ≤ count) × (length answers ≡ length answers₀) × (length canvas ≡ length canvas₀)
-    × CallsLeft numbers count current₀ canvas₀ answers₀ j current canvas answers
+    × CallsLeft background numbers count current₀ canvas₀ answers₀ j current canvas answers
 
 abbrev μ-loop : tie.MeasureT-loop
-μ-loop count numbers canvas₀ answers₀ current₀ j₀ canvas answers current j = count - j
-
-sixteen : (c : tie.Start Inv-loop μ-loop) → length (c .args .sheet .layers) ≡ maxLayers
-sixteen c = sixteen-places (c .args .sheet .layers) (c .good .0 .1 .1 .1 .1 .1 .0 .1 .0 .1)
+μ-loop count numbers canvas₀ background answers₀ current₀ j₀ canvas answers current j = count - j
 
 loop-holds : tie.Need-loop-holds Inv-loop μ-loop
 loop-holds c =
-    let a = c .before .before .args in
-    (omega arith, refl, refl, all-left (a .numbers .now) (a .count) (a .sheet) (a .canvas .now) (a .answers .now))
+    let a = c .before .before .before .args in
+    let left = all-left (a .background .now) (a .numbers .now) (a .count) (a .sheet) (a .canvas .now) (a .answers .now) in
+    (omega arith, refl, refl, left)
 
 mul-at : tie.Need-mul-at Inv-loop μ-loop
 mul-at c = record { fits = omega arith }
@@ -50,7 +46,7 @@ make-call-requires : tie.Need-make-call-requires Inv-loop μ-loop
 make-call-requires c κs =
     let walk = c .before .before .before in
     let here = c .before .before .loop-test .taken in
-    call-part-length (walk .before .before .before .args .numbers .now) (walk .loop .j) (omega arith)
+    call-part-length (walk .before .before .before .before .args .numbers .now) (walk .loop .j) (omega arith)
 
 number-of-requires : tie.Need-number-of-requires Inv-loop μ-loop
 number-of-requires c κs = search needs
@@ -71,15 +67,16 @@ loop-again : tie.Need-loop-again Inv-loop μ-loop
 loop-again c =
     let called = c .before .before .before .before in
     let walk = called .before .before .before .before in
-    let a = walk .before .before .before .args in
+    let a = walk .before .before .before .before .args in
     let inv = walk .loop .inv in (
       omega arith,
       simp length-set (inv .1),
       called .make-call .kept .1 .1 .0 ∙ inv .2,
-      one-less-left (a .numbers .now) (a .count) (a .sheet) (a .canvas .now) (a .answers .now) (walk .loop .j) (walk .loop .current)
-          (walk .loop .canvas)
-          (walk .loop .answers) (inv .3) (called .before .before .before .loop-test .taken) (called .make-call .result) _
-          (called-part (a .numbers .now) (walk .loop .j) (called .make-call .ensures)) (c .number-of .result) (c .number-of .ensures),
+      one-less-left (a .background .now) (a .numbers .now) (a .count) (a .sheet) (a .canvas .now) (a .answers .now) (walk .loop .j)
+          (walk .loop .current) (walk .loop .canvas) (walk .loop .answers) (inv .3) (called .before .before .before .loop-test .taken)
+          (called .make-call .result) _
+          (called-part (a .background .now) (a .numbers .now) (walk .loop .j) (called .make-call .ensures)) (c .number-of .result)
+          (c .number-of .ensures),
     )
 
 same-length : tie.Need-same-length Inv-loop μ-loop
@@ -91,12 +88,11 @@ same-length-2 c = c .before .loop .inv .1
 returns : tie.Need-returns Inv-loop μ-loop
 returns c =
     let walk = c .before in
-    let start = walk .before .before .before in
-    let a = start .args in
+    let a = walk .before .before .before .before .args in
     let all =
-    none-left (a .numbers .now) (a .count) (a .sheet) (a .canvas .now) (a .answers .now) (sixteen start) (walk .loop .j)
+    none-left (a .background .now) (a .numbers .now) (a .count) (a .sheet) (a .canvas .now) (a .answers .now) (walk .loop .j)
     (walk .loop .current) (walk .loop .canvas) (walk .loop .answers) (walk .loop .inv .3) (c .loop-test .left) in
-    (all .answered, (all .reached, (all .width, all .height)))
+    (all .answered, (all .sheet, all .bytes))
 
 pub make-calls-spec : {M : Type 1} → statement M
 make-calls-spec =

@@ -21,7 +21,7 @@ use Rattle.sheet_calls.proofs.run_calls.Tie as tie
 
 -- the check made is the definition's
 abbrev start : tie.After-or-else2 → tie.Start
-start c = c .before .before .before .before .before .before .before .before .before
+start c = c .before .before .before .before .before .before .before .before .before .before
 
 checked : (c : tie.After-or-else2)
     → c .or-else2 .result
@@ -138,9 +138,9 @@ returns-3 c =
     let long = passed-next (canvasSizeCheck (a .width) (a .height)) (canvasLengthCheck (a .width) (a .height) (length (a .canvas .now)))
     (sizes-passed told) in (
       sym (run-accepted (a .width) (a .height) (a .calls .now) (length (a .canvas .now)) (length (a .answers .now)) (passed told) calls),
-      run-from (a .width) (a .height) (a .canvas .now) (a .answers .now) (callsOf (a .calls .now)) size long (opened .«open» .result .sheet)
-          (opened .«open» .ensures .1)
-          (made .make-calls .ensures .1 .1) (made .make-calls .ensures .0) (made .make-calls .ensures .1 .0),
+      run-from (a .width) (a .height) (a .canvas .now) (a .answers .now) (callsOf (a .background .now) (a .calls .now)) size long
+          (opened .«open» .result .sheet) (opened .«open» .ensures .1)
+          (made .make-calls .ensures .0) (made .make-calls .ensures .1 .0) (made .make-calls .ensures .1 .1),
     )
 
 pub run-calls-spec : {M : Type 1} → statement M

@@ -109,7 +109,7 @@ returns c =
       ap Refused (refusal-found (c .refusal .ensures) found) ∙ sym says,
       (
         sym (refused-record (a .self) (sixteen start) (a .canvas .now) call _ says),
-        sym (refused-canvas (a .self) (sixteen start) (a .canvas .now) call _ says),
+        (sym (refused-canvas (a .self) (sixteen start) (a .canvas .now) call _ says), refl),
       ),
     )
 
@@ -158,10 +158,13 @@ returns-2 c =
       (
         ap (λ (l : List Layer). record { width = s .width; height = s .height; count = s .count - 1; layers = l }) (c .without .ensures)
             ∙ sym (removed-record s (sixteen start) (a .canvas .now) (a .layer) (a .background .now) (passed here)),
-        c .before .before .before .restore .ensures
-            ∙ ap (λ (l : Layers drawing). restored drawing (s .width) (s .height) (some own) (without (a .layer) l) (a .background .now)
-            (a .canvas .now)) (sym (layers-are (s .count) (s .layers) (sixteen start) (few here)))
-            ∙ sym (removed-canvas s (sixteen start) (a .canvas .now) (a .layer) (a .background .now) (passed here)),
+        (
+          c .before .before .before .restore .ensures
+              ∙ ap (λ (l : Layers drawing). restored drawing (s .width) (s .height) (some own) (without (a .layer) l) (a .background .now)
+              (a .canvas .now)) (sym (layers-are (s .count) (s .layers) (sixteen start) (few here)))
+              ∙ sym (removed-canvas s (sixteen start) (a .canvas .now) (a .layer) (a .background .now) (passed here)),
+          refl,
+        ),
       ),
     )
 
