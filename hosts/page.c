@@ -1,7 +1,9 @@
 /* Draws the page of crates/cafe from C, by include/wunqaber.h alone, and writes it as a Netpbm P5 file
  * to standard output: six tiles, each a box and an oval that is filled or hollow. A row of each layer is
  * painted in turn, the uppermost layer asked first, so that some calls are refused because a lower layer
- * owes the row. Any other answer than the expected one ends the program with status 1. */
+ * owes the row. A seventh tile, across four of the others, is painted with them and then leaves: its two
+ * layers are removed, and what it had covered shows again. Any other answer than the expected one ends the
+ * program with status 1. */
 #include <stdio.h>
 #include <stdlib.h>
 #include <string.h>
@@ -12,18 +14,20 @@ enum {
     WIDTH = 232,
     HEIGHT = 120,
     HEADER = sizeof "P5\n232 120\n255\n" - 1,
-    TILES = 6,
+    TILES = 7,
     LAYERS = 2 * TILES,
-    /* More rounds than a box has rows: a layer waits for the rows that lower ones owe. */
-    ROUNDS = 64,
+    /* The box of the tile that leaves, and its oval behind it. */
+    LEAVING = 4,
+    /* More rounds than the page has rows: a layer waits for the rows that lower ones owe. */
+    ROUNDS = 128,
     /* What comes of the ROUNDS * LAYERS calls: each box has 48 rows, each oval 24. */
     PAINTED = TILES * (48 + 24),
-    OWED = 102,
+    OWED = 554,
     WITHOUT_ROW = ROUNDS * LAYERS - PAINTED - OWED
 };
 
 static wunqaber_sheet sheet;
-static uint8_t canvas[WIDTH * HEIGHT];
+static uint8_t background[WIDTH * HEIGHT], canvas[WIDTH * HEIGHT];
 static uint8_t file[HEADER + WIDTH * HEIGHT];
 
 static void expect(const char *what, uint32_t expected, uint32_t found)
@@ -81,19 +85,30 @@ static void paint(void)
     expect("calls refused by 12", OWED, owed);
 }
 
+/* Removes a layer; later ones move down one number. */
+static void remove_layer(uint32_t layer)
+{
+    expect("remove_layer", WUNQABER_DONE,
+           wunqaber_remove_layer(&sheet, layer, canvas, sizeof canvas, background, sizeof background));
+}
+
 int main(void)
 {
     int32_t length = 0;
 
-    memset(canvas, 255, sizeof canvas);
+    memset(background, 255, sizeof background);
+    memcpy(canvas, background, sizeof canvas);
     expect("open", WUNQABER_DONE, wunqaber_open(WIDTH, HEIGHT, &sheet));
     add_tile(8, 8, 1);
     add_tile(84, 8, 0);
+    add_tile(122, 36, 1);
     add_tile(160, 8, 1);
     add_tile(8, 64, 0);
     add_tile(84, 64, 0);
     add_tile(160, 64, 1);
     paint();
+    remove_layer(LEAVING + 1);
+    remove_layer(LEAVING);
     expect("encode_p5", WUNQABER_DONE,
            wunqaber_encode_p5(WIDTH, HEIGHT, canvas, sizeof canvas, file, sizeof file, &length));
     expect("length of the file", sizeof file, (uint32_t)length);

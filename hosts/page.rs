@@ -1,6 +1,6 @@
 //! Draws the page of crates/cafe from Rust, as page.c does from C: six tiles, a row of each layer
-//! painted in turn, written as a Netpbm P5 file to standard output. Any other answer than the expected
-//! one ends the program with status 1.
+//! painted in turn, and a seventh that is painted with them and then leaves; written as a Netpbm P5 file
+//! to standard output. Any other answer than the expected one ends the program with status 1.
 
 #[allow(dead_code)]
 mod wunqaber;
@@ -12,13 +12,15 @@ const WIDTH: u32 = 232;
 const HEIGHT: u32 = 120;
 const CANVAS_LENGTH: usize = WIDTH as usize * HEIGHT as usize;
 const HEADER_LENGTH: usize = b"P5\n232 120\n255\n".len();
-const TILES: u32 = 6;
+const TILES: u32 = 7;
 const LAYERS: u32 = 2 * TILES;
-/// More rounds than a box has rows: a layer waits for the rows that lower ones owe.
-const ROUNDS: u32 = 64;
+/// The box of the tile that leaves, and its oval behind it.
+const LEAVING: u32 = 4;
+/// More rounds than the page has rows: a layer waits for the rows that lower ones owe.
+const ROUNDS: u32 = 128;
 /// What comes of the calls: each box has 48 rows, each oval 24.
 const PAINTED: u32 = TILES * (48 + 24);
-const OWED: u32 = 102;
+const OWED: u32 = 554;
 const WITHOUT_ROW: u32 = ROUNDS * LAYERS - PAINTED - OWED;
 
 fn expect(what: &str, expected: u32, found: u32) {
@@ -66,15 +68,25 @@ fn paint(sheet: &mut [i32], canvas: &mut [u8]) {
 
 fn main() -> io::Result<()> {
     let mut sheet = [0; SHEET_LENGTH];
-    let mut canvas = vec![255; CANVAS_LENGTH];
+    let background = vec![255; CANVAS_LENGTH];
+    let mut canvas = background.clone();
     expect("sheet_open", DONE, wunqaber::sheet_open(WIDTH, HEIGHT, &mut sheet));
     add_tile(&mut sheet, 8, 8, true);
     add_tile(&mut sheet, 84, 8, false);
+    add_tile(&mut sheet, 122, 36, true);
     add_tile(&mut sheet, 160, 8, true);
     add_tile(&mut sheet, 8, 64, false);
     add_tile(&mut sheet, 84, 64, false);
     add_tile(&mut sheet, 160, 64, true);
     paint(&mut sheet, &mut canvas);
+    // later layers move down one number
+    for layer in [LEAVING + 1, LEAVING] {
+        expect(
+            "sheet_remove",
+            DONE,
+            wunqaber::sheet_remove(&mut sheet, layer, &mut canvas, &background),
+        );
+    }
     let mut file = vec![0; HEADER_LENGTH + CANVAS_LENGTH];
     let mut length = [0];
     expect(

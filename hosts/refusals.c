@@ -10,26 +10,31 @@
 
 enum call {
     CONTAINS, ROW, POINTS, OFFSET, CONFINED_RADII, ELLIPSE_WITH_CENTER, STYLED_ROW, STYLED_BOUNDING_BOX,
-    PAINT_FIGURE, SHEET_OPEN, SHEET_ADD, SHEET_PAINT, RUN_CALLS, WRITE_P5, WRITE_P4, READ_NETPBM
+    PAINT_FIGURE, SHEET_OPEN, SHEET_ADD, SHEET_PAINT, SHEET_REMOVE, RUN_CALLS, WRITE_P5, WRITE_P4, READ_NETPBM
 };
 
 static const char *const names[] = {
     "contains", "row", "points", "offset", "confined_radii", "ellipse_with_center", "styled_row",
-    "styled_bounding_box", "paint_figure", "sheet_open", "sheet_add", "sheet_paint", "run_calls", "write_p5",
-    "write_p4", "read_netpbm"
+    "styled_bounding_box", "paint_figure", "sheet_open", "sheet_add", "sheet_paint", "sheet_remove", "run_calls",
+    "write_p5", "write_p4", "read_netpbm"
 };
 
 /* What is changed in the arguments: one of them gets the table's value. A length of the sheet, of a list or
  * of a buffer is the length that the call is told. UNEVEN_BOX, BORDERED and OBLONG are another figure, another
  * style and a canvas 8 by 2, for which numbers exchanged with each other would show. NINE_BY_TWO is a canvas whose
- * rows have a bit more than a byte. CORNERS is a box with other radii, PICTURE another file to read. The last three
- * change two arguments, so that two refusals apply: the canvas gets the table's length where there is no `out`, and
- * where the file is cut off; or `out` gets it where the file is cut off. */
+ * rows have a bit more than a byte. CORNERS is a box with other radii, PICTURE another file to read. THIRD_LAYER puts a
+ * third oval on the sheet, of which that layer is removed. REMOVAL makes the last call of the list a removal of that
+ * layer; REMOVAL_BETWEEN has one between the figure's adding and its painting, with a background of that length. The
+ * last ones change two arguments, so that two refusals apply: BOTH_LENGTHS is the length of canvas and background;
+ * sheet or layer are changed where the background, or it and the canvas, are empty; and the canvas gets the table's
+ * length where there is no `out`, and where the file is cut off; or `out` gets it where the file is cut off. */
 enum change {
     AS_IS, UNEVEN_BOX, BORDERED, OBLONG, NINE_BY_TWO, CORNERS, KIND, X, WIDTH, RADIUS, FIGURE_LENGTH, STROKE, FILL,
     STROKE_WIDTH, ALIGNMENT, STYLE_LENGTH, ASKED, CENTER_X, CENTER_WIDTH, CANVAS_WIDTH, CANVAS_LENGTH, LIST_LENGTH,
     FILE_LENGTH, OUT_LENGTH, ANSWERS_LENGTH, SHEET_COUNT, SHEET_NEXT_ROW, SHEET_LAYER_KIND, SHEET_LENGTH,
-    LAYER, CALL_KIND, CALL_LAYER, CALLS_LENGTH, PICTURE, CANVAS_LENGTH_WITHOUT_OUT, CANVAS_LENGTH_CUT_OFF,
+    SHEET_LAYER_X, SHEET_LAYER_Y, SHEET_LAYER_HEIGHT, LAYER, THIRD_LAYER, CALL_KIND, CALL_LAYER, CALLS_LENGTH,
+    BACKGROUND_LENGTH, REMOVAL, REMOVAL_BETWEEN, PICTURE, BOTH_LENGTHS, SHEET_LENGTH_WITHOUT_BUFFERS,
+    SHEET_COUNT_WITHOUT_BUFFERS, LAYER_WITHOUT_BACKGROUND, CANVAS_LENGTH_WITHOUT_OUT, CANVAS_LENGTH_CUT_OFF,
     OUT_LENGTH_CUT_OFF
 };
 
@@ -58,16 +63,17 @@ typedef struct {
     uint32_t width, height, layer;
     int32_t calls[3][20];
     size_t figure_length, style_length, list_length, out_length, canvas_length, file_length, sheet_length;
-    size_t calls_length, answers_length;
+    size_t calls_length, answers_length, background_length;
 } arguments;
 
-/* What a call may write: more of each than it is told of. */
+/* What a call may write: more of each than it is told of; and the background, which no call writes. */
 typedef struct {
     int32_t out[16];
     int32_t list[28];
     wunqaber_sheet sheet;
     uint32_t answers[4];
     uint8_t canvas[20];
+    uint8_t background[20];
     uint8_t file[48];
 } buffers;
 
@@ -208,14 +214,59 @@ static const check checks[] = {
     {SHEET_PAINT, LAYER, 1, 12},
     {SHEET_PAINT, SHEET_LENGTH, 290, 100},
 
+    {SHEET_REMOVE, AS_IS, 0, 0},
+    {SHEET_REMOVE, LAYER, 1, 0},
+    {SHEET_REMOVE, THIRD_LAYER, 0, 0},
+    {SHEET_REMOVE, THIRD_LAYER, 1, 0},
+    {SHEET_REMOVE, THIRD_LAYER, 2, 0},
+    {SHEET_REMOVE, SHEET_COUNT, 16, 0},
+    {SHEET_REMOVE, SHEET_NEXT_ROW, 2, 0},
+    {SHEET_REMOVE, SHEET_NEXT_ROW, 4, 0},
+    {SHEET_REMOVE, SHEET_LAYER_X, 4, 0},
+    {SHEET_REMOVE, SHEET_LAYER_Y, -4, 0},
+    {SHEET_REMOVE, SHEET_LAYER_Y, 4, 0},
+    {SHEET_REMOVE, SHEET_LAYER_HEIGHT, 0, 0},
+    {SHEET_REMOVE, SHEET_COUNT, 17, 7},
+    {SHEET_REMOVE, SHEET_COUNT, -1, 7},
+    {SHEET_REMOVE, SHEET_NEXT_ROW, -1, 7},
+    {SHEET_REMOVE, SHEET_NEXT_ROW, 1, 7},
+    {SHEET_REMOVE, SHEET_NEXT_ROW, 5, 7},
+    {SHEET_REMOVE, SHEET_LAYER_KIND, 3, 7},
+    {SHEET_REMOVE, SHEET_COUNT_WITHOUT_BUFFERS, 17, 7},
+    {SHEET_REMOVE, CANVAS_LENGTH, 15, 8},
+    {SHEET_REMOVE, CANVAS_LENGTH, 17, 8},
+    {SHEET_REMOVE, CANVAS_LENGTH, 0, 8},
+    {SHEET_REMOVE, BACKGROUND_LENGTH, 15, 8},
+    {SHEET_REMOVE, BACKGROUND_LENGTH, 17, 8},
+    {SHEET_REMOVE, BACKGROUND_LENGTH, 0, 8},
+    {SHEET_REMOVE, BOTH_LENGTHS, 15, 8},
+    {SHEET_REMOVE, LAYER_WITHOUT_BACKGROUND, 2, 8},
+    {SHEET_REMOVE, LAYER, 2, 10},
+    {SHEET_REMOVE, LAYER, 16, 10},
+    {SHEET_REMOVE, LAYER, -1, 10},
+    {SHEET_REMOVE, SHEET_COUNT, 0, 10},
+    {SHEET_REMOVE, SHEET_LENGTH, 290, 100},
+    {SHEET_REMOVE, SHEET_LENGTH_WITHOUT_BUFFERS, 0, 100},
+
     {RUN_CALLS, AS_IS, 0, 0},
     {RUN_CALLS, OBLONG, 0, 0},
+    {RUN_CALLS, BACKGROUND_LENGTH, 0, 0},
+    {RUN_CALLS, CALL_KIND, WUNQABER_CALL_REMOVE, 0},
+    {RUN_CALLS, REMOVAL, 0, 0},
+    {RUN_CALLS, REMOVAL, 1, 0},
+    {RUN_CALLS, REMOVAL_BETWEEN, 16, 0},
+    {RUN_CALLS, REMOVAL_BETWEEN, 15, 0},
+    {RUN_CALLS, REMOVAL_BETWEEN, 17, 0},
+    {RUN_CALLS, REMOVAL_BETWEEN, 0, 0},
     {RUN_CALLS, CANVAS_WIDTH, 1025, 6},
     {RUN_CALLS, CANVAS_LENGTH, 17, 8},
+    {RUN_CALLS, BOTH_LENGTHS, 17, 8},
     {RUN_CALLS, ANSWERS_LENGTH, 2, 13},
     {RUN_CALLS, CALLS_LENGTH, 59, 100},
-    {RUN_CALLS, CALL_KIND, 2, 100},
+    {RUN_CALLS, CALL_KIND, 3, 100},
+    {RUN_CALLS, CALL_KIND, -1, 100},
     {RUN_CALLS, CALL_LAYER, -1, 100},
+    {RUN_CALLS, REMOVAL, -1, 100},
 
     {WRITE_P5, AS_IS, 0, 0},
     {WRITE_P5, OBLONG, 0, 0},
@@ -358,6 +409,7 @@ static arguments accepted(const check *c)
     a.sheet_length = 291;
     a.calls_length = 60;
     a.answers_length = 3;
+    a.background_length = 16;
     return a;
 }
 
@@ -372,13 +424,16 @@ static size_t put_picture(buffers *b, enum picture picture)
 }
 
 /* The buffers before a call: a pattern, and a sheet 4 by 4 with the oval twice; to write P4 the dotted canvas, to
- * read a file with it. */
+ * read a file with it. To remove a layer, three rows of the first oval are painted and two of the second, which has a
+ * border. */
 static buffers lent(const check *c)
 {
     buffers b;
     int i;
 
     memset(&b, 0x5a, sizeof b);
+    for (i = 0; i < (int)sizeof b.background; i++)
+        b.background[i] = (uint8_t)(100 + i);
     if (c->call == SHEET_OPEN)
         return b;
     /* The unused places keep what the memset left: no call looks at them. */
@@ -388,6 +443,11 @@ static buffers lent(const check *c)
         b.sheet.layers[i].figure = oval;
         b.sheet.layers[i].style = filled;
         b.sheet.layers[i].next_row = 0;
+    }
+    if (c->call == SHEET_REMOVE) {
+        b.sheet.layers[0].next_row = 3;
+        b.sheet.layers[1].next_row = 2;
+        b.sheet.layers[1].style = bordered;
     }
     if (c->call == WRITE_P4)
         memcpy(b.canvas, dotted, sizeof dotted);
@@ -441,10 +501,49 @@ static void change(const check *c, arguments *a, buffers *b)
     case SHEET_NEXT_ROW: b->sheet.layers[0].next_row = value; break;
     case SHEET_LAYER_KIND: b->sheet.layers[0].figure.kind = value; break;
     case SHEET_LENGTH: a->sheet_length = (size_t)value; break;
+    case SHEET_LAYER_X: b->sheet.layers[0].figure.x = value; break;
+    case SHEET_LAYER_Y:
+        b->sheet.layers[0].figure.y = value;
+        b->sheet.layers[0].next_row = value + 3;
+        break;
+    case SHEET_LAYER_HEIGHT:
+        b->sheet.layers[0].figure.height = value;
+        b->sheet.layers[0].next_row = 0;
+        break;
     case LAYER: a->layer = (uint32_t)value; break;
+    case THIRD_LAYER:
+        /* two rows of each are painted, and the third is on top */
+        b->sheet.count = 3;
+        b->sheet.layers[0].next_row = 2;
+        b->sheet.layers[2] = b->sheet.layers[0];
+        a->layer = (uint32_t)value;
+        break;
     case CALL_KIND: a->calls[2][0] = value; break;
     case CALL_LAYER: a->calls[2][1] = value; break;
     case CALLS_LENGTH: a->calls_length = (size_t)value; break;
+    case BACKGROUND_LENGTH: a->background_length = (size_t)value; break;
+    case REMOVAL:
+        a->calls[2][0] = WUNQABER_CALL_REMOVE;
+        a->calls[2][1] = value;
+        break;
+    case REMOVAL_BETWEEN:
+        a->calls[1][0] = WUNQABER_CALL_REMOVE;
+        a->calls[2][1] = 0;
+        a->background_length = (size_t)value;
+        break;
+    case BOTH_LENGTHS: a->canvas_length = a->background_length = (size_t)value; break;
+    case SHEET_LENGTH_WITHOUT_BUFFERS:
+        a->sheet_length = (size_t)value;
+        a->canvas_length = a->background_length = 0;
+        break;
+    case SHEET_COUNT_WITHOUT_BUFFERS:
+        b->sheet.count = value;
+        a->canvas_length = a->background_length = 0;
+        break;
+    case LAYER_WITHOUT_BACKGROUND:
+        a->layer = (uint32_t)value;
+        a->background_length = 0;
+        break;
     case PICTURE:
         a->file_length = put_picture(b, (enum picture)value);
         if (value == BITS_NINE_BY_TWO)
@@ -499,9 +598,12 @@ static uint32_t make(enum call call, const arguments *a, buffers *b)
         return wunqaber_sheet_add(sheet, a->sheet_length, figure, a->figure_length, style, a->style_length);
     case SHEET_PAINT:
         return wunqaber_sheet_paint(sheet, a->sheet_length, a->layer, b->canvas, a->canvas_length);
+    case SHEET_REMOVE:
+        return wunqaber_sheet_remove(sheet, a->sheet_length, a->layer, b->canvas, a->canvas_length,
+                                     b->background, a->background_length);
     case RUN_CALLS:
         return wunqaber_run_calls(a->width, a->height, a->calls[0], a->calls_length, b->canvas, a->canvas_length,
-                                  b->answers, a->answers_length);
+                                  b->background, a->background_length, b->answers, a->answers_length);
     case WRITE_P5:
         return wunqaber_write_p5(a->width, a->height, b->canvas, a->canvas_length, b->file, a->file_length,
                                  b->out, a->out_length);
@@ -519,9 +621,15 @@ static int has_typed_form(const check *c)
 {
     switch (c->change) {
     case FIGURE_LENGTH: case STYLE_LENGTH: case OUT_LENGTH: case SHEET_LENGTH: case CALLS_LENGTH:
-    case CANVAS_LENGTH_WITHOUT_OUT: case OUT_LENGTH_CUT_OFF: return 0;
+    case SHEET_LENGTH_WITHOUT_BUFFERS: case CANVAS_LENGTH_WITHOUT_OUT: case OUT_LENGTH_CUT_OFF: return 0;
     default: return 1;
     }
+}
+
+/* A call of a list that has a layer. */
+static wunqaber_call layer_call(const int32_t *numbers)
+{
+    return numbers[0] == WUNQABER_CALL_REMOVE ? wunqaber_make_remove(numbers[1]) : wunqaber_make_paint(numbers[1]);
 }
 
 static void put_figure(int32_t *out, const wunqaber_figure *figure)
@@ -632,12 +740,15 @@ static uint32_t make_typed(enum call call, const arguments *a, buffers *b)
         return wunqaber_add(&b->sheet, &a->figure, &a->style);
     case SHEET_PAINT:
         return wunqaber_paint_next_row(&b->sheet, a->layer, b->canvas, a->canvas_length);
+    case SHEET_REMOVE:
+        return wunqaber_remove_layer(&b->sheet, a->layer, b->canvas, a->canvas_length,
+                                     b->background, a->background_length);
     case RUN_CALLS: {
         wunqaber_call calls[3];
 
         calls[0] = wunqaber_make_add(&oval, &filled);
-        calls[1] = wunqaber_make_paint(a->calls[1][1]);
-        calls[2] = wunqaber_make_paint(a->calls[2][1]);
+        calls[1] = layer_call(a->calls[1]);
+        calls[2] = layer_call(a->calls[2]);
         calls[2].kind = a->calls[2][0];
         /* The numbers that are looked at: kind, figure and style of the first, kind and layer of the others. */
         if (memcmp(&calls[0], a->calls[0], 18 * sizeof(int32_t)) != 0
@@ -645,7 +756,7 @@ static uint32_t make_typed(enum call call, const arguments *a, buffers *b)
             || memcmp(&calls[2], a->calls[2], 2 * sizeof(int32_t)) != 0)
             return UINT32_MAX;
         return wunqaber_run(a->width, a->height, calls, 3, b->canvas, a->canvas_length,
-                            b->answers, a->answers_length);
+                            b->background, a->background_length, b->answers, a->answers_length);
     }
     case WRITE_P5:
         return wunqaber_encode_p5(a->width, a->height, b->canvas, a->canvas_length, b->file, a->file_length, out);
@@ -725,6 +836,44 @@ static void written_radii(const check *c, buffers *b)
     }
 }
 
+/* The sheet without a layer, and its canvas: on the rows that the layer had painted the background, and over it what
+ * the other ovals had painted there, the first in 9 on three rows, the second with a border of 40 on two, the third, if
+ * there is one, in 9. Where the first lies beside the canvas its rows are copied all the same; where it lies above or
+ * below it, or has no row, none is. */
+static void written_without(const check *c, buffers *b)
+{
+    static const uint8_t plain[] = {100, 9, 9, 103, 9, 9, 9, 9};
+    static const uint8_t border[] = {100, 40, 40, 103, 40, 9, 9, 40, 108, 109, 110, 111, 112, 113, 114, 115};
+    int three = c->change == THIRD_LAYER, layer = three || c->change == LAYER ? c->value : 0;
+    int32_t rows = c->change == SHEET_NEXT_ROW ? c->value : three ? 2 : 3;
+
+    if (layer == 1 || (three && layer == 0))
+        memcpy(b->canvas, plain, sizeof plain);
+    else if (c->change != SHEET_LAYER_Y && c->change != SHEET_LAYER_HEIGHT)
+        memcpy(b->canvas, border, (size_t)rows * 4);
+    memmove(&b->sheet.layers[layer], &b->sheet.layers[layer + 1], (15 - (size_t)layer) * sizeof b->sheet.layers[0]);
+    memset(&b->sheet.layers[15], 0, sizeof b->sheet.layers[15]);
+    b->sheet.layers[15].style.stroke = b->sheet.layers[15].style.fill = WUNQABER_ABSENT;
+    b->sheet.count--;
+}
+
+/* The answers to a list of calls, and its canvas. */
+static void written_list(const check *c, buffers *b)
+{
+    static const uint32_t all_done[] = {0, 0, 0}, no_layer_last[] = {0, 0, WUNQABER_NO_LAYER};
+    static const uint32_t not_removed[] = {0, WUNQABER_CANVAS_LENGTH, 0};
+    int between = c->change == REMOVAL_BETWEEN && c->value == 16, last = c->change == REMOVAL && c->value == 0;
+
+    if (c->change == REMOVAL_BETWEEN && !between)
+        memcpy(b->answers, not_removed, sizeof not_removed);
+    else
+        memcpy(b->answers, last ? all_done : no_layer_last, sizeof all_done);
+    if (last)
+        memcpy(b->canvas, b->background, 4);
+    else if (!between)
+        b->canvas[1] = b->canvas[2] = 9;
+}
+
 /* What each call writes into the buffers where it is accepted. */
 static void written(const check *c, buffers *b)
 {
@@ -785,11 +934,8 @@ static void written(const check *c, buffers *b)
         b->sheet.layers[0].next_row = 1;
         b->canvas[1] = b->canvas[2] = 9;
         break;
-    case RUN_CALLS:
-        b->canvas[1] = b->canvas[2] = 9;
-        b->answers[0] = b->answers[1] = 0;
-        b->answers[2] = WUNQABER_NO_LAYER;
-        break;
+    case SHEET_REMOVE: written_without(c, b); break;
+    case RUN_CALLS: written_list(c, b); break;
     case WRITE_P5:
         memcpy(b->file, oblong ? header_oblong : header, sizeof header - 1);
         memcpy(b->file + sizeof header - 1, b->canvas, 16);

@@ -124,6 +124,15 @@ mod linked {
             canvas: *mut u8,
             canvas_length: usize,
         ) -> u32;
+        pub fn wunqaber_sheet_remove(
+            sheet: *mut i32,
+            sheet_length: usize,
+            layer: u32,
+            canvas: *mut u8,
+            canvas_length: usize,
+            background: *const u8,
+            background_length: usize,
+        ) -> u32;
         pub fn wunqaber_run_calls(
             width: u32,
             height: u32,
@@ -131,6 +140,8 @@ mod linked {
             calls_length: usize,
             canvas: *mut u8,
             canvas_length: usize,
+            background: *const u8,
+            background_length: usize,
             answers: *mut u32,
             answers_length: usize,
         ) -> u32;
@@ -269,7 +280,28 @@ pub fn sheet_paint(sheet: &mut [i32], layer: u32, canvas: &mut [u8]) -> u32 {
     }
 }
 
-pub fn run_calls(width: u32, height: u32, calls: &[i32], canvas: &mut [u8], answers: &mut [u32]) -> u32 {
+pub fn sheet_remove(sheet: &mut [i32], layer: u32, canvas: &mut [u8], background: &[u8]) -> u32 {
+    unsafe {
+        linked::wunqaber_sheet_remove(
+            sheet.as_mut_ptr(),
+            sheet.len(),
+            layer,
+            canvas.as_mut_ptr(),
+            canvas.len(),
+            background.as_ptr(),
+            background.len(),
+        )
+    }
+}
+
+pub fn run_calls(
+    width: u32,
+    height: u32,
+    calls: &[i32],
+    canvas: &mut [u8],
+    background: &[u8],
+    answers: &mut [u32],
+) -> u32 {
     unsafe {
         linked::wunqaber_run_calls(
             width,
@@ -278,6 +310,8 @@ pub fn run_calls(width: u32, height: u32, calls: &[i32], canvas: &mut [u8], answ
             calls.len(),
             canvas.as_mut_ptr(),
             canvas.len(),
+            background.as_ptr(),
+            background.len(),
             answers.as_mut_ptr(),
             answers.len(),
         )

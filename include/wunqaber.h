@@ -34,7 +34,7 @@ enum {
     WUNQABER_OFFSET = 5,        /* a stroke width is above 256, or an offset beyond -256 .. 256 */
     WUNQABER_CANVAS_SIDE = 6,   /* a canvas side is outside 1 .. 1024 */
     WUNQABER_SHEET_RULE = 7,    /* the sheet given breaks a rule */
-    WUNQABER_CANVAS_LENGTH = 8, /* the canvas length is not width times height */
+    WUNQABER_CANVAS_LENGTH = 8, /* the length of the canvas, or of a background, is not width times height */
     WUNQABER_SHEET_FULL = 9,    /* a figure is added to 16 layers */
     WUNQABER_NO_LAYER = 10,     /* there is no such layer */
     WUNQABER_NO_ROW_LEFT = 11,  /* the layer has no row left */
@@ -75,9 +75,9 @@ typedef struct {
 } wunqaber_sheet;
 
 /* 20 numbers: a call in a list of them (crates/sheet_call_numbers/specs/CallNumbers.antt). To add it has a figure and
- * a style; to paint it has a layer, counted from 0, and the numbers behind that are not looked at. Nor are the
- * last two of any call. wunqaber_make_add and wunqaber_make_paint fill it. */
-enum { WUNQABER_CALL_ADD = 0, WUNQABER_CALL_PAINT = 1 };
+ * a style; to paint, and to remove, it has a layer, counted from 0, and the numbers behind that are not looked at. Nor
+ * are the last two of any call. wunqaber_make_add, wunqaber_make_paint and wunqaber_make_remove fill it. */
+enum { WUNQABER_CALL_ADD = 0, WUNQABER_CALL_PAINT = 1, WUNQABER_CALL_REMOVE = 2 };
 typedef struct {
     int32_t kind;
     union {
@@ -206,10 +206,22 @@ uint32_t wunqaber_sheet_add(int32_t *sheet, size_t sheet_length,
 uint32_t wunqaber_sheet_paint(int32_t *sheet, size_t sheet_length, uint32_t layer,
                               uint8_t *canvas, size_t canvas_length);
 
-/* A list of add and paint calls, 20 numbers each (crates/sheet_call_numbers/specs/CallNumbers.antt), run from
- * a sheet just opened; the answer of each, 0 for accepted. Refused by 6, 8, 13; 100 for no list of calls. */
+/* A layer, counted from 0, removed: later layers move down one number and keep their next rows. Every row of the canvas
+ * that the layer had painted is copied whole from the background, and painted over again by the other layers that had
+ * painted it, in the order of adding; all other rows stay. Whether the layer has rows left does not matter, nor whether
+ * others wait for them. The background is the canvas as it was at opening: a copy, since the canvas overlaps no other
+ * buffer; other bytes of that length show on the rows that are copied. Refused by 7, 8 (for either length), 10. */
+uint32_t wunqaber_sheet_remove(int32_t *sheet, size_t sheet_length, uint32_t layer,
+                               uint8_t *canvas, size_t canvas_length,
+                               const uint8_t *background, size_t background_length);
+
+/* A list of add, paint and remove calls, 20 numbers each (crates/sheet_call_numbers/specs/CallNumbers.antt), run from
+ * a sheet just opened; the answer of each, 0 for accepted. All removals of the list get the one background, a copy of
+ * the canvas as it is lent; it may have any length, 0 too, but a removal is answered 8 if that is not the canvas's.
+ * Refused by 6, 8 (for the canvas), 13; 100 for no list of calls. */
 uint32_t wunqaber_run_calls(uint32_t width, uint32_t height, const int32_t *calls, size_t calls_length,
                             uint8_t *canvas, size_t canvas_length,
+                            const uint8_t *background, size_t background_length,
                             uint32_t *answers, size_t answers_length);
 
 /* The canvas as a Netpbm P5 file, and the file's length. Refused by 6, 8, 13. */
@@ -330,6 +342,16 @@ static inline uint32_t wunqaber_paint_next_row(wunqaber_sheet *sheet, uint32_t l
     return wunqaber_sheet_paint(WUNQABER_NUMBERS(*sheet), layer, canvas, canvas_length);
 }
 
+/* A layer, counted from 0, removed, and what it had painted with it. The background is the canvas as it was at opening,
+ * and must not overlap the canvas: keep a copy. */
+static inline uint32_t wunqaber_remove_layer(wunqaber_sheet *sheet, uint32_t layer,
+                                             uint8_t *canvas, size_t canvas_length,
+                                             const uint8_t *background, size_t background_length)
+{
+    return wunqaber_sheet_remove(WUNQABER_NUMBERS(*sheet), layer, canvas, canvas_length,
+                                 background, background_length);
+}
+
 /* A call for a list: to add a figure. */
 static inline wunqaber_call wunqaber_make_add(const wunqaber_figure *figure, const wunqaber_style *style)
 {
@@ -349,12 +371,24 @@ static inline wunqaber_call wunqaber_make_paint(int32_t layer)
     return call;
 }
 
-/* A list of calls run from a sheet just opened; the answer of each, 0 for accepted. `calls_length` is in calls. */
+/* A call for a list: to remove a layer. A negative layer is no call: 100. */
+static inline wunqaber_call wunqaber_make_remove(int32_t layer)
+{
+    wunqaber_call call = {WUNQABER_CALL_REMOVE, {{0, 0, 0, 0, 0, {0, 0, 0, 0, 0, 0, 0, 0}}}, {0, 0, 0, 0}, {0, 0}};
+
+    call.subject.layer = layer;
+    return call;
+}
+
+/* A list of calls run from a sheet just opened; the answer of each, 0 for accepted. `calls_length` is in calls. The
+ * background is for removals, and must not overlap the canvas: a copy of it, or without removals none, NULL and 0. */
 static inline uint32_t wunqaber_run(uint32_t width, uint32_t height, const wunqaber_call *calls, size_t calls_length,
-                                    uint8_t *canvas, size_t canvas_length, uint32_t *answers, size_t answers_length)
+                                    uint8_t *canvas, size_t canvas_length,
+                                    const uint8_t *background, size_t background_length,
+                                    uint32_t *answers, size_t answers_length)
 {
     return wunqaber_run_calls(width, height, (const int32_t *)calls, calls_length * (sizeof *calls / sizeof(int32_t)),
-                              canvas, canvas_length, answers, answers_length);
+                              canvas, canvas_length, background, background_length, answers, answers_length);
 }
 
 /* The canvas as a Netpbm P5 file, and the file's length in bytes. */

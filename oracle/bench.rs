@@ -3,14 +3,14 @@
 //! rows and by its `pixels`, and by the floor, which is the runs of the styled rows, computed
 //! beforehand, by slice fills alone. The page is also painted through a sheet, a row at a time.
 //!
-//! All of them must leave the same bytes, else nothing is timed. Then files are read (bench_reads.rs). Built by build.sh with
-//! PROGRAM=bench.
+//! All of them must leave the same bytes, else nothing is timed. Then tiles are removed from the page (bench_removals.rs), and
+//! files are read (bench_reads.rs). Built by build.sh with PROGRAM=bench.
 //!
 //!   bench            the tables
 //!   bench check      the bytes alone; prints no times
 
 use crate::{
-    bench_reads,
+    bench_reads, bench_removals,
     numbers::{figure_numbers, style_numbers},
     original::Original,
     records::{Answers, Figure, Kind, Style},
@@ -28,12 +28,12 @@ const BATCH: Duration = Duration::from_micros(400);
 const ROUNDS: usize = 400;
 
 /// Figures from the lowest to the uppermost, on a canvas of `w` by `h`.
-struct Scene {
-    name: &'static str,
-    w: i64,
-    h: i64,
-    figures: Vec<(Figure, Style)>,
-    sheet: bool,
+pub struct Scene {
+    pub name: &'static str,
+    pub w: i64,
+    pub h: i64,
+    pub figures: Vec<(Figure, Style)>,
+    pub sheet: bool,
 }
 
 fn inside(width: i64, fill: u8) -> Style {
@@ -71,8 +71,19 @@ fn tile(x: i64, y: i64) -> [(Figure, Style); 2] {
     ]
 }
 
+/// Eight tiles, four in a row.
+pub fn page() -> Scene {
+    let tiles = (0..8).flat_map(|i| tile(8 + 76 * (i % 4), 8 + 56 * (i / 4)));
+    Scene {
+        name: "page of 8 tiles",
+        w: 308,
+        h: 120,
+        figures: tiles.collect(),
+        sheet: true,
+    }
+}
+
 fn scenes() -> Vec<Scene> {
-    let page = (0..8).flat_map(|i| tile(8 + 76 * (i % 4), 8 + 56 * (i / 4)));
     vec![
         Scene {
             name: "tile 64 x 48, oval 24 x 24",
@@ -102,24 +113,18 @@ fn scenes() -> Vec<Scene> {
             figures: vec![(oval(0, 0, 200, 180), inside(5, 220))],
             sheet: false,
         },
-        Scene {
-            name: "page of 8 tiles",
-            w: 308,
-            h: 120,
-            figures: page.collect(),
-            sheet: true,
-        },
+        page(),
     ]
 }
 
 /// A figure and its style as the C interface takes them.
 #[derive(Clone)]
-struct Numbers {
-    figure: [i32; FIGURE_LENGTH],
-    style: [i32; STYLE_LENGTH],
+pub struct Numbers {
+    pub figure: [i32; FIGURE_LENGTH],
+    pub style: [i32; STYLE_LENGTH],
 }
 
-fn numbers((f, s): &(Figure, Style)) -> Numbers {
+pub fn numbers((f, s): &(Figure, Style)) -> Numbers {
     Numbers { figure: figure_numbers(f), style: style_numbers(s) }
 }
 
@@ -172,14 +177,14 @@ fn by_pixels(scene: &Scene, canvas: &mut [u8]) {
 }
 
 /// A run of bytes of the canvas and its colour.
-struct Run {
-    start: usize,
+pub struct Run {
+    pub start: usize,
     end: usize,
     colour: u8,
 }
 
 /// The runs of a scene within its canvas, those that show nothing left out.
-fn runs(scene: &Scene) -> Vec<Run> {
+pub fn runs(scene: &Scene) -> Vec<Run> {
     let mut list = Vec::new();
     for (f, s) in &scene.figures {
         for (y, ends) in Original.srows(f, s) {
@@ -202,7 +207,7 @@ fn runs(scene: &Scene) -> Vec<Run> {
     list
 }
 
-fn by_runs(runs: &[Run], canvas: &mut [u8]) {
+pub fn by_runs(runs: &[Run], canvas: &mut [u8]) {
     for run in black_box(runs) {
         canvas[run.start..run.end].fill(run.colour);
     }
@@ -284,9 +289,9 @@ pub fn main() {
             exit(1);
         }
     }
-    let files = bench_reads::check();
+    let (tiles, files) = (bench_removals::check(), bench_reads::check());
     if std::env::args().nth(1).as_deref() == Some("check") {
-        println!("bench: {} scenes and {files} files, the bytes are equal", scenes.len());
+        println!("bench: {} scenes, {tiles} tiles removed and {files} files, the bytes are equal", scenes.len());
         return;
     }
     println!("| scene | by | µs | / draw_styled | / pixels | / floor |");
@@ -304,6 +309,8 @@ pub fn main() {
             );
         }
     }
+    println!();
+    bench_removals::table();
     println!();
     bench_reads::table();
 }

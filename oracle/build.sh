@@ -138,6 +138,9 @@ mod stored;
 #[path = "$here/bench.rs"]
 mod bench;
 #[cfg(library)]
+#[path = "$here/bench_removals.rs"]
+mod bench_removals;
+#[cfg(library)]
 #[path = "$here/bench_reads.rs"]
 mod bench_reads;
 #[path = "$here/modes.rs"]

@@ -10,7 +10,7 @@ use crate::{
     findings,
     original::Original,
     records::{attempt, first_lent, Answers, Figure, Kind, Style},
-    reference::{self, area, fill_area, stroke_area, styled_row, Area, Book, Call, Reference},
+    reference::{self, area, fill_area, stroke_area, styled_row, Area, Call, Lent, Page, Reference},
 };
 use std::{collections::BTreeMap, fmt::Debug, time::Instant};
 
@@ -45,6 +45,7 @@ pub struct Report {
     different: BTreeMap<&'static str, Vec<(i64, String)>>,
     forecasts: BTreeMap<&'static str, Forecast>,
     decisions: Decisions,
+    removals: Removals,
     /// `draw` beside `paint`, both of the original: no demand, only a note
     draw_equal: u64,
     draw_other: u64,
@@ -74,6 +75,119 @@ impl Decisions {
             (met < least).then(|| format!("{rule}, {decision}: {met}"))
         })
     }
+}
+
+/// How often a layer was removed, by what it was then; of one removal several are true.
+#[derive(Default)]
+pub struct Removals(BTreeMap<&'static str, u64>);
+
+/// What a layer may be when it is removed. Its rows are those of its stroke area; 'there' is a row of the canvas that it has
+/// painted.
+const REMOVALS: [&str; 17] = [
+    "the only layer",
+    "the first of several",
+    "the last of several",
+    "one between others",
+    "without rows",
+    "before its first row",
+    "in the middle of its rows",
+    "after its last row",
+    "painted above the canvas alone",
+    "painted below the canvas alone",
+    "painted beside the canvas alone",
+    "an earlier layer has painted there, no later one has",
+    "a later layer has painted there, no earlier one has",
+    "earlier and later layers have painted there",
+    "no other layer has painted there",
+    "a later layer has still to paint there",
+    "a later layer waits for it",
+];
+
+/// And the lists in which layers are removed, by their background, or by what a removal was answered.
+const REMOVING_LISTS: [&str; 5] = [
+    "lists over the canvas as first lent",
+    "lists over another background",
+    "lists with a background of another length",
+    "lists with an empty background",
+    "lists with a removal refused by 10",
+];
+
+impl Removals {
+    /// Layer i of these is removed, each with its next row, from a canvas of w by h.
+    pub fn note(&mut self, w: i64, h: i64, layers: &[(Figure, Style, i64)], i: usize) {
+        for (kind, met) in REMOVALS.iter().zip(removal(w, h, layers, i)) {
+            *self.0.entry(kind).or_default() += met as u64;
+        }
+    }
+
+    /// A list of calls, and what it was answered.
+    pub fn note_list(&mut self, lent: Lent, calls: &[Call], answers: &[u32]) {
+        let answered = |number: u32| {
+            calls.iter().zip(answers).any(|(call, answer)| matches!(call, Call::Remove(_)) && *answer == number)
+        };
+        let pixels = lent.canvas.len();
+        let met = [
+            answered(0) && lent.background == lent.canvas,
+            answered(0) && lent.background != lent.canvas,
+            answered(8) && lent.background.len() != pixels && !lent.background.is_empty(),
+            answered(8) && lent.background.is_empty(),
+            answered(10),
+        ];
+        for (kind, met) in REMOVING_LISTS.iter().zip(met) {
+            *self.0.entry(kind).or_default() += met as u64;
+        }
+    }
+
+    pub fn print(&self) {
+        for (kind, count) in &self.0 {
+            println!("removed, {kind}: {count}");
+        }
+    }
+
+    /// What was met less often than this, if anything.
+    pub fn missed(&self, least: u64) -> Option<String> {
+        REMOVALS.iter().chain(&REMOVING_LISTS).find_map(|kind| {
+            let met = self.0.get(kind).copied().unwrap_or(0);
+            (met < least).then(|| format!("{kind}: {met}"))
+        })
+    }
+}
+
+/// Which of `REMOVALS` are true of layer i.
+fn removal(w: i64, h: i64, layers: &[(Figure, Style, i64)], i: usize) -> [bool; REMOVALS.len()] {
+    let areas: Vec<Area> = layers.iter().map(|(f, s, _)| stroke_area(f, s)).collect();
+    let (rows, next) = (areas[i].rows(), layers[i].2);
+    let (left, right) = (areas[i].top_left().0, areas[i].top_left().0 + areas[i].sides().0);
+    let painted = rows.start < next;
+    let seen = rows.start.max(0)..next.min(h);
+    // whether one of the rows seen is among those from a to b
+    let meets = |a: i64, b: i64| seen.start.max(a) < seen.end.min(b);
+    let has_painted = |j: usize| meets(areas[j].rows().start, layers[j].2);
+    let earlier = (0..i).any(has_painted);
+    let behind = || i + 1..layers.len();
+    let later = behind().any(has_painted);
+    [
+        layers.len() == 1,
+        layers.len() > 1 && i == 0,
+        layers.len() > 1 && i == layers.len() - 1,
+        0 < i && i < layers.len() - 1,
+        rows.is_empty(),
+        !painted && !rows.is_empty(),
+        painted && next < rows.end,
+        painted && next == rows.end,
+        painted && next <= 0,
+        painted && rows.start >= h,
+        !seen.is_empty() && (right <= 0 || w <= left),
+        earlier && !later,
+        later && !earlier,
+        earlier && later,
+        !seen.is_empty() && !earlier && !later,
+        behind().any(|j| meets(layers[j].2, areas[j].rows().end)),
+        behind().any(|j| {
+            let waits_at = layers[j].2;
+            areas[j].rows().contains(&waits_at) && next <= waits_at && rows.contains(&waits_at)
+        }),
+    ]
 }
 
 fn size_of(f: &Figure) -> i64 {
@@ -293,6 +407,34 @@ impl Report {
         }
     }
 
+    /// A list of calls: sheet against book; and without W3C boxes the canvas with the original's styled rows and, where all
+    /// is painted, with its `pixels`, figure after figure.
+    fn script(&mut self, script: &Script, done: bool) {
+        let calls = &script.calls;
+        let canvas = match reference::script(script.lent(), calls) {
+            Err(what) => return self.differs("script", &NONE, calls.len() as i64, format!("{what}: {calls:?}")),
+            Ok((answers, canvas)) => {
+                self.equal("script", answers.len() as u64 + 1);
+                canvas
+            }
+        };
+        if script.with_w3c {
+            return;
+        }
+        let by = attempt(|| reference::book_script(script.lent(), calls, &Original).1);
+        self.canvas("script rows", calls, by, &canvas);
+        if done {
+            let by = attempt(|| {
+                let mut bytes = script.page.ground.clone();
+                for (f, s) in script.page.book.figures() {
+                    Original.paint(f, s, script.w, script.h, &mut bytes);
+                }
+                bytes
+            });
+            self.canvas("script end", calls, by, &canvas);
+        }
+    }
+
     /// A W3C box is not in the original. Its rules, L and S and the offset too, are held against another wording of them, and its
     /// rows, points and contained points against the original's box of the confined radii, which
     /// the crate's rule leaves as they are.
@@ -354,6 +496,7 @@ impl Report {
             }
         }
         self.decisions.print();
+        self.removals.print();
         self.print_panics();
         println!("findings held against the original:");
         for (what, f) in &self.forecasts {
@@ -507,6 +650,11 @@ impl Rng {
         z = (z ^ (z >> 30)).wrapping_mul(0xbf58_476d_1ce4_e5b9);
         z = (z ^ (z >> 27)).wrapping_mul(0x94d0_49bb_1331_11eb);
         z ^ (z >> 31)
+    }
+
+    /// Other numbers, which take none away from these.
+    pub fn apart(&self) -> Rng {
+        Rng(self.0 ^ 0x5851_f42d_4c95_7f2d)
     }
 
     /// a..=b
@@ -693,9 +841,7 @@ impl Rng {
         let (w, h) = (self.within(1, 30), self.within(1, 30));
         let with_w3c = n % 3 == 0;
         let lent = first_lent(w, h, Some(self.within(0, 255)));
-        let mut calls = Vec::new();
-        let mut answers = Vec::new();
-        let mut book = Book::open();
+        let mut script = Script::open(w, h, with_w3c, lent, Vec::new());
         let adds = if n % 10 == 0 { 20 } else { self.within(1, 6) };
         let total = self.within(0, 160);
         let mut added = 0;
@@ -707,14 +853,67 @@ impl Rng {
             } else {
                 Call::Paint(match self.within(0, 3) {
                     0 => self.within(0, 16) as usize,
-                    1 => book.earliest().unwrap_or(0),
+                    1 => script.page.book.earliest().unwrap_or(0),
                     _ => self.within(0, added.max(1)) as usize,
                 })
             };
-            answers.push(book.call(&call));
-            calls.push(call);
+            script.note(call);
         }
-        Script { w, h, with_w3c, lent, calls, answers, book }
+        script
+    }
+
+    /// A list with removals among its calls, by n too. Its background is the canvas as first lent; of every fourth list one
+    /// with other bytes, and of two in sixteen one of another length or an empty one.
+    pub fn removing_script(&mut self, n: u64) -> Script {
+        let (w, h) = (self.within(1, 24), self.within(1, 24));
+        let with_w3c = n % 3 == 0;
+        let lent = self.pattern(w * h);
+        let background = match n % 16 {
+            3 | 7 | 11 | 15 => self.pattern(w * h),
+            6 => {
+                let length = self.of(&[1, w * h - 1, w * h + 1, 2 * w * h]);
+                self.pattern(if length == w * h { 0 } else { length })
+            }
+            14 => Vec::new(),
+            _ => lent.clone(),
+        };
+        let mut script = Script::open(w, h, with_w3c, lent, background);
+        // seldom a full sheet, and often one with a layer or two
+        let most = if n % 10 == 0 { 18 } else { self.within(1, 7) };
+        for _ in 0..self.within(1, 160) {
+            let noted = script.page.book.figures().count() as i64;
+            let call = match self.within(0, 15) {
+                0..=3 if noted < most => {
+                    let (f, s) = self.layer(with_w3c);
+                    // most of them where others are, on the canvas
+                    let crowded = Figure { x: f.x % (w + 4) - 2, y: f.y % (h + 4) - 2, ..f };
+                    Call::Add(if self.within(0, 3) > 0 { crowded } else { f }, s)
+                }
+                4 => Call::Remove(self.which(noted)),
+                5 => Call::Paint(self.within(0, 16) as usize),
+                6..=10 => Call::Paint(script.page.book.earliest().unwrap_or(0)),
+                _ => Call::Paint(self.within(0, noted.max(1)) as usize),
+            };
+            script.note(call);
+        }
+        script
+    }
+
+    /// Which of so many layers is removed; some are not there.
+    fn which(&mut self, noted: i64) -> usize {
+        let i = match self.within(0, 9) {
+            0 => 0,
+            1 => (noted - 1).max(0),
+            2 => noted,
+            3 => self.of(&[15, 16, 17, i32::MAX as i64]),
+            _ => self.within(0, (noted - 1).max(0)),
+        };
+        i as usize
+    }
+
+    /// Bytes of a canvas at random.
+    pub fn pattern(&mut self, length: i64) -> Vec<u8> {
+        (0..length).map(|_| self.next() as u8).collect()
     }
 
     /// A small figure to be added. Some are to be refused, some for more than one reason.
@@ -746,26 +945,53 @@ impl Rng {
     }
 }
 
-/// A list of calls with the book's answers to them.
+/// A list of calls with the book's answers to them, and the canvas and the background that come with it.
 pub struct Script {
     pub w: i64,
     pub h: i64,
     pub with_w3c: bool,
     pub lent: Vec<u8>,
+    pub background: Vec<u8>,
     pub calls: Vec<Call>,
     pub answers: Vec<u32>,
-    pub book: Book,
+    pub page: Page,
 }
 
 impl Script {
+    fn open(w: i64, h: i64, with_w3c: bool, lent: Vec<u8>, background: Vec<u8>) -> Script {
+        let page = Page::open(w, h, &lent);
+        Script { w, h, with_w3c, lent, background, calls: Vec::new(), answers: Vec::new(), page }
+    }
+
+    pub fn note(&mut self, call: Call) -> u32 {
+        let answer = self.page.call(&call, &self.background);
+        self.answers.push(answer);
+        self.calls.push(call);
+        answer
+    }
+
     /// "While any figure has rows left, a paint call for the earliest such one is accepted": the call
     /// for the earliest, noted, and its answer.
     pub fn paint_earliest(&mut self) -> Option<u32> {
-        let call = Call::Paint(self.book.earliest()?);
-        let answer = self.book.call(&call);
-        self.answers.push(answer);
-        self.calls.push(call);
-        Some(answer)
+        let call = Call::Paint(self.page.book.earliest()?);
+        Some(self.note(call))
+    }
+
+    /// How many layers can be removed.
+    pub fn removable(&self) -> usize {
+        match self.background.len() == self.lent.len() {
+            true => self.page.book.figures().count(),
+            false => 0,
+        }
+    }
+
+    /// One of them.
+    pub fn any_layer(&self, rng: &mut Rng) -> usize {
+        rng.within(0, self.removable() as i64 - 1) as usize
+    }
+
+    pub fn lent(&self) -> Lent<'_> {
+        Lent { w: self.w, h: self.h, canvas: &self.lent, background: &self.background }
     }
 }
 
@@ -1024,56 +1250,43 @@ fn random_equal_edges(r: &mut Report, rng: &mut Rng, count: u64) {
     }
 }
 
-/// Lists of add and paint calls: sheet against book, and the canvas against the original.
-fn scripts(r: &mut Report, rng: &mut Rng, count: u64) {
+/// Lists of calls: sheet against book, and the canvas against the original.
+fn scripts(r: &mut Report, count: u64, mut any: impl FnMut(u64) -> Script) {
     let mut accepted = 0u64;
     let mut refused: BTreeMap<u32, u64> = BTreeMap::new();
     for n in 0..count {
-        let mut script = rng.script(n);
+        let mut script = any(n);
         for answer in &script.answers {
             match answer {
                 0 => accepted += 1,
                 _ => *refused.entry(*answer).or_default() += 1,
             }
         }
-        let (w, h, with_w3c, lent) = (script.w, script.h, script.with_w3c, script.lent.clone());
-        let compared = |r: &mut Report, calls: &[Call], done: bool| match reference::script(w, h, &lent, calls) {
-            Err(what) => r.differs("script", &NONE, calls.len() as i64, format!("{what}: {calls:?}")),
-            Ok((answers, canvas)) => {
-                r.equal("script", answers.len() as u64 + 1);
-                if with_w3c {
-                    return;
-                }
-                // the same list with the original's styled rows
-                let by = attempt(|| reference::book_script(w, h, &lent, calls, &Original).1);
-                r.canvas("script rows", calls, by, &canvas);
-                if done {
-                    // finished: the original's `pixels`, figure after figure
-                    let mut book = Book::open();
-                    for c in calls {
-                        book.call(c);
-                    }
-                    let by = attempt(|| {
-                        let mut bytes = lent.clone();
-                        for (f, s) in book.figures() {
-                            Original.paint(f, s, w, h, &mut bytes);
-                        }
-                        bytes
-                    });
-                    r.canvas("script end", calls, by, &canvas);
-                }
-            }
-        };
-        compared(r, &script.calls, false);
+        r.script(&script, false);
         while let Some(answer) = script.paint_earliest() {
             if answer != 0 {
                 r.differs("script", &NONE, 0, format!("the earliest gets {answer}: {:?}", script.calls));
                 break;
             }
         }
-        compared(r, &script.calls, true);
+        r.script(&script, true);
     }
     println!("script calls before the finish: {accepted} accepted, refused by number {refused:?}");
+}
+
+/// Lists with removals among their calls; and such that go on until no layer is left.
+fn removing_scripts(r: &mut Report, rng: &mut Rng, count: u64) {
+    scripts(r, count, |n| rng.removing_script(n));
+    for n in 0..count {
+        let mut script = rng.removing_script(n);
+        for _ in 0..script.removable() {
+            let i = script.any_layer(rng);
+            r.removals.note(script.w, script.h, &script.page.book.layers(), i);
+            script.note(Call::Remove(i));
+        }
+        r.script(&script, false);
+        r.removals.note_list(script.lent(), &script.calls, &script.answers);
+    }
 }
 
 use Said::*;
@@ -1293,6 +1506,7 @@ pub fn run(seed: u64, effort: u64) -> bool {
     part("radii up to the limits, random", &mut |r| random_radii(r, &mut rng, 20_000 * effort));
     part("boxes with equal edges, random", &mut |r| random_equal_edges(r, &mut Rng(seed), 20_000 * effort));
     part("figures up to the limits, random", &mut |r| random_large(r, &mut rng, 1_000 * effort));
-    part("scripts, random", &mut |r| scripts(r, &mut rng, 100 * effort));
+    part("scripts, random", &mut |r| scripts(r, 100 * effort, |n| rng.script(n)));
+    part("scripts with removals, random", &mut |r| removing_scripts(r, &mut Rng(seed), 100 * effort));
     r.print()
 }

@@ -2,13 +2,13 @@
 //! answer, on any numbers: 100, 101 and the lowest refusal by the header and the reference; values by the
 //! ORIGINAL where it finishes, else by the reference, which also has what the original lacks (W3C boxes, L and S of
 //! confined radii, sheets, lists of calls, files). Answers, values and every number and byte of every buffer are
-//! compared, with some right behind the part that is lent for values, and for files before it too; after a refusal none
+//! compared, with some right behind the part that is lent for values, and for files and removals before it too; after a refusal none
 //! may differ. The first difference is printed whole, with the call as a line that `replay` reads, and ends the program
 //! with status 1.
 
 use crate::{
     asked::Ask::{self, *},
-    compare::{Decisions, Report},
+    compare::{Decisions, Removals, Report},
     lines::{
         self,
         Argument::{self, Bytes, Number, Numbers},
@@ -21,10 +21,11 @@ use crate::{
     original::Original,
     records::{attempt, first_lent, lowest, Answers, Figure, Kind},
     reference::{
-        self, asked_refusal, canvas_refusal, figure_refusal, offset_refusal, style_refusal, Confined, Reference, Sheet,
+        self, asked_refusal, canvas_refusal, figure_refusal, offset_refusal, style_refusal, Confined, Lent, Reference,
+        Sheet,
     },
     stored::{Chosen, CALLS, CALLS_OF_C},
-    wunqaber::{self as library, CALL_LENGTH, CONFINED_LENGTH, NOTHING, NO_RECORD, SHEET_LENGTH},
+    wunqaber::{self as library, CALL_LENGTH, CONFINED_LENGTH, LAYER_LENGTH, NOTHING, NO_RECORD, SHEET_LENGTH},
 };
 use std::{collections::BTreeMap, fmt::Debug, process::exit};
 
@@ -71,6 +72,8 @@ pub struct Held {
     panics: Report,
     /// the boxes whose radii, L and S were compared
     decisions: Decisions,
+    /// the layers that were removed, and the lists with removals
+    removals: Removals,
     /// calls for `replay`, if any are to be stored
     pub chosen: Option<Chosen>,
 }
@@ -373,24 +376,65 @@ impl Held {
         answer
     }
 
-    pub fn run_calls(&mut self, width: u32, height: u32, n: &[i32], lent: &[u8], room: usize) {
+    /// A layer removed from a sheet given by any numbers; sheet and canvas are left as the call left them. All three buffers have
+    /// guards at both ends, and no call writes to the background.
+    pub fn sheet_remove(&mut self, sheet: &mut [i32], layer: u32, canvas: &mut [u8], background: &[u8]) -> u32 {
+        let (before, lent) = (sheet.to_vec(), canvas.to_vec());
+        let (mut all, mut bytes) = (before.clone(), lent.clone());
+        let by = read_sheet(&before).ok_or(NO_RECORD).and_then(|record| {
+            let mut given = Sheet::given(record.w, record.h, record.count, &record.places)?;
+            let i = layer as usize;
+            match given.remove(i, &mut bytes, background) {
+                0 => {}
+                number => return Err(number),
+            }
+            // all places behind it move down, used or not, and the last is as in a sheet just opened
+            all.copy_within(place_of(i + 1).., place_of(i));
+            all[place_of(15)..].copy_from_slice(&opened(1, 1)[place_of(15)..]);
+            all[2] -= 1;
+            let next_rows = |j: usize| all[place_of(j) + LAYER_LENGTH - 1] as i64 == given.next_row(j);
+            assert!((0..all[2] as usize).all(next_rows), "oracle: a next row is not the layer's");
+            self.removals.note(record.w, record.h, &record.places, i);
+            Ok(By::Reference)
+        });
+        let numbers = |list: &[i32]| Guarded::new(list.to_vec(), MARK);
+        let guarded = |list: &[u8]| Guarded::new(list.to_vec(), BYTE_MARK);
+        let (mut left, mut painted, under) = (numbers(&before), guarded(&lent), guarded(background));
+        let answer = library::sheet_remove(left.lent_mut(), layer, painted.lent_mut(), under.lent());
+        let wanted = (numbers(&all), guarded(&bytes), guarded(background));
+        let asked = || vec![Numbers(&before), Number(layer as i64), Bytes(&lent), Bytes(background)];
+        let after = || vec![Numbers(&all), Bytes(&bytes), Bytes(background)];
+        sheet.copy_from_slice(left.lent());
+        canvas.copy_from_slice(painted.lent());
+        self.call("sheet_remove", by, wanted, (answer, (left, painted, under)), asked, after);
+        answer
+    }
+
+    /// A list of calls, with a canvas as first lent and a background.
+    pub fn run_calls(&mut self, width: u32, height: u32, n: &[i32], lent: &[u8], background: &[u8], room: usize) {
         let (w, h) = (width as i64, height as i64);
         let mut canvas = lent.to_vec();
         let mut answers = vec![MARK as u32; room + 2];
         let (mut bytes, mut all) = (lent.to_vec(), answers.clone());
+        // the background is looked at by removals alone
         let lent_refusals = [canvas_refusal(w, h), wrong_length(width, height, lent.len())];
         let refusals = [lowest(&lent_refusals), too_short(n.len() / CALL_LENGTH, room)];
         let by = refused_or(&refusals).and_then(|()| read_calls(n).ok_or(NO_RECORD)).map(|calls| {
-            let (said, painted) = reference::script(w, h, lent, &calls).expect("oracle: sheet and book agree");
+            let with = Lent { w, h, canvas: lent, background };
+            let (said, painted) = reference::script(with, &calls).expect("oracle: sheet and book agree");
+            self.removals.note_list(with, &calls, &said);
             all[..said.len()].copy_from_slice(&said);
             bytes = painted;
             By::Reference
         });
-        let answer = library::run_calls(width, height, n, &mut canvas, &mut answers[..room]);
+        let under = background.to_vec();
+        let answer = library::run_calls(width, height, n, &mut canvas, &under, &mut answers[..room]);
         let [marks, all, answers] = [vec![MARK as u32; room], all, answers].map(as_signed);
-        let asked = || vec![Number(w), Number(h), Numbers(n), Bytes(lent), Numbers(&marks)];
-        let after = || vec![Numbers(n), Numbers(&all[..room]), Bytes(&bytes)];
-        self.call("run_calls", by, (&bytes, &all), (answer, (&canvas, &answers)), asked, after);
+        let asked =
+            || vec![Number(w), Number(h), Numbers(n), Bytes(lent), Bytes(background), Numbers(&marks)];
+        let after = || vec![Numbers(n), Numbers(&all[..room]), Bytes(&bytes), Bytes(background)];
+        let wanted = (&bytes[..], background, &all);
+        self.call("run_calls", by, wanted, (answer, (&canvas[..], &under[..], &answers)), asked, after);
     }
 
     /// A canvas written into a buffer so much longer than the file, or shorter; what the call left there.
@@ -468,6 +512,7 @@ impl Held {
         println!("{:<20} {:>15} {:>14} {:>10}", "all", sum.original, sum.reference, sum.all_refused());
         println!("refused by number: {:?}", sum.refused);
         self.decisions.print();
+        self.removals.print();
         self.panics.print_panics();
         let panics: u64 = self.panics.tallies.values().map(|t| t.panics).sum();
         // Where the original panics the reference stands in for it: that is to stay the exception.
@@ -482,6 +527,14 @@ impl Held {
     pub fn each_decision_met(&self, least: u64) {
         if let Some(missed) = self.decisions.missed(least) {
             println!("DIFFERENT: too few boxes were confined, {missed}");
+            exit(1);
+        }
+    }
+
+    /// Ends the program where, of the ways in which a layer comes to be removed, one was met less often than this.
+    pub fn each_removal_met(&self, least: u64) {
+        if let Some(missed) = self.removals.missed(least) {
+            println!("DIFFERENT: too few layers were removed, {missed}");
             exit(1);
         }
     }

@@ -63,6 +63,7 @@ pub fn call_numbers(call: &Call, unread: i32) -> [i32; CALL_LENGTH] {
             n[14..18].copy_from_slice(&style_numbers(s));
         }
         Call::Paint(layer) => n[..2].copy_from_slice(&[1, *layer as i32]),
+        Call::Remove(layer) => n[..2].copy_from_slice(&[2, *layer as i32]),
     }
     n
 }
@@ -98,6 +99,7 @@ pub fn read_call(n: &[i32]) -> Option<Call> {
     match n[0] {
         0 => Some(Call::Add(read_figure(&n[1..14])?, read_style(&n[14..18])?)),
         1 => Some(Call::Paint(usize::try_from(n[1]).ok()?)),
+        2 => Some(Call::Remove(usize::try_from(n[1]).ok()?)),
         _ => None,
     }
 }

@@ -563,10 +563,12 @@ impl Answers for Reference {
 
 // ---- the sheet and the book ----
 
+/// A call with its arguments other than the sheet, its canvas and a background.
 #[derive(Clone, Debug)]
 pub enum Call {
     Add(Figure, Style),
     Paint(usize),
+    Remove(usize),
 }
 
 /// The lowest of numbers 1, 2, 3, 5 that applies.
@@ -596,6 +598,11 @@ impl Layer {
     /// "An earlier layer owes y if y is among its rows and its next row is ≤ y."
     fn owes(&self, y: i64) -> bool {
         self.stroke.rows().contains(&y) && self.next <= y
+    }
+
+    /// A row that it had painted: one that it went past.
+    fn had_painted(&self, y: i64) -> bool {
+        self.stroke.rows().contains(&y) && y < self.next
     }
 }
 
@@ -681,6 +688,31 @@ impl Sheet {
         layer.next += 1;
         0
     }
+
+    /// "Removing a layer takes the sheet, the canvas and a background of the same length" (document 02).
+    pub fn remove(&mut self, i: usize, bytes: &mut [u8], background: &[u8]) -> u32 {
+        // "Number 8 covers either buffer"
+        let pixels = (self.w * self.h) as usize;
+        if bytes.len() != pixels || background.len() != pixels {
+            return 8;
+        }
+        if i >= self.layers.len() {
+            return 10;
+        }
+        // "Later layers move down one number."
+        let gone = self.layers.remove(i);
+        // "Rows that the layer had painted are copied whole from the background and overpainted by the other layers that
+        // had painted them."
+        for y in (0..self.h).filter(|y| gone.had_painted(*y)) {
+            let row = (y * self.w) as usize..((y + 1) * self.w) as usize;
+            bytes[row.clone()].copy_from_slice(&background[row]);
+            for other in self.layers.iter().filter(|other| other.had_painted(y)) {
+                let runs = styled_row(&other.stroke, &other.fill, y).unwrap();
+                overpaint_at(bytes, self.w, self.h, y, &runs, &other.style);
+            }
+        }
+        0
+    }
 }
 
 /// "The book of demand 3": figures in order, each with its style and a count.
@@ -737,6 +769,15 @@ impl Book {
                 self.noted[*i].2 += 1;
                 0
             }
+            Call::Remove(i) => {
+                // "the number 10 if no more than i figures are noted; else it accepts and strikes out figure i with its
+                // count, whether or not that has rows left: 11 and 12 are for paint calls" (document 02)
+                if self.noted.len() <= *i {
+                    return 10;
+                }
+                self.noted.remove(*i);
+                0
+            }
         }
     }
 
@@ -765,38 +806,97 @@ impl Book {
     pub fn figures(&self) -> impl Iterator<Item = (&Figure, &Style)> {
         self.noted.iter().map(|(f, s, _)| (f, s))
     }
+
+    /// The figures with the first row that each has left: the layers of a sheet.
+    pub fn layers(&self) -> Vec<(Figure, Style, i64)> {
+        (0..self.noted.len()).map(|i| (self.noted[i].0, self.noted[i].1, self.painted(i).end)).collect()
+    }
+}
+
+/// A book, and what lies under its figures: the canvas as first lent; but where a figure struck out had painted a row, the
+/// background's row. So with the canvas as first lent for background "each canvas row is the background row overpainted by
+/// the layers still present that have painted it" (document 02), and with any other it is known what lies under them.
+pub struct Page {
+    w: i64,
+    h: i64,
+    pub book: Book,
+    pub ground: Vec<u8>,
+}
+
+impl Page {
+    pub fn open(w: i64, h: i64, first_lent: &[u8]) -> Page {
+        Page { w, h, book: Book::open(), ground: first_lent.to_vec() }
+    }
+
+    /// The book's answer. "Number 8 covers either buffer; a removal with another canvas or background stands in no list":
+    /// with one of another length it gets 8, and the book is not asked.
+    pub fn call(&mut self, call: &Call, background: &[u8]) -> u32 {
+        let Call::Remove(i) = call else {
+            return self.book.call(call);
+        };
+        if background.len() as i64 != self.w * self.h {
+            return 8;
+        }
+        let there = *i < self.book.noted.len();
+        let seen = if there { self.book.painted(*i) } else { 0..0 };
+        for y in seen.start.max(0)..seen.end.min(self.h) {
+            let row = (y * self.w) as usize..((y + 1) * self.w) as usize;
+            self.ground[row.clone()].copy_from_slice(&background[row]);
+        }
+        self.book.call(call)
+    }
+
+    /// With the styled rows that `by` gives.
+    pub fn canvas(&self, by: &dyn Answers) -> Vec<u8> {
+        self.book.canvas(self.w, self.h, &self.ground, by)
+    }
+}
+
+/// What comes with a list of calls: a canvas of some sides as first lent, and the background of its removals.
+#[derive(Clone, Copy)]
+pub struct Lent<'a> {
+    pub w: i64,
+    pub h: i64,
+    pub canvas: &'a [u8],
+    pub background: &'a [u8],
 }
 
 /// A whole list of calls in the book alone, with the styled rows of `by`.
-pub fn book_script(w: i64, h: i64, first: &[u8], calls: &[Call], by: &dyn Answers) -> (Vec<u32>, Vec<u8>) {
-    let mut book = Book::open();
-    let answers = calls.iter().map(|c| book.call(c)).collect();
-    (answers, book.canvas(w, h, first, by))
+pub fn book_script(lent: Lent, calls: &[Call], by: &dyn Answers) -> (Vec<u32>, Vec<u8>) {
+    let mut page = Page::open(lent.w, lent.h, lent.canvas);
+    let answers = calls.iter().map(|c| page.call(c, lent.background)).collect();
+    (answers, page.canvas(by))
 }
 
 /// A whole list of calls, on the sheet and in the book: the answers and the canvas, or what
 /// differs between the two.
-pub fn script(w: i64, h: i64, first: &[u8], calls: &[Call]) -> Result<(Vec<u32>, Vec<u8>), String> {
-    let mut sheet = match Sheet::open(w, h) {
+pub fn script(lent: Lent, calls: &[Call]) -> Result<(Vec<u32>, Vec<u8>), String> {
+    let mut sheet = match Sheet::open(lent.w, lent.h) {
         Ok(sheet) => sheet,
         Err(n) => return Ok((vec![n], Vec::new())),
     };
-    let mut book = Book::open();
-    let mut bytes = first.to_vec();
+    let mut page = Page::open(lent.w, lent.h, lent.canvas);
+    let mut bytes = lent.canvas.to_vec();
     let mut answers = Vec::new();
     for (at, call) in calls.iter().enumerate() {
         let answer = match call {
             Call::Add(f, s) => sheet.add(f, s),
             Call::Paint(i) => sheet.paint(*i, &mut bytes),
+            Call::Remove(i) => sheet.remove(*i, &mut bytes, lent.background),
         };
-        let noted = book.call(call);
+        let noted = page.call(call, lent.background);
         if answer != noted {
             return Err(format!("call {at}: sheet {answer}, book {noted}"));
         }
         answers.push(answer);
     }
-    if book.canvas(w, h, first, &Reference) != bytes {
+    if page.canvas(&Reference) != bytes {
         return Err("canvas of the sheet and of the book differ".to_string());
+    }
+    let next_rows = |(i, l): (usize, &(Figure, Style, i64))| l.2 == sheet.next_row(i);
+    let layers = page.book.layers();
+    if layers.len() != sheet.layers.len() || !layers.iter().enumerate().all(next_rows) {
+        return Err("next rows of the sheet and of the book differ".to_string());
     }
     Ok((answers, bytes))
 }

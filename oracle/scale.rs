@@ -15,8 +15,8 @@ use crate::{
     numbers::{call_numbers, figure_numbers, given_figure, opened, place_of, style_numbers, styled_numbers},
     original::Original,
     records::{first_lent, Answers, Figure, Kind, Style},
-    reference::{self, area, stroke_area, Book, Call, Reference},
-    wunqaber::{self as library, CONFINED_LENGTH, FIGURE_LENGTH, NOTHING, SHEET_LENGTH},
+    reference::{self, area, stroke_area, Book, Call, Page, Reference},
+    wunqaber::{self as library, CALL_LENGTH, CONFINED_LENGTH, FIGURE_LENGTH, NOTHING, SHEET_LENGTH},
 };
 use std::time::Instant;
 
@@ -149,6 +149,32 @@ impl Held {
         self.changed_sheet(&sheet, &canvas, rng);
     }
 
+    /// A list with removals, likewise; of every second all is painted then. Then layers are removed until none is left, and
+    /// what lies under them is all that shows.
+    fn removing_script(&mut self, mut script: Script, rng: &mut Rng) {
+        let (w, h) = (script.w as u32, script.h as u32);
+        let mut sheet = self.sheet_open(w, h, SHEET_LENGTH);
+        let mut canvas = script.lent.clone();
+        let mut done = 0;
+        self.calls(&script, &mut done, &mut sheet, &mut canvas);
+        self.changed_sheet(&sheet, &canvas, rng);
+        if rng.within(0, 1) == 0 {
+            while let Some(answer) = script.paint_earliest() {
+                assert_eq!(answer, 0, "oracle: the earliest figure with rows left is refused");
+            }
+        }
+        for _ in 0..script.removable() {
+            let layer = script.any_layer(rng);
+            script.note(Call::Remove(layer));
+            self.calls(&script, &mut done, &mut sheet, &mut canvas);
+        }
+        if script.background.len() == script.lent.len() {
+            let asked = || format!("the canvas without layers after {:?}", script.calls);
+            let (wanted, found) = (&script.page.ground[..], &canvas[..]);
+            self.hold("canvas without layers", Ok(By::Reference), wanted, (library::DONE, found), asked);
+        }
+    }
+
     /// The calls of a script that are not made yet, the answers those of the book; then the canvas by
     /// the original's pixels, layer by layer; then all calls as one list.
     fn calls(&mut self, script: &Script, done: &mut usize, sheet: &mut [i32], canvas: &mut [u8]) {
@@ -157,21 +183,22 @@ impl Held {
             let answer = match call {
                 Call::Add(f, s) => self.sheet_add(sheet, &figure_numbers(f), &style_numbers(s)),
                 Call::Paint(layer) => self.sheet_paint(sheet, *layer as u32, canvas),
+                Call::Remove(layer) => self.sheet_remove(sheet, *layer as u32, canvas, &script.background),
             };
             let asked = || format!("the book's answer to the last of {:?}", script.calls);
             self.hold("sheet calls by book", Ok(By::Reference), *noted, (library::DONE, answer), asked);
         }
         *done = script.calls.len();
-        self.canvas_by_pixels(&script.book, script.w, script.h, &script.lent, canvas);
+        self.canvas_by_pixels(&script.page, script.w, script.h, canvas);
         let numbers: Vec<i32> = script.calls.iter().flat_map(|c| call_numbers(c, -7)).collect();
-        self.run_calls(w, h, &numbers, &script.lent, script.calls.len());
+        self.run_calls(w, h, &numbers, &script.lent, &script.background, script.calls.len());
     }
 
-    /// The canvas of a sheet and as the book has it: the figures in the order of adding, of each the
-    /// original's pixels (the reference's for a W3C box, and where the original fails) on the rows that it
-    /// has painted.
-    fn canvas_by_pixels(&mut self, book: &Book, w: i64, h: i64, lent: &[u8], canvas: &[u8]) {
-        let mut bytes = lent.to_vec();
+    /// The canvas of a sheet and as the book has it: over what lies under them the figures in the order of
+    /// adding, of each the original's pixels (the reference's for a W3C box, and where the original fails) on
+    /// the rows that it has painted.
+    fn canvas_by_pixels(&mut self, page: &Page, w: i64, h: i64, canvas: &[u8]) {
+        let (book, mut bytes) = (&page.book, page.ground.clone());
         let mut all_by = By::Original;
         for (i, (f, s)) in book.figures().enumerate() {
             let on = |by: &dyn Answers| {
@@ -189,11 +216,12 @@ impl Held {
                 bytes[row.clone()].copy_from_slice(&whole[row]);
             }
         }
-        let asked = || format!("canvas {w} {h} {lent:?} painted with {:?}", book.figures().collect::<Vec<_>>());
+        let figures = || book.figures().collect::<Vec<_>>();
+        let asked = || format!("canvas {w} {h} {:?} painted with {:?}", page.ground, figures());
         self.hold("canvas by pixels", Ok(all_by), &bytes[..], (library::DONE, canvas), asked);
     }
 
-    /// A sheet with one of its numbers changed, or its length: added to, and painted.
+    /// A sheet with one of its numbers changed, or its length: added to, painted, and a layer removed.
     fn changed_sheet(&mut self, sheet: &[i32], canvas: &[u8], rng: &mut Rng) {
         let mut changed = sheet.to_vec();
         let used = place_of(sheet[2].max(1) as usize) as i64;
@@ -218,8 +246,26 @@ impl Held {
         self.sheet_add(&mut sheet.to_vec(), &figure_numbers(&f), &style_numbers(&s));
         let layer = if rng.within(0, 9) == 0 { odd(rng) } else { rng.within(0, 7) as i32 };
         self.sheet_paint(&mut sheet.to_vec(), layer as u32, &mut canvas.to_vec());
+        self.any_removal(sheet, canvas, &mut rng.apart());
+    }
+
+    /// Canvas and background may have another length, and the layer need not be there.
+    fn any_removal(&mut self, sheet: &[i32], canvas: &[u8], rng: &mut Rng) {
+        let length = |rng: &mut Rng| {
+            let fits = canvas.len() as i64;
+            if rng.within(0, 11) == 0 { rng.of(&[0, 1, fits - 1, fits + 1, 2 * fits]) } else { fits }
+        };
+        let mut canvas = canvas.to_vec();
+        canvas.resize(length(rng) as usize, 7);
+        let under = length(rng);
+        let background = rng.pattern(under);
+        let layer = if rng.within(0, 9) == 0 { odd(rng) } else { rng.within(0, 7) as i32 };
+        self.sheet_remove(&mut sheet.to_vec(), layer as u32, &mut canvas, &background);
     }
 }
+
+/// How many lists with removals are made before the random rounds.
+const LISTS_WITH_REMOVALS: u64 = 2000;
 
 /// How many random rounds are made at least.
 const LEAST_ROUNDS: u64 = 20;
@@ -346,10 +392,38 @@ fn any_buffers(r: &mut Held, rng: &mut Rng) {
     }
     let room = script.calls.len() + rng.of(&[0, 0, 0, 2]) as usize;
     let room = if rng.within(0, 9) == 0 { rng.within(0, room as i64) as usize } else { room };
+    // a list without removals needs no background
     match rng.within(0, 4) {
-        0 => r.run_calls(w, h, &numbers, &canvas, room),
-        _ => r.run_calls(script.w as u32, script.h as u32, &numbers, &script.lent, room),
+        0 => r.run_calls(w, h, &numbers, &canvas, &[], room),
+        _ => r.run_calls(script.w as u32, script.h as u32, &numbers, &script.lent, &[], room),
     }
+    any_removing_list(r, &mut rng.apart(), seed as u64);
+}
+
+/// A list with removals that may be refused, or have something in it that is no call.
+fn any_removing_list(r: &mut Held, rng: &mut Rng, n: u64) {
+    let script = rng.removing_script(n);
+    let mut numbers: Vec<i32> = script.calls.iter().flat_map(|c| call_numbers(c, odd(rng))).collect();
+    for _ in 0..rng.of(&[0, 0, 1, 2]) {
+        let at = rng.within(0, script.calls.len() as i64 - 1) as usize * CALL_LENGTH;
+        match rng.within(0, 2) {
+            0 => numbers[at] = rng.of(&[-1, 0, 1, 2, 2, 2, 3, 4]) as i32,
+            1 => numbers[at + 1] = odd(rng),
+            _ => numbers[at + rng.within(0, 19) as usize] = odd(rng),
+        }
+    }
+    let (w, h) = (script.w as u32, script.h as u32);
+    let mut lent = script.lent.clone();
+    if rng.within(0, 9) == 0 {
+        // 8 for the canvas, also where the background has its length
+        lent.push(0);
+    }
+    let background = match rng.within(0, 3) {
+        0 => &lent,
+        _ => &script.background,
+    };
+    let room = script.calls.len() as i64 + rng.of(&[0, 0, 0, 0, 1, -1]);
+    r.run_calls(w, h, &numbers, &lent, background, room as usize);
 }
 
 /// A sheet with 16 layers, some rows of them painted, and each of its numbers, or every so many-th, changed to each limit.
@@ -375,6 +449,40 @@ pub fn each_number_of_a_sheet(r: &mut Held, rng: &mut Rng, step: usize) {
                 let mut changed = sheet.clone();
                 changed[at] = limit as i32;
                 r.given_sheet(&changed, &canvas, rng);
+            }
+        }
+    }
+}
+
+/// Every sheet of three small boxes with rows on, above and below a canvas 3 by 3, each with every next row, and each of their
+/// layers removed. Some break the rules.
+fn small_sheets(r: &mut Held) {
+    let boxes: Vec<(i64, i64)> = (-1..=2).flat_map(|y| (0..=2).map(move |h| (y, h))).collect();
+    let (canvas, background) = (first_lent(3, 3, Some(50)), first_lent(3, 3, Some(101)));
+    let mut sheet = opened(3, 3).to_vec();
+    sheet[2] = 3;
+    let put = |sheet: &mut [i32], layer: usize, (y, h): (i64, i64), next: i64| {
+        let f = crate_box(layer as i64 - 1, y, 2, h, [(0, 0); 4]);
+        let s = Style { stroke: None, fill: Some(layer as u8 + 1), width: 0, align: 1 };
+        let place = &mut sheet[place_of(layer)..place_of(layer + 1)];
+        place[..13].copy_from_slice(&figure_numbers(&f));
+        place[13..17].copy_from_slice(&style_numbers(&s));
+        place[17] = next as i32;
+    };
+    for first in &boxes {
+        for second in &boxes {
+            for third in &boxes {
+                let rows = |(y, h): &(i64, i64)| *y..=y + h;
+                for (a, b) in rows(first).flat_map(|a| rows(second).map(move |b| (a, b))) {
+                    for c in rows(third) {
+                        put(&mut sheet, 0, *first, a);
+                        put(&mut sheet, 1, *second, b);
+                        put(&mut sheet, 2, *third, c);
+                        for layer in 0..4 {
+                            r.sheet_remove(&mut sheet.clone(), layer, &mut canvas.clone(), &background);
+                        }
+                    }
+                }
             }
         }
     }
@@ -444,28 +552,61 @@ fn w3c_offsets(r: &mut Held, rng: &mut Rng, count: usize) {
 fn large_sheet(r: &mut Held, rng: &mut Rng) {
     let (w, h) = (rng.within(1, 300), rng.within(1, 200));
     let mut sheet = opened(w as u32, h as u32).to_vec();
-    let mut book = Book::open();
     let lent = first_lent(w, h, Some(77));
+    let mut page = Page::open(w, h, &lent);
     let mut canvas = lent.clone();
     for _ in 0..3 {
-        let f = any_figure(rng);
-        let f = Figure { x: rng.within(-f.w, w), y: rng.within(-f.h, h), ..f };
-        let s = rng.style();
-        let answer = r.sheet_add(&mut sheet, &figure_numbers(&f), &style_numbers(&s));
-        assert_eq!(answer, book.call(&Call::Add(f, s)), "a figure within the limits is added");
+        add_large(r, rng, &mut sheet, &mut page);
     }
-    while book.earliest().is_some() {
+    while page.book.earliest().is_some() {
         // some rows of one layer after another
         let layer = rng.within(0, 2) as usize;
-        for _ in 0..rng.within(1, 40) {
-            let answer = r.sheet_paint(&mut sheet, layer as u32, &mut canvas);
-            let noted = book.call(&Call::Paint(layer));
-            r.hold("sheet calls by book", Ok(By::Reference), noted, (library::DONE, answer), || {
-                format!("the book's answer to layer {layer} painted on {}", numbers(&sheet))
-            });
-        }
+        paint_rows(r, &mut sheet, &mut page.book, layer, rng.within(1, 40), &mut canvas);
     }
-    r.canvas_by_pixels(&book, w, h, &lent, &canvas);
+    r.canvas_by_pixels(&page, w, h, &canvas);
+}
+
+fn add_large(r: &mut Held, rng: &mut Rng, sheet: &mut [i32], page: &mut Page) {
+    let (w, h) = (sheet[0] as i64, sheet[1] as i64);
+    let f = any_figure(rng);
+    let f = Figure { x: rng.within(-f.w, w), y: rng.within(-f.h, h), ..f };
+    let s = rng.style();
+    let answer = r.sheet_add(sheet, &figure_numbers(&f), &style_numbers(&s));
+    assert_eq!(answer, page.book.call(&Call::Add(f, s)), "a figure within the limits is added");
+}
+
+/// So many calls for one layer, some of which may be refused; each answer also by the book.
+fn paint_rows(r: &mut Held, sheet: &mut [i32], book: &mut Book, layer: usize, count: i64, canvas: &mut [u8]) {
+    for _ in 0..count {
+        let answer = r.sheet_paint(sheet, layer as u32, canvas);
+        let noted = book.call(&Call::Paint(layer));
+        r.hold("sheet calls by book", Ok(By::Reference), noted, (library::DONE, answer), || {
+            format!("the book's answer to layer {layer} painted on {}", numbers(sheet))
+        });
+    }
+}
+
+/// A sheet with a few figures up to the limits, from which layers are removed in the middle of painting until none is left.
+fn large_removals(r: &mut Held, rng: &mut Rng) {
+    let (w, h) = (rng.within(1, 300), rng.within(1, 200));
+    let mut sheet = opened(w as u32, h as u32).to_vec();
+    let lent = rng.pattern(w * h);
+    let mut page = Page::open(w, h, &lent);
+    let mut canvas = lent.clone();
+    for _ in 0..3 {
+        add_large(r, rng, &mut sheet, &mut page);
+    }
+    while sheet[2] > 0 {
+        let last = sheet[2] as i64 - 1;
+        for _ in 0..rng.within(0, 6) {
+            let layer = rng.within(0, last) as usize;
+            paint_rows(r, &mut sheet, &mut page.book, layer, rng.within(1, 400), &mut canvas);
+        }
+        let layer = rng.within(0, last) as usize;
+        let answer = r.sheet_remove(&mut sheet, layer as u32, &mut canvas, &lent);
+        assert_eq!(answer, page.call(&Call::Remove(layer), &lent), "a layer that is there is removed");
+        r.canvas_by_pixels(&page, w, h, &canvas);
+    }
 }
 
 /// One round of the random parts.
@@ -511,6 +652,14 @@ pub fn round(r: &mut Held, rng: &mut Rng, at: u64) {
     }
     if at % 4 == 0 {
         large_sheet(r, rng);
+    }
+    let mut apart = rng.apart();
+    for n in 0..4 {
+        let script = apart.removing_script(4 * at + n);
+        r.removing_script(script, &mut apart);
+    }
+    if at % 4 == 0 {
+        large_removals(r, &mut apart);
     }
 }
 
@@ -563,6 +712,14 @@ pub fn run(seed: u64, effort: u64, seconds: u64) {
         }
     });
     part("a sheet, each of its numbers at each limit", &mut |r| each_number_of_a_sheet(r, &mut rng, 1));
+    part("every sheet of three small boxes, each layer removed", &mut small_sheets);
+    part("lists with removals", &mut |r| {
+        let mut rng = Rng(seed).apart();
+        for n in 0..LISTS_WITH_REMOVALS {
+            let script = rng.removing_script(n);
+            r.removing_script(script, &mut rng);
+        }
+    });
     let mut of_files = Rng(seed);
     part("canvases of every width as files, read back", &mut |r| files::written(r, &mut of_files));
     part("canvases as files, some refused", &mut |r| files::written_or_refused(r, &mut of_files, 50_000));
@@ -581,8 +738,13 @@ pub fn run(seed: u64, effort: u64, seconds: u64) {
         }
     });
     println!("seed {seed}, {rounds} random rounds of {effort}");
-    // the parts with files are as long however slow the machine is
-    r.each_answer_met(|call| if ["write_p4", "read_netpbm"].contains(&call) { 1000 } else { 1 });
+    // the parts with files, and those with removals, are as long however slow the machine is
+    r.each_answer_met(|call| match call {
+        "write_p4" | "read_netpbm" => 1000,
+        "sheet_remove" => 100,
+        _ => 1,
+    });
     r.each_decision_met(1000);
+    r.each_removal_met(100);
     r.print();
 }

@@ -36,7 +36,8 @@ pub const CALLS: &[(&str, &str, &[u32], usize)] = &[
     ("sheet_open", "a sheet without layers: width, height, sheet", &[0, 6, 13], 8),
     ("sheet_add", "a figure more on top of a sheet: sheet, figure, style", &[0, 1, 2, 3, 5, 7, 9, 100], 3),
     ("sheet_paint", "the next row of a layer painted: layer, sheet, canvas", &[0, 7, 8, 10, 11, 12, 100], 6),
-    ("run_calls", "a list of add and paint calls: width, height, calls, answers, canvas", &[0, 6, 8, 13, 100], 7),
+    ("sheet_remove", "a layer removed: layer, sheet, canvas, background", &[0, 7, 8, 10, 100], 6),
+    ("run_calls", "a list of add, paint and remove calls: width, height, calls, answers, canvas, background", &[0, 6, 8, 13, 100], 7),
     ("write_p5", "the canvas as a P5 file: width, height, out, canvas, file", &[0, 6, 8, 13], 10),
     ("write_p4", "the canvas as a P4 file: width, height, out, canvas, file", &[0, 6, 8, 13], 10),
     ("read_netpbm", "the picture of a P4 or P5 file, and its width and height: out, file, canvas", &[0, 6, 8, 13, 14, 15], 10),
@@ -50,7 +51,7 @@ pub const CALLS: &[(&str, &str, &[u32], usize)] = &[
 ];
 
 /// So many of them, the first, are calls of include/wunqaber.h.
-pub const CALLS_OF_C: usize = 16;
+pub const CALLS_OF_C: usize = 17;
 
 /// Calls in other words than lines.rs has, and what is answered, worked out by hand.
 const OTHER_WORDS: &[(&str, &str)] = &[
@@ -61,7 +62,8 @@ const OTHER_WORDS: &[(&str, &str)] = &[
     ("contains -1 0 [1 4294967295 0 1+0*2 0*8] [0]", "0 [1 -1 0 1*2 0*8] [1]"),
     ("contains 4294967295 0 [1 -1 0 1+0*2 0*8] [0]", "0 [1 -1 0 1*2 0*8] [1]"),
     ("confined_radii [1 0*2 9*2 1+1*8] [4294967290+3*11]", "0 [1 0*2 9*2 1 2 3 4 5 6 7 8] [0 1 2 3*2 4 5 6 9 12 24]"),
-    ("run_calls 8 7 [] [5*200] {0*56}", "0 [5*200] #3670017"),
+    ("run_calls 8 7 [] [5*200] {0*56} {}", "0 [5*200] #3670017"),
+    ("run_calls 8 7 [] [5*2] {0*56} {0+0*55 0*1}", "0 [5*2] #3670017 #3670017"),
     ("write_p5 2 2 [0] {250+4*3 255*1} {1+0*15}", "0 [15] #132711162 #444925117"),
     ("write_p4 3 2 [0] {0+1*3 255*1 0*2} {9*9}", "0 [9] #51380483 #146211326"),
     ("read_netpbm [7*3] {80 52 10 49 32 49 10 128*1} {9+0*1}", "0 [1*2 7] #114033051 #131074"),
@@ -102,6 +104,10 @@ const NO_CALLS: &[(&str, &str)] = &[
     ("row -2147483649 [0*3 4*2 0*8] [0*2]", NOT_TAKEN),
     ("row 99999999999999999999999999 [0*3 4*2 0*8] [0*2]", NOT_TAKEN),
     ("row 0 [0*2048] [0*2049]", NOT_TAKEN),
+    ("run_calls 8 7 [] [5*2] {0*56}", NOT_TAKEN),
+    ("run_calls 8 7 [] [5*2] {0*56} {} {}", NOT_TAKEN),
+    ("sheet_remove 0 [0*291] {0*56}", NOT_TAKEN),
+    ("sheet_remove [0*291] {0*56} {0*56}", NOT_TAKEN),
     ("write_p5 1 1 [0] [0] {0*20}", NOT_TAKEN),
     ("write_p5 1 1 [0] {0} {0*12353}", NOT_TAKEN),
     ("write_p4 1 1 {0} {0*20}", NOT_TAKEN),
@@ -551,32 +557,198 @@ fn lists(r: &mut Held) {
     let count = calls.len();
     let zeros = vec![0; 8 * 7];
     for room in [0, count - 1, count, count + 1, 128] {
-        r.run_calls(8, 7, &numbers, &zeros, room);
+        r.run_calls(8, 7, &numbers, &zeros, &[], room);
     }
-    r.run_calls(8, 7, &[], &zeros, 0);
-    r.run_calls(8, 7, &[], &zeros, 2);
+    r.run_calls(8, 7, &[], &zeros, &[], 0);
+    r.run_calls(8, 7, &[], &zeros, &[], 2);
     for (w, h, length) in [(0, 7, 56), (8, 1025, 56), (8, 7, 55), (8, 7, 57), (8, 7, 0)] {
         // these come before that it is no list of calls
-        r.run_calls(w, h, &numbers, &vec![0; length], count);
-        r.run_calls(w, h, &numbers[1..], &vec![0; length], 0);
+        r.run_calls(w, h, &numbers, &vec![0; length], &[], count);
+        r.run_calls(w, h, &numbers[1..], &vec![0; length], &[], 0);
     }
     for length in [1, 19, 21, 199] {
-        r.run_calls(8, 7, &numbers[..length], &zeros, count);
+        r.run_calls(8, 7, &numbers[..length], &zeros, &[], count);
     }
     for (at, v) in
-        [(0, 2), (0, -1), (1, 3), (4, -1), (14, 256), (17, 3), (20, 2), (21, -1), (21, 16), (21, i32::MAX), (22, 5)]
+        [(0, 2), (0, 3), (0, -1), (1, 3), (4, -1), (14, 256), (17, 3), (20, 2), (20, 3), (21, -1), (21, 16), (21, i32::MAX), (22, 5)]
     {
         let mut changed = numbers.clone();
         changed[at] = v;
-        r.run_calls(8, 7, &changed, &zeros, count);
+        r.run_calls(8, 7, &changed, &zeros, &[], count);
     }
     // as many as `replay` has room for; 17 are added, of which one is refused
     let added = (0..17).map(|i| Call::Add(Figure { x: i, y: i % 5, ..one_of_each()[i as usize % 3] }, style));
     let painted = (0..85).map(|i| Call::Paint(i * i % 17));
     let many: Vec<i32> = added.chain(painted).flat_map(|c| call_numbers(&c, 0)).collect();
-    r.run_calls(8, 7, &many[..17 * CALL_LENGTH], &zeros, 17);
-    r.run_calls(8, 7, &many, &zeros, 102);
-    r.run_calls(8, 7, &many, &zeros, 128);
+    r.run_calls(8, 7, &many[..17 * CALL_LENGTH], &zeros, &[], 17);
+    r.run_calls(8, 7, &many, &zeros, &[], 102);
+    r.run_calls(8, 7, &many, &zeros, &[], 128);
+}
+
+/// Layers removed from the sheet of three: each of them, one after another, such as are not there; canvas, background or both of
+/// another length, and that together with a layer that is not there; full sheets, layers without rows and off the canvas.
+fn removals(r: &mut Held) {
+    let (sheet, _) = three_layers(r);
+    let (canvas, background) = (vec![77; 6 * 5], vec![12; 6 * 5]);
+    for layer in [0, 1, 2, 3, 15, 16, 17, 1 << 31, u32::MAX] {
+        r.sheet_remove(&mut sheet.to_vec(), layer, &mut canvas.clone(), &background);
+    }
+    // either length is looked at before the layer
+    for (of_canvas, of_background) in [(29, 30), (30, 29), (30, 31), (31, 30), (29, 29), (30, 0), (0, 30), (0, 0)] {
+        for layer in [1, 3] {
+            let mut other = vec![77; of_canvas];
+            r.sheet_remove(&mut sheet.to_vec(), layer, &mut other, &vec![12; of_background]);
+        }
+    }
+    // until none is left, in each order; then there is no layer 0
+    for order in [[0, 0, 0], [0, 1, 0], [1, 0, 0], [1, 1, 0], [2, 0, 0], [2, 1, 0]] {
+        let (mut rest, mut bytes) = (sheet.to_vec(), canvas.clone());
+        for layer in order.into_iter().chain([0]) {
+            r.sheet_remove(&mut rest, layer, &mut bytes, &background);
+            // one that waited for the layer need not wait any longer
+            r.sheet_paint(&mut rest, 1, &mut bytes);
+        }
+    }
+    removals_from_broken_sheets(r, &sheet, &canvas, &background);
+    removals_from_full_sheets(r);
+}
+
+/// The sheet is looked at before the lengths, and the lengths before the layer.
+fn removals_from_broken_sheets(r: &mut Held, sheet: &[i32], canvas: &[u8], background: &[u8]) {
+    let longer = [sheet, &[0]].concat();
+    for given in [&sheet[..SHEET_LENGTH - 1], &longer, &[]] {
+        r.sheet_remove(&mut given.to_vec(), 0, &mut canvas.to_vec(), background);
+        r.sheet_remove(&mut given.to_vec(), 99, &mut canvas[1..].to_vec(), &[]);
+    }
+    let at = |layer: usize, number: usize| place_of(layer) + number;
+    for (at, v) in [
+        (0, 0),
+        (0, 1025),
+        (1, -1),
+        (2, -1),
+        (2, 0),
+        (2, 1),
+        (2, 17),
+        (2, i32::MAX),
+        (at(0, 0), 3),
+        (at(1, 3), 1025),
+        (at(2, 5), 1025),
+        (at(0, 1), -4097),
+        (at(1, 13), 256),
+        (at(2, 15), 257),
+        (at(0, 16), 3),
+        (at(0, 17), -1),
+        (at(0, 17), 5),
+        // what a later layer has painted, an earlier one owes
+        (at(0, 17), 0),
+        (at(1, 17), 1),
+        // one that does not matter
+        (at(3, 0), 9),
+        (at(15, 17), i32::MIN),
+    ] {
+        let mut changed = sheet.to_vec();
+        changed[at] = v;
+        r.sheet_remove(&mut changed.clone(), 1, &mut canvas.to_vec(), background);
+        r.sheet_remove(&mut changed, 99, &mut canvas.to_vec(), &background[1..]);
+    }
+}
+
+/// Sixteen layers, finished, in the middle of their rows or before them, among them such as have no row or none on the canvas; some
+/// of them removed. The places that are not used move down as well, with whatever stands in them.
+fn removals_from_full_sheets(r: &mut Held) {
+    // what leads to the sheet is held, and not stored
+    let chosen = r.chosen.take();
+    let mut sheet = blank(7, 6);
+    let (lent, mut canvas) = (first_lent(7, 6, Some(40)), first_lent(7, 6, Some(40)));
+    for i in 0..16 {
+        let f = match i % 8 {
+            3 => ellipse(i, 1, 2, 8),
+            4 => crate_box(1, -9, 5, 4, [(0, 0); 4]),
+            5 => crate_box(2, 6, 5, 4, [(1, 1); 4]),
+            6 => crate_box(-20, 1, 5, 4, [(1, 1); 4]),
+            _ => Figure { x: i % 5 - 1, y: i % 4 - 1, ..one_of_each()[i as usize % 3] },
+        };
+        let style = Style { stroke: Some(20 + i as u8), fill: (i % 3 > 0).then_some(i as u8), width: i % 2, align: i % 3 };
+        r.sheet_add(&mut sheet, &figure_numbers(&f), &style_numbers(&style));
+    }
+    for turn in 0..9 {
+        for layer in 0..16 {
+            if (layer + turn) % 5 < 3 {
+                r.sheet_paint(&mut sheet, layer, &mut canvas);
+            }
+        }
+    }
+    r.chosen = chosen;
+    for layer in 0..17 {
+        r.sheet_remove(&mut sheet.clone(), layer, &mut canvas.clone(), &lent);
+    }
+    for layer in [15, 0, 3, 3, 3, 3, 7] {
+        r.sheet_remove(&mut sheet, layer, &mut canvas, &lent);
+        sheet[place_of(15)..].fill(-99);
+    }
+    // none of its rows on the canvas, the largest there are
+    let mut tall = blank(1, 1);
+    r.sheet_add(&mut tall, &figure_numbers(&crate_box(0, -4096, 1024, 1024, [(0, 0); 4])), &[1, 2, 256, 2]);
+    for next in [-4352, -4351, -2816] {
+        tall[place_of(0) + 17] = next;
+        r.sheet_remove(&mut tall.clone(), 0, &mut [9], &[8]);
+    }
+}
+
+/// Lists with removals: of each layer, of such as are not there, in the middle of painting and after it; backgrounds that are the
+/// canvas as lent, others, of another length, and none; what is no call.
+fn removing_lists(r: &mut Held) {
+    let style = Style { stroke: Some(7), fill: Some(9), width: 1, align: 1 };
+    let [e, c, w] = one_of_each().map(|f| Call::Add(Figure { x: 0, y: 1, ..f }, style));
+    let paint = |layers: &[usize]| layers.iter().map(|i| Call::Paint(*i)).collect::<Vec<_>>();
+    let lent = first_lent(8, 7, Some(60));
+    let others = [vec![5; 56], vec![5; 55], vec![5; 57], Vec::new()];
+    for (turn, removed) in
+        [[0, 0, 0], [1, 0, 0], [2, 1, 0], [0, 1, 2], [3, 2, 2], [0, i32::MAX as usize, 16]].into_iter().enumerate()
+    {
+        let mut calls = vec![e.clone(), c.clone(), w.clone()];
+        calls.extend(paint(&[0, 0, 1, 2, 0, 1]));
+        calls.push(Call::Remove(removed[0]));
+        calls.extend(paint(&[0, 1, 0, 1, 2]));
+        calls.push(Call::Remove(removed[1]));
+        calls.push(c.clone());
+        calls.extend(paint(&[0, 0, 0, 0, 0, 1, 1]));
+        calls.push(Call::Remove(removed[2]));
+        calls.extend(paint(&[0, 1]));
+        let numbers: Vec<i32> = calls.iter().flat_map(|c| call_numbers(c, -7)).collect();
+        for background in [&lent, &others[turn % 4]] {
+            r.run_calls(8, 7, &numbers, &lent, background, calls.len());
+        }
+    }
+    // one layer, removed before, in the middle of and after its rows, and twice; and from an empty sheet
+    for rows in [0, 2, 5] {
+        let painted = (0..rows).map(|_| Call::Paint(0));
+        let calls: Vec<Call> = [e.clone()].into_iter().chain(painted).chain([Call::Remove(0), Call::Remove(0)]).collect();
+        let numbers: Vec<i32> = calls.iter().flat_map(|c| call_numbers(c, 0)).collect();
+        r.run_calls(8, 7, &numbers, &lent, &lent, calls.len());
+        r.run_calls(8, 7, &numbers, &lent, &lent, calls.len() - 1);
+        r.run_calls(8, 7, &numbers[CALL_LENGTH..], &lent, &lent, calls.len());
+    }
+    // what is no removal and what is, and the refusals that come before that
+    for (at, v) in [(0, 3), (0, -1), (1, -1), (1, i32::MIN), (1, 1), (1, i32::MAX), (2, 77), (19, -1)] {
+        let mut numbers = [call_numbers(&e, 0), call_numbers(&Call::Remove(0), 0)].concat();
+        numbers[CALL_LENGTH + at] = v;
+        for background in [&lent[..], &[]] {
+            r.run_calls(8, 7, &numbers, &lent, background, 2);
+        }
+        r.run_calls(8, 7, &numbers, &lent[1..], &lent[1..], 2);
+        r.run_calls(8, 7, &numbers, &lent, &lent, 1);
+    }
+    // as many as `replay` has room for: full, and two of three removed and added again
+    let added = (0..17).map(|i| Call::Add(Figure { x: i % 6, y: i % 5, ..one_of_each()[i as usize % 3] }, style));
+    let turn = |i: usize| match i % 4 {
+        0 => Call::Remove(i * i % 19),
+        1 => w.clone(),
+        _ => Call::Paint(i * i % 17),
+    };
+    let many: Vec<i32> = added.chain((0..85).map(turn)).flat_map(|c| call_numbers(&c, 0)).collect();
+    r.run_calls(8, 7, &many, &lent, &lent, 102);
+    r.run_calls(8, 7, &many, &lent, &[], 102);
 }
 
 /// Canvases as P4 files: rows that end at each bit of a byte, buffers too short, sides and lengths that are none, the
@@ -787,6 +959,8 @@ pub fn run(folder: &str) {
     rooms(&mut r);
     sheets(&mut r);
     lists(&mut r);
+    removals(&mut r);
+    removing_lists(&mut r);
     packed(&mut r);
     read(&mut r);
     plain_limits(r.chosen.as_mut().unwrap());

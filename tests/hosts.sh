@@ -1,6 +1,7 @@
 #!/bin/sh
 # Programs that link the library: the page of `cafe` drawn from C, from the same file as C++ and from Rust, every call of the
-# header once accepted and once for each refusal, on numbers and by its typed form, and the corners of tiles with borders outside.
+# header once accepted and once for each refusal, on numbers and by its typed form, the corners of tiles with borders outside, and
+# tiles that leave while the page is painted.
 #
 #   sh tests/hosts.sh [LIBRARY]      LIBRARY, or $WUNQABER_LIBRARY: a library built before; else tests/library.sh builds it
 #
@@ -17,7 +18,7 @@ page_is_right() { # the program
 }
 
 command -v "$cc" > /dev/null || fail "there is no C compiler '$cc'"
-for program in page refusals corners; do
+for program in page refusals corners leaving; do
     quietly "hosts/$program.c is not compiled" "$cc" -std=c99 -Wall -Wextra -Werror -pedantic -O1 -I"$root/include" \
         -o "$work/$program" "$root/hosts/$program.c" "$library"
 done
@@ -26,6 +27,8 @@ page_is_right page
 echo "hosts.sh: $(cat "$work/log")"
 "$work/corners" > "$work/corners.pgm" || fail "corners ended with status $?"
 echo 'hosts.sh: corners: the borders of its tiles have the corners that they must have'
+"$work/leaving" > "$work/leaving.pgm" || fail "leaving ended with status $?"
+echo 'hosts.sh: leaving: its page equals the one without the tiles that left'
 if command -v "$cxx" > /dev/null; then
     echo '#include "wunqaber.h"' > "$work/header.cc"
     quietly 'include/wunqaber.h is not compiled as C++' "$cxx" -Wall -Wextra -Werror -pedantic -fsyntax-only -I"$root/include" "$work/header.cc"

@@ -1,7 +1,7 @@
 #!/bin/sh
 # Makes the pictures of README and docs/ anew from the bytes that the programs write: enlarged so that
-# pixels show, and with the brightest byte made white. corners.c links the library that `rt staticlib
-# wunqaber` has built of this tree.
+# pixels show, and with the brightest byte made white. corners.c and leaving.c link the library that
+# `rt staticlib wunqaber` has built of this tree.
 set -eu
 cd "$(dirname "$0")/.."
 picture() { # the program, how much it is enlarged, the brightest byte
@@ -14,6 +14,10 @@ picture cafe 3 255
 pamenlarge 3 crates/panel/stdout | pnmtopng > docs/pictures/panel.png
 work=$(mktemp -d)
 trap 'rm -rf "$work"' EXIT
-cc -Iinclude -o "$work/corners" hosts/corners.c target/staticlib/libwunqaber.a
-"$work/corners" > "$work/corners.pgm"
-pamenlarge 4 "$work/corners.pgm" | pnmtopng > docs/pictures/corners.png
+drawn() { # the program, how much its picture is enlarged
+    cc -Iinclude -o "$work/$1" "hosts/$1.c" target/staticlib/libwunqaber.a
+    "$work/$1" > "$work/$1.pgm"
+    pamenlarge "$2" "$work/$1.pgm" | pnmtopng > "docs/pictures/$1.png"
+}
+drawn corners 4
+drawn leaving 3

@@ -1,9 +1,9 @@
 #!/bin/sh
-# The library's painting timed beside the original Rust's, on five scenes, and its reading beside a copy and beside a plain
-# unpacking in C, on three files (docs/SPEED.md):
+# The library's painting timed beside the original Rust's, on five scenes, the removal of two tiles beside their painting, and
+# its reading beside a copy and beside a plain unpacking in C, on three files (docs/SPEED.md):
 #
 #   sh tests/speed.sh [SOURCE]            the tables: microseconds a call, and the ratios
-#   sh tests/speed.sh --check [SOURCE]    only that all ways of painting, and of reading, leave the same bytes; no times
+#   sh tests/speed.sh --check [SOURCE]    only that all ways of painting, removing and reading leave the same bytes; no times
 #
 # It proves and builds `wunqaber` (or takes $WUNQABER_LIBRARY, a library built before), builds the original without
 # overflow checks and oracle/unpack.c into a folder of its own, and links all into one program. With --check it takes the
