@@ -57,7 +57,7 @@ painted : (c : tie.After-remove)
     (Call·remove (start c .args .layer) (start c .args .background .now))
 painted c =
     let a = start c .args in
-    c .remove .ensures .1 .1
+    c .remove .ensures .1 .1 .0
     ∙ ap (λ (s : Sheet). canvasAfter s (a .canvas .now) (Call·remove (a .layer) (a .background .now)))
     (c .before .before .sheet-of .ensures)
 
