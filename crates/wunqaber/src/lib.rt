@@ -147,21 +147,23 @@ pub extern "C" fn wunqaber_sheet_remove(
     host_sheet::remove(sheet, layer, canvas, background)
 }
 
-// A list of sheet calls run from a sheet just opened, and the answer of each. Refused by 6, 8 and 13.
+// A list of sheet calls run from a sheet just opened, with one background for its removals, and the
+// answer of each. Refused by 6, 8 and 13; the background is looked at by a removal alone.
 #[no_mangle]
 pub extern "C" fn wunqaber_run_calls(
     width: u32,
     height: u32,
     calls: &[i32],
     canvas: &mut [u8],
+    background: &[u8],
     answers: &mut [u32],
 ) -> u32
     ensures { λ r. ⌜ r ≡ runNumber (runAnswer width height (now (calls .entry)) (length (now (canvas .entry)))
         (length (now (answers .entry)))) ⌝ }
-    ensures { λ _. ⌜ RunTold width height (now (calls .entry)) (now (canvas .entry)) (now (answers .entry)) (now (canvas .exit))
-        (now (answers .exit)) ⌝ }
+    ensures { λ _. ⌜ RunTold width height (now (calls .entry)) (now (canvas .entry)) (now (background .entry)) (now (answers .entry))
+        (now (canvas .exit)) (now (answers .exit)) ⌝ }
 {
-    host_calls::run_calls(width, height, calls, canvas, answers)
+    host_calls::run_calls(width, height, calls, canvas, background, answers)
 }
 
 // The canvas as P5, and the length of the file. Refused by 6, 8 and 13.
