@@ -17,7 +17,7 @@ FOR_READERS = {
     'checked-drawings', 'own-drawings',  # the checked drawings of the scope, and our own
     'host-demand3', 'sheet-comes-to-the-same',  # README, 'What is proved'
     'over-lent-same', 'over-lent-no-removal',  # of which lists of `run_calls` demand 3 speaks
-    'add-told-seven', 'paint-told-seven',  # docs/ARCHITECTURE.md, 'Where the demands are stated'
+    'add-told-seven', 'paint-told-seven', 'remove-told-seven',  # docs/ARCHITECTURE.md, 'Where the demands are stated'
     'answers-on-rows',  # the test of a row answers as the paper's test
     'area-is-offset',  # an area has the rows of the figure that an offset call gives
     'growth-by-four', 'grown-box',  # what follows from the rule by which a W3C box's corners grow

@@ -17,8 +17,9 @@ use Rattle.refusal.specs.declared.Checked.the-variants.{Passed}
 use Rattle.refusal.specs.Refusal.{answerNumber, roomCheck}
 use Rattle.canvas_size.specs.CanvasSize.{canvasSizeCheck}
 use Rattle.book.specs.Book.{bookAfterAll}
+use Rattle.book.specs.Each.{Each}
 use Rattle.book.specs.Sheet.{State, WithinSide, answer}
-use Rattle.book.specs.Demand3.{AfterCalls}
+use Rattle.book.specs.Demand3.{AfterCalls, OverLent}
 use Rattle.drawing.specs.Drawing.{StyledFigure, drawing}
 use Rattle.sheet_checks.proofs.Places.{sides-pass}
 use Rattle.sheet.specs.declared.Sheet.{Sheet}
@@ -29,8 +30,10 @@ use Rattle.sheet.proofs.SheetDemand3.{sheet-demand3}
 use Rattle.host_sheet_record.specs.SheetRecord.{sheetLength, isSheet, sheetOf}
 use Rattle.host_answers.specs.HostAnswers.{noRecord, heldBy32, outAfter, told}
 use Rattle.host_sheet.specs.Sheets.{unusedPlaces, openedNumbers, openSaid, addTold, addNumbers, areRecords, paintTold, paintCanvas}
-use Rattle.host_sheet.proofs.NumbersAfter.{open-reads-back, add-reads-back, paint-reads-back}
-use Rattle.host_book.specs.HostBook.{HostCall, add, paint, givesRecords, callOf, callTold, callNumbers, callCanvas, toldOfAll, numbersAfterAll, canvasAfterAll, bookCalls, toldBy, opened, HostDemand3}
+use Rattle.host_sheet.specs.Sheets.{removeTold, removeCanvas}
+use Rattle.host_sheet.proofs.NumbersAfter.{open-reads-back, add-reads-back, paint-reads-back, remove-reads-back}
+use Rattle.host_book.specs.HostBook.{HostCall, add, paint, remove, givesRecords, callOf, callTold, callNumbers, callCanvas, toldOfAll}
+use Rattle.host_book.specs.HostBook.{numbersAfterAll, canvasAfterAll, bookCalls, toldBy, opened, HostOverLent, HostDemand3}
 
 -- ---- one call
 module _ (numbers : List ℤ) (is : isSheet numbers ≡ true) (canvas : List ℕ) where
@@ -39,9 +42,10 @@ module _ (numbers : List ℤ) (is : isSheet numbers ≡ true) (canvas : List ℕ
 
   told-is : (call : HostCall) → givesRecords call ≡ true → callTold numbers canvas call ≡ answerNumber
       (sheetAnswer (sheetOf numbers) canvas (callOf call))
-  unfolding addTold paintTold answer
+  unfolding addTold paintTold removeTold answer
   told-is (add figure style) records = rw (all-records figure style records)
   told-is (paint i) records = rw is
+  told-is (remove i background) records = rw is
 
   numbers-are : (call : HostCall) → givesRecords call ≡ true
       → (isSheet (callNumbers numbers canvas call) ≡ true)
@@ -49,26 +53,31 @@ module _ (numbers : List ℤ) (is : isSheet numbers ≡ true) (canvas : List ℕ
   unfolding answer
   numbers-are (add figure style) records = add-reads-back numbers figure style (all-records figure style records)
   numbers-are (paint i) records = paint-reads-back numbers i canvas is
+  numbers-are (remove i background) records = remove-reads-back numbers i canvas background is
 
   canvas-is : (call : HostCall) → callCanvas numbers canvas call ≡ canvasAfter (sheetOf numbers) canvas (callOf call)
-  unfolding paintCanvas
+  unfolding paintCanvas removeCanvas
   canvas-is (add figure style) = sym (add-takes-no-canvas (sheetOf numbers) canvas _ .canvas-kept)
   canvas-is (paint i) = rw is
+  canvas-is (remove i background) = rw is
 
   -- a call whose numbers are no record changes nothing
   told-none : (call : HostCall) → givesRecords call ≡ false → callTold numbers canvas call ≡ noRecord
   unfolding addTold
   told-none (add figure style) none = rw (is, none)
   told-none (paint i) none = absurd (false≢true (sym none))
+  told-none (remove i background) none = absurd (false≢true (sym none))
 
   numbers-same : (call : HostCall) → givesRecords call ≡ false → callNumbers numbers canvas call ≡ numbers
   unfolding addNumbers
   numbers-same (add figure style) none = rw (is, none)
   numbers-same (paint i) none = absurd (false≢true (sym none))
+  numbers-same (remove i background) none = absurd (false≢true (sym none))
 
   canvas-same : (call : HostCall) → givesRecords call ≡ false → callCanvas numbers canvas call ≡ canvas
   canvas-same (add figure style) none = refl
   canvas-same (paint i) none = absurd (false≢true (sym none))
+  canvas-same (remove i background) none = absurd (false≢true (sym none))
 
 -- ---- a list of calls on numbers that are of a sheet s, with a canvas
 record Run (calls : List HostCall) (numbers : List ℤ) (canvas : List ℕ) (s : Sheet) (bytes : List ℕ) : Type 0 where
@@ -115,6 +124,22 @@ run (call ∷ calls) numbers canvas s bytes is same kept =
           painted = rw none (rest .painted);
         }
 
+-- ---- what is asked of the host's removals is asked of the book's
+over-lent-call : (lent : List ℕ) (call : HostCall) → HostOverLent lent call → OverLent drawing lent (callOf call)
+over-lent-call lent (add figure style) over = over
+over-lent-call lent (paint i) over = over
+over-lent-call lent (remove i background) over = over
+
+over-lent : (lent : List ℕ) (calls : List HostCall) → Each (HostOverLent lent) calls → Each (OverLent drawing lent) (bookCalls calls)
+unfolding bookCalls
+over-lent lent [] each = each
+over-lent lent (call ∷ calls) (this, rest) = by (over-lent lent calls rest) (givesRecords call) refl
+  where
+    by : Each (OverLent drawing lent) (bookCalls calls) → (t : Bool) → givesRecords call ≡ t
+        → Each (OverLent drawing lent) (bookCalls (call ∷ calls))
+    by later true records = rw records (over-lent-call lent call this, later)
+    by later false none = rw none later
+
 -- ---- opening
 module _ (W H : ℕ) (width : WithinSide drawing W) (height : WithinSide drawing H) (out : List ℤ) (long : length out ≡ sheetLength) where
   size-passed : canvasSizeCheck W H ≡ Passed
@@ -148,10 +173,10 @@ module _ (W H : ℕ) (width : WithinSide drawing W) (height : WithinSide drawing
       ∙ append-nil (openedNumbers W H))
 
 pub host-demand3 : HostDemand3
-host-demand3 W H width height out long lent size calls =
+host-demand3 W H width height out long lent size calls each =
     let first = opened-is W H width height out long in
     let just-opened = open-reads-back W H in
-    let demand = sheet-demand3 W H width height lent size (bookCalls calls) in
+    let demand = sheet-demand3 W H width height lent size (bookCalls calls) (over-lent lent calls each) in
     let all =
     run calls (opened W H out) lent (openedSheet W H) lent (ap (λ (m : List ℤ). isSheet m) first ∙ just-opened .0)
     (ap (λ (m : List ℤ). sheetOf m) first ∙ just-opened .1) refl in

@@ -9,12 +9,13 @@ use mathlib.Core.List.{List, []}
 use Prim.Native.Nat.{ℕ}
 use native.Mathlib.Omega.{arith}
 use lib.IntN.{ℤ}
-use Rattle.book.specs.Book.{paint}
+use Rattle.book.specs.Book.{paint, remove}
 use Rattle.book.specs.Sheet.{State, Rules, keepsRules}
 use Rattle.book.proofs.Tests.{false-unless, true-false-apart}
 use Rattle.book.proofs.RulesTest.{keeps-rules-iff}
 use Rattle.book.proofs.LowestNumber.{add-refused-item, add-refused-broken-sheet, add-broken-sheet-only}
 use Rattle.book.proofs.LowestNumber.{paint-refused-broken-sheet, paint-broken-sheet-only}
+use Rattle.book.proofs.LowestNumber.{remove-refused-broken-sheet, remove-broken-sheet-only}
 use Rattle.refusal.specs.declared.Refusal.{Refusal}
 use Rattle.refusal.specs.declared.Refusal.the-variants.{Side, Radius, Position, Asked, Offset, CanvasSide, SheetRule, CanvasLength, SheetFull, NoLayer, NoRowLeft, RowOwed, BufferLength, FileHeader, RasterLength}
 use Rattle.refusal.specs.declared.Checked.{Checked}
@@ -40,8 +41,8 @@ use Rattle.sheet.specs.Sheet.{stateOf, sheetAnswer}
 use Rattle.host_records.specs.RecordNumbers.{figureOf, styleOf}
 use Rattle.host_sheet_record.specs.SheetRecord.{holdsRecords, sheetOf}
 use Rattle.host_sheet_record.proofs.Parts.{sixteen, records-of-few, count-of-records}
-use Rattle.host_sheet.specs.Sheets.{addOf, addTold, paintTold}
-use Rattle.host_book.specs.HostRules.{RulesHold, NoSheetOrBroken, PaintToldSeven, AddToldSeven}
+use Rattle.host_sheet.specs.Sheets.{addOf, addTold, paintTold, removeTold}
+use Rattle.host_book.specs.HostRules.{RulesHold, NoSheetOrBroken, PaintToldSeven, RemoveToldSeven, AddToldSeven}
 
 -- ---- the sheet as which the numbers are read: its rules are those that the numbers say, if they are a sheet's
 module _ (numbers : List ℤ) where
@@ -123,6 +124,30 @@ paint-told-seven numbers is i canvas = (only, always)
         told-is
         ∙ ap answerNumber
         (paint-refused-broken-sheet drawing (sheetOf numbers .width) (sheetOf numbers .height) state i fails)
+
+-- ---- a removal
+pub remove-told-seven : RemoveToldSeven
+unfolding removeTold
+remove-told-seven numbers is i canvas background = (only, always)
+  where
+    state : State StyledFigure
+    state = stateOf (sheetOf numbers) canvas
+
+    told-is : removeTold numbers i canvas background ≡ answerNumber (sheetAnswer (sheetOf numbers) canvas (remove i background))
+    told-is = rw is
+
+    only : removeTold numbers i canvas background ≡ 7 → NoSheetOrBroken numbers
+    only seven =
+        let seven-answered = number-seven (sheetAnswer (sheetOf numbers) canvas (remove i background)) (sym told-is ∙ seven) in
+        fails-iff numbers .0
+        (remove-broken-sheet-only drawing (sheetOf numbers .width) (sheetOf numbers .height) state i background seven-answered)
+
+    always : NoSheetOrBroken numbers → removeTold numbers i canvas background ≡ 7
+    always broken =
+        let fails = fails-iff numbers .1 broken in
+        told-is
+        ∙ ap answerNumber
+        (remove-refused-broken-sheet drawing (sheetOf numbers .width) (sheetOf numbers .height) state i background fails)
 
 -- ---- an add call
 -- a check that does not refuse by 7

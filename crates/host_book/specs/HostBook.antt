@@ -1,6 +1,6 @@
 -- Demand 3 (document 00) of a sheet that a host keeps as numbers: a list of calls, each on the numbers and the canvas that the last
--- one left, by what `wunqaber_sheet_open`, `wunqaber_sheet_add` and `wunqaber_sheet_paint` promise (`host_sheet`). That it holds is
--- `host-demand3` (proofs/HostDemand3.antt).
+-- one left, by what `wunqaber_sheet_open`, `wunqaber_sheet_add`, `wunqaber_sheet_paint` and `wunqaber_sheet_remove` promise
+-- (`host_sheet`). That it holds is `host-demand3` (proofs/HostDemand3.antt).
 -- Assumes nothing.
 use mathlib.Core.Path.{_≡_}
 use mathlib.Core.Bool.{Bool, true, cond, _&&_}
@@ -13,6 +13,7 @@ use Rattle.refusal.specs.declared.Checked.the-variants.{Passed}
 use Rattle.refusal.specs.Refusal.{answerNumber}
 use Rattle.book.specs.Book.{Call, bookAnswers, bookAfterAll}
 use Rattle.book.specs.Book as book
+use Rattle.book.specs.Each.{Each}
 use Rattle.book.specs.Sheet.{WithinSide, answer}
 use Rattle.book.specs.Demand3.{AfterCalls}
 use Rattle.drawing.specs.Drawing.{StyledFigure, drawing}
@@ -21,34 +22,42 @@ use Rattle.host_records.specs.RecordNumbers.{isFigure, isStyle}
 use Rattle.host_sheet_record.specs.SheetRecord.{sheetLength, sheetOf}
 use Rattle.host_answers.specs.HostAnswers.{noRecord, outAfter, told}
 use Rattle.host_sheet.specs.Sheets.{openSaid, addOf, addTold, addNumbers, paintTold, paintNumbers, paintCanvas}
+use Rattle.host_sheet.specs.Sheets.{removeTold, removeNumbers, removeCanvas}
 
--- A call that a host makes on its sheet: a figure and a style to add, given as numbers, or the layer to paint a row of.
+-- A call that a host makes on its sheet: a figure and a style to add, given as numbers; or the layer to paint a row of; or the layer
+-- to remove, with the background (document 02, 'Five').
 pub data HostCall : Type 0 where
   add : List ℤ → List ℤ → HostCall
   paint : ℕ → HostCall
+  remove : ℕ → List ℕ → HostCall
 
 -- its numbers are a figure's and a style's
 abbrev pub givesRecords : HostCall → Bool
 givesRecords (add figure style) = isFigure figure && isStyle style
 givesRecords (paint i) = true
+givesRecords (remove i background) = true
 
 -- the call of the book that it is
 abbrev pub callOf : HostCall → Call StyledFigure
 callOf (add figure style) = addOf figure style
 callOf (paint i) = book.paint i
+callOf (remove i background) = book.remove i background
 
 -- what the host is told of a call on these numbers, and the numbers and the canvas after it
 abbrev pub callTold : List ℤ → List ℕ → HostCall → ℕ
 callTold numbers canvas (add figure style) = addTold numbers figure style
 callTold numbers canvas (paint i) = paintTold numbers i canvas
+callTold numbers canvas (remove i background) = removeTold numbers i canvas background
 
 abbrev pub callNumbers : List ℤ → List ℕ → HostCall → List ℤ
 callNumbers numbers canvas (add figure style) = addNumbers numbers figure style
 callNumbers numbers canvas (paint i) = paintNumbers numbers i canvas
+callNumbers numbers canvas (remove i background) = removeNumbers numbers i canvas background
 
 abbrev pub callCanvas : List ℤ → List ℕ → HostCall → List ℕ
 callCanvas numbers canvas (add figure style) = canvas
 callCanvas numbers canvas (paint i) = paintCanvas numbers i canvas
+callCanvas numbers canvas (remove i background) = removeCanvas numbers i canvas background
 
 -- the same of a list of calls
 unfoldable pub toldOfAll : List ℤ → List ℕ → List HostCall → List ℕ
@@ -102,9 +111,16 @@ pub record HostDemand3Of (W H : ℕ) (out : List ℤ) (lent : List ℕ) (calls :
       (stateOf (sheetOf (numbersAfterAll (opened W H out) lent calls)) (canvasAfterAll (opened W H out) lent calls))
       (callOf call))
 
+-- The background of a removal is the canvas as first lent; other calls have none (document 02, 'Five').
+abbrev pub HostOverLent : List ℕ → HostCall → Type 0
+HostOverLent lent (add figure style) = Unit {0}
+HostOverLent lent (paint i) = Unit {0}
+HostOverLent lent (remove i background) = background ≡ lent
+
 -- Demand 3 for a host: every W and H within limits, every list for a sheet's numbers with anything in it, every canvas of that size
--- with any bytes, every list of calls.
+-- with any bytes, every list of calls, each removal among them with that canvas as first lent for its background.
 abbrev pub HostDemand3 : Type 0
 HostDemand3 =
     (W H : ℕ) → WithinSide drawing W → WithinSide drawing H → (out : List ℤ) → length out ≡ sheetLength
-    → (lent : List ℕ) → length lent ≡ W * H → (calls : List HostCall) → HostDemand3Of W H out lent calls
+    → (lent : List ℕ) → length lent ≡ W * H → (calls : List HostCall) → Each (HostOverLent lent) calls
+    → HostDemand3Of W H out lent calls

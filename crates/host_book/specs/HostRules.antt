@@ -1,7 +1,7 @@
 -- Number 7 (document 01, 'The records' and 'Sheet') by the numbers that a host keeps: when a host is told it, by what
--- `wunqaber_sheet_paint` and `wunqaber_sheet_add` promise (`host_sheet`). The rules are the paper's own, `Rules`, over every
--- row y, and not the test by which the code answers. The laws are `paint-told-seven` and `add-told-seven`
--- (proofs/HostRules.antt).
+-- `wunqaber_sheet_paint`, `wunqaber_sheet_remove` and `wunqaber_sheet_add` promise (`host_sheet`). The rules are the paper's own,
+-- `Rules`, over every row y, and not the test by which the code answers. The laws are `paint-told-seven`, `remove-told-seven` and
+-- `add-told-seven` (proofs/HostRules.antt).
 -- Assumes nothing.
 use mathlib.Core.Path.{_≡_}
 use mathlib.Core.Logic.{_↔_, _⊎_}
@@ -16,7 +16,7 @@ use Rattle.drawing.specs.Drawing.{styledCheck, drawing}
 use Rattle.sheet_layers.specs.Layers.{layersOf}
 use Rattle.host_records.specs.RecordNumbers.{numberAt, figureOf, styleOf}
 use Rattle.host_sheet_record.specs.SheetRecord.{countAt, isSheet, holdsRecords, sheetOf}
-use Rattle.host_sheet.specs.Sheets.{areRecords, addTold, paintTold}
+use Rattle.host_sheet.specs.Sheets.{areRecords, addTold, paintTold, removeTold}
 
 -- The layers that a sheet's numbers say ('The records'): those in the first places, as many as the third number says. That
 -- number is taken as it stands, where `sheetOf` reads numbers that are no sheet's as one layer too many.
@@ -38,6 +38,13 @@ abbrev pub PaintToldSeven : Type 0
 PaintToldSeven =
     (numbers : List ℤ) → isSheet numbers ≡ true → (i : ℕ) (canvas : List ℕ)
     → (paintTold numbers i canvas ≡ 7) ↔ NoSheetOrBroken numbers
+
+-- Removing, with a list of that length, whatever the layer, the canvas and the background: 7 comes before the other numbers of a
+-- removal, too (document 02, 'Five').
+abbrev pub RemoveToldSeven : Type 0
+RemoveToldSeven =
+    (numbers : List ℤ) → isSheet numbers ≡ true → (i : ℕ) (canvas background : List ℕ)
+    → (removeTold numbers i canvas background ≡ 7) ↔ NoSheetOrBroken numbers
 
 -- Adding, with a list of that length: 1, 2, 3 and 5, of the figure and the style, come before 7 ('The records', the table).
 abbrev pub AddToldSeven : Type 0

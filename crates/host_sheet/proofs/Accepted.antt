@@ -1,5 +1,5 @@
--- What an accepted call says of the sheet given: an added layer has a place, and a painted one is in one; and what is written of a
--- painted one.
+-- What an accepted call says of the sheet given: an added layer has a place, and a painted or a removed one is in one; and what is
+-- written of a painted one.
 -- Assumes nothing.
 use mathlib.Core.Path.{_≡_, sym, ap, _∙_}
 use mathlib.Core.List.{List, []}
@@ -11,9 +11,9 @@ use lib.Seq.{getD-set-same}
 use Rattle.refusal.specs.declared.Checked.the-variants.{Passed}
 use Rattle.signed.specs.Signed.{maxI32}
 use Rattle.geometry.specs.Limits.{maxLayers}
-use Rattle.book.specs.Book.{paint}
+use Rattle.book.specs.Book.{paint, remove}
 use Rattle.sheet_checks.proofs.Places.{kept-few}
-use Rattle.sheet_checks.proofs.Answers.{added-room, painted-accepted}
+use Rattle.sheet_checks.proofs.Answers.{added-room, painted-accepted, removed-accepted}
 use Rattle.sheet.specs.declared.Sheet.{Sheet}
 use Rattle.sheet_layers.specs.declared.Layer.{Layer}
 use Rattle.sheet_layers.specs.Layers.{blankLayer}
@@ -72,3 +72,17 @@ added-count numbers figure style e =
     let count =
     ap (λ (s : Sheet). s .count) (added-record (sheetOf numbers) (sixteen numbers) [] (styledFigure (figureOf figure) (styleOf style)) e) in
     omega arith
+
+-- a removed layer is one of those that the sheet says, and these have places
+pub removed-within : (numbers : List ℤ) (i : ℕ) (canvas background : List ℕ)
+    → sheetAnswer (sheetOf numbers) canvas (remove i background) ≡ Passed → i < sheetOf numbers .count
+removed-within numbers i canvas background e =
+    let s = sheetOf numbers in
+    removed-accepted (s .width) (s .height) (s .count) (s .layers) (sixteen numbers) i background canvas e .within
+
+pub removed-few : (numbers : List ℤ) (i : ℕ) (canvas background : List ℕ)
+    → sheetAnswer (sheetOf numbers) canvas (remove i background) ≡ Passed → sheetOf numbers .count ≤ maxLayers
+removed-few numbers i canvas background e =
+    let s = sheetOf numbers in
+    kept-few (s .width) (s .height) (s .count) (s .layers) (sixteen numbers)
+    (removed-accepted (s .width) (s .height) (s .count) (s .layers) (sixteen numbers) i background canvas e .rules)

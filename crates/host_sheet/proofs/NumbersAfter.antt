@@ -3,7 +3,7 @@
 use mathlib.Core.Path.{_≡_, refl, sym, ap, _∙_}
 use mathlib.Core.Bool.{true, _&&_}
 use mathlib.Core.List.{[]}
-use Prim.Native.Nat.{ℕ, _+_}
+use Prim.Native.Nat.{ℕ, _+_, _-_, _<_}
 use native.Mathlib.Omega.{arith}
 use lib.Dec.{eqb}
 use lib.IntN.{ℤ, pos}
@@ -14,7 +14,8 @@ use Rattle.signed.specs.Signed.{floor0}
 use Rattle.signed.proofs.Laws.{int}
 use Rattle.refusal.specs.declared.Checked.{Checked}
 use Rattle.refusal.specs.declared.Checked.the-variants.{Passed, Refused}
-use Rattle.book.specs.Book.{paint}
+use Rattle.geometry.specs.Limits.{maxLayers}
+use Rattle.book.specs.Book.{paint, remove}
 use Rattle.book.proofs.Tests.{and-true-parts}
 use Rattle.drawing.specs.Drawing.{styledFigure}
 use Rattle.sheet_layers.specs.declared.Layer.{Layer}
@@ -22,11 +23,13 @@ use Rattle.sheet_layers.specs.Layers.{blankLayer}
 use Rattle.sheet.specs.Sheet.{openedSheet, sheetAnswer, withLayer, addedLayer, carriedOutSheet, sheetAfter}
 use Rattle.host_records.specs.RecordNumbers.{isFigure, isStyle, listFrom, allFrom, noneNegative, figureOf, styleOf, paintOf, alignmentOf}
 use Rattle.host_records.proofs.Records.{figure-length, style-length}
-use Rattle.host_sheet_record.specs.SheetRecord.{styleAt, nextRowAt, sheetLength, isSheet, holdsRecords, sheetOf, placeAt, layerPut}
+use Rattle.host_sheet_record.specs.SheetRecord.{styleAt, nextRowAt, countAt, sheetLength, isSheet, holdsRecords, sheetOf, placeAt, layerPut, placeRemoved}
 use Rattle.host_sheet_record.proofs.Parts.{sheet-length, sixteen, records-of-few, count-of-records}
 use Rattle.host_sheet_record.proofs.ReadBack.{row-read-back, layer-read-back}
-use Rattle.host_sheet.specs.Sheets.{unusedPlaces, openedNumbers, nextRow, addOf, addNumbers, paintNumbers, OpenReadsBack, AddReadsBack, PaintReadsBack}
-use Rattle.host_sheet.proofs.Accepted.{added-place, painted-place, painted-few, painted-next}
+use Rattle.host_sheet_record.proofs.Removed.{removed-long, removed-read-back}
+use Rattle.host_sheet.specs.Sheets.{unusedPlaces, openedNumbers, nextRow, addOf, addNumbers, paintNumbers, removeNumbers}
+use Rattle.host_sheet.specs.Sheets.{OpenReadsBack, AddReadsBack, PaintReadsBack, RemoveReadsBack}
+use Rattle.host_sheet.proofs.Accepted.{added-place, painted-place, painted-few, painted-next, removed-within, removed-few}
 
 pub paint-reads-back : PaintReadsBack
 unfolding paintNumbers carriedOutSheet
@@ -52,6 +55,27 @@ paint-reads-back numbers i canvas is = by (sheetAnswer (sheetOf numbers) canvas 
                     (sheetOf numbers .layers) i blankLayer .style;
                 «next_row» = z;
               })) row,
+        )
+
+pub remove-reads-back : RemoveReadsBack
+unfolding removeNumbers carriedOutSheet
+remove-reads-back numbers i canvas background is = by (sheetAnswer (sheetOf numbers) canvas (remove i background)) refl
+  where
+    by : (a : Checked) → sheetAnswer (sheetOf numbers) canvas (remove i background) ≡ a
+        → (isSheet (removeNumbers numbers i canvas background) ≡ true) ×
+        (sheetOf (removeNumbers numbers i canvas background) ≡ sheetAfter (sheetOf numbers) canvas (remove i background))
+    by (Refused refusal) e = rw (is, e) (is, refl)
+    by Passed e =
+        let within = removed-within numbers i canvas background e in
+        let few = removed-few numbers i canvas background e in
+        let long = sheet-length numbers is in
+        let place : i < maxLayers = omega arith in
+        let records = records-of-few numbers few in
+        let counted = count-of-records numbers records in
+        rw (is, e) (
+          ap (λ (n : ℕ). eqb n sheetLength) (length-set (placeRemoved numbers i) countAt _ ∙ removed-long numbers long i place),
+          removed-read-back numbers long i place (sheetOf numbers .count - 1) records (omega arith) (omega arith) (omega arith)
+              background,
         )
 
 pub add-reads-back : AddReadsBack

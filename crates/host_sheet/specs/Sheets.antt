@@ -5,27 +5,23 @@ use mathlib.Core.Bool.{Bool, true, cond, _&&_}
 use mathlib.Core.List.{List, [], _∷_, _++_}
 use Prim.Native.Nat.{ℕ, zero, suc, _+_}
 use lib.IntN.{ℤ, pos}
-use lib.ListN.{set, getD, replicate}
+use lib.ListN.{set, getD}
 use Rattle.geometry.specs.Limits.{maxLayers}
 use Rattle.refusal.specs.declared.Checked.{Checked}
 use Rattle.refusal.specs.Refusal.{answerNumber, Outcome, unless, keeping}
 use Rattle.canvas_size.specs.CanvasSize.{canvasSizeCheck}
-use Rattle.book.specs.Book.{Call, add, paint}
+use Rattle.book.specs.Book.{Call, add, paint, remove}
 use Rattle.drawing.specs.Drawing.{StyledFigure, styledFigure}
 use Rattle.sheet_layers.specs.Layers.{blankLayer}
 use Rattle.sheet.specs.declared.Sheet.{Sheet}
 use Rattle.sheet.specs.Sheet.{openedSheet, sheetAnswer, sheetAfter, canvasAfter}
-use Rattle.host_records.specs.RecordNumbers.{figureLength, absentPaint, isFigure, isStyle, figureOf, styleOf}
-use Rattle.host_sheet_record.specs.SheetRecord.{nextRowAt, countAt, placeAt, isSheet, sheetOf, layerPut}
+use Rattle.host_records.specs.RecordNumbers.{isFigure, isStyle, figureOf, styleOf}
+use Rattle.host_sheet_record.specs.SheetRecord.{nextRowAt, countAt, placeAt, isSheet, sheetOf, layerPut, unusedPlace, placeRemoved}
 use Rattle.host_answers.specs.HostAnswers.{noRecord, ifRecord}
 
 -- ---- Opening: 6, else the numbers of a sheet without layers.
 
--- an unused place: an ellipse 0 by 0 at (0, 0) without paint, next row 0
-abbrev pub unusedPlace : List ℤ
-unusedPlace = replicate figureLength (pos 0) ++ absentPaint ∷ absentPaint ∷ replicate 3 (pos 0)
-
--- n of them
+-- n unused places
 unfoldable pub unusedPlaces : ℕ → List ℤ
 unusedPlaces zero = []
 unusedPlaces (suc n) = unusedPlace ++ unusedPlaces n
@@ -38,7 +34,7 @@ openedNumbers W H = pos W ∷ pos H ∷ pos 0 ∷ unusedPlaces maxLayers
 abbrev pub openSaid : ℕ → ℕ → Outcome
 openSaid W H = unless (canvasSizeCheck W H) (openedNumbers W H)
 
--- ---- Adding and painting: what the host is told; of numbers that are no sheet, figure or style, that they are no record.
+-- ---- Adding, painting and removing: what the host is told; of numbers that are no sheet, figure or style, that they are no record.
 abbrev pub toldOf : Bool → Checked → ℕ
 toldOf are answer = cond are (answerNumber answer) noRecord
 
@@ -92,6 +88,25 @@ paintNumbers sheet i canvas =
 unfoldable pub paintCanvas : List ℤ → ℕ → List ℕ → List ℕ
 paintCanvas sheet i canvas = ifRecord (isSheet sheet) canvas (canvasAfter (sheetOf sheet) canvas (paint i))
 
+-- `Sheet::remove` (document 02, 'Five'): the layer's place taken out, the new count, and the canvas
+abbrev pub withRemoved : List ℤ → ℕ → Sheet → List ℤ
+withRemoved numbers i after = set (placeRemoved numbers i) countAt (pos (after .count))
+
+-- what the host is told of it: 7, 8, 10, or done
+unfoldable pub removeTold : List ℤ → ℕ → List ℕ → List ℕ → ℕ
+removeTold sheet i canvas background = toldOf (isSheet sheet) (sheetAnswer (sheetOf sheet) canvas (remove i background))
+
+-- the sheet's numbers after it
+unfoldable pub removeNumbers : List ℤ → ℕ → List ℕ → List ℕ → List ℤ
+removeNumbers sheet i canvas background =
+    numbersAfter (isSheet sheet) (sheetAnswer (sheetOf sheet) canvas (remove i background)) sheet
+    (withRemoved sheet i (sheetAfter (sheetOf sheet) canvas (remove i background)))
+
+-- the canvas after it
+unfoldable pub removeCanvas : List ℤ → ℕ → List ℕ → List ℕ → List ℕ
+removeCanvas sheet i canvas background =
+    ifRecord (isSheet sheet) canvas (canvasAfter (sheetOf sheet) canvas (remove i background))
+
 -- ---- What the numbers are afterwards: a sheet's again, and of the sheet after the call. So a list of these calls on numbers that
 -- were opened is a list of `Sheet`'s own calls, for which the third demand holds (proofs/NumbersAfter.antt).
 abbrev pub OpenReadsBack : Type 0
@@ -108,3 +123,9 @@ PaintReadsBack =
     (sheet : List ℤ) (i : ℕ) (canvas : List ℕ) → isSheet sheet ≡ true
     → (isSheet (paintNumbers sheet i canvas) ≡ true)
     × (sheetOf (paintNumbers sheet i canvas) ≡ sheetAfter (sheetOf sheet) canvas (paint i))
+
+abbrev pub RemoveReadsBack : Type 0
+RemoveReadsBack =
+    (sheet : List ℤ) (i : ℕ) (canvas background : List ℕ) → isSheet sheet ≡ true
+    → (isSheet (removeNumbers sheet i canvas background) ≡ true)
+    × (sheetOf (removeNumbers sheet i canvas background) ≡ sheetAfter (sheetOf sheet) canvas (remove i background))

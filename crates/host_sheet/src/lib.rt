@@ -22,6 +22,7 @@ use host_sheet_record::SHEET_LENGTH;
 use host_sheet_record::STYLE;
 use host_sheet_record::is_sheet;
 use host_sheet_record::put_layer;
+use host_sheet_record::remove_place;
 use host_sheet_record::sheet_of;
 use refusal::Checked;
 use sheet::SheetAnswer;
@@ -30,6 +31,7 @@ use sheet_layers::Layer;
 ghost use mathlib.Core.Path.{_≡_};
 ghost use Rattle.host_answers.specs.HostAnswers.{Tells};
 ghost use Rattle.host_sheet.specs.Sheets.{openedNumbers, openSaid, addTold, addNumbers, paintTold, paintNumbers, paintCanvas};
+ghost use Rattle.host_sheet.specs.Sheets.{removeTold, removeNumbers, removeCanvas};
 
 // The numbers of a sheet without layers, its width and height left 0: unused places, without paint.
 fn unused_places() -> [i32; SHEET_LENGTH]
@@ -107,5 +109,27 @@ pub fn paint(sheet: &mut [i32], layer: u32, canvas: &mut [u8]) -> u32
         return checked.refusal().number();
     };
     paint_next(sheet, layer, canvas);
+    DONE
+}
+
+// A layer removed: the rows that it had painted become the background's, overpainted by the other
+// layers that had painted them, and later layers move down one number. Refused by 7, 8 and 10.
+pub fn remove(sheet: &mut [i32], layer: u32, canvas: &mut [u8], background: &[u8]) -> u32
+    ensures { λ r. ⌜ r ≡ removeTold (now (sheet .entry)) layer (now (canvas .entry)) (now (background .entry)) ⌝ }
+    ensures { λ _. ⌜ now (sheet .exit) ≡ removeNumbers (now (sheet .entry)) layer (now (canvas .entry)) (now (background .entry)) ⌝ }
+    ensures { λ _. ⌜ now (canvas .exit) ≡ removeCanvas (now (sheet .entry)) layer (now (canvas .entry)) (now (background .entry)) ⌝ }
+{
+    if !is_sheet(sheet) {
+        return NO_RECORD;
+    }
+    let before = sheet_of(sheet);
+    let made = before.remove(layer, canvas, background);
+    let answer = made.answer;
+    let SheetAnswer::Accepted = answer else {
+        return number_of(answer);
+    };
+    let left = made.sheet;
+    remove_place(sheet, layer as usize);
+    sheet[COUNT] = signed::from_u32(left.count);
     DONE
 }

@@ -77,7 +77,7 @@ apart i j other true order P after before =
 apart i j other false order P after before = before (leb-false i j order)
 
 -- ---- The numbers hold records afterwards too.
-none-negative-set : (l : List ℤ) (k n : ℕ) → noneNegative l ≡ true → noneNegative (set l k (pos n)) ≡ true
+pub none-negative-set : (l : List ℤ) (k n : ℕ) → noneNegative l ≡ true → noneNegative (set l k (pos n)) ≡ true
 unfolding noneNegative
 none-negative-set [] k n none = none
 none-negative-set (v ∷ l) zero n none =
@@ -92,18 +92,18 @@ abbrev used : List ℤ → ℕ
 used numbers = min (floor0 (numberAt numbers countAt)) maxLayers
 
 module _ (before after : List ℤ) (records : holdsRecords before ≡ true) where
-  places-before : (j : ℕ) → j < used before → isLayer (placeNumbers before j) ≡ true
+  pub places-before : (j : ℕ) → j < used before → isLayer (placeNumbers before j) ≡ true
   unfolding holdsRecords
   places-before j within =
       each-of-all (λ k. isLayer (placeNumbers before k)) (used before) 0 j (omega arith) (omega arith)
       (and-true-parts (noneNegative (take firstPlaceAt before)) (allFrom (λ k. isLayer (placeNumbers before k)) 0 (used before)) records .1)
 
-  sides-before : noneNegative (take firstPlaceAt before) ≡ true
+  pub sides-before : noneNegative (take firstPlaceAt before) ≡ true
   unfolding holdsRecords
   sides-before =
       and-true-parts (noneNegative (take firstPlaceAt before)) (allFrom (λ k. isLayer (placeNumbers before k)) 0 (used before)) records .0
 
-  still-records : noneNegative (take firstPlaceAt after) ≡ true → ((j : ℕ) → j < used after → isLayer (placeNumbers after j) ≡ true)
+  pub still-records : noneNegative (take firstPlaceAt after) ≡ true → ((j : ℕ) → j < used after → isLayer (placeNumbers after j) ≡ true)
       → holdsRecords after ≡ true
   unfolding holdsRecords
   still-records sides places =

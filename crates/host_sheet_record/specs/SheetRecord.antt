@@ -5,15 +5,15 @@
 -- Figures and styles are written as in `host_records`.
 -- Assumes nothing.
 use mathlib.Core.Bool.{Bool, cond, _&&_}
-use mathlib.Core.List.{List}
+use mathlib.Core.List.{List, _∷_, _++_}
 use Prim.Native.Nat.{ℕ, suc, _+_, _*_, min}
 use lib.Dec.{eqb}
 use lib.IntN.{ℤ, pos, _+ℤ_}
-use lib.ListN.{length, take, drop, set}
+use lib.ListN.{length, take, drop, set, replicate}
 use lib.Seq.{sets}
 use Rattle.signed.specs.Signed.{floor0}
 use Rattle.geometry.specs.Limits.{maxLayers}
-use Rattle.host_records.specs.RecordNumbers.{figureLength, styleLength, numberAt, listFrom, allFrom, noneNegative, isFigure, isStyle, figureOf, styleOf}
+use Rattle.host_records.specs.RecordNumbers.{figureLength, styleLength, absentPaint, numberAt, listFrom, allFrom, noneNegative, isFigure, isStyle, figureOf, styleOf}
 use Rattle.sheet_layers.specs.declared.Layer.{Layer}
 use Rattle.sheet.specs.declared.Sheet.{Sheet}
 
@@ -98,3 +98,17 @@ layerPut numbers j figure style row =
 -- ---- Numbers whose layer i has painted one row more: its next row is the one below.
 abbrev pub rowPainted : List ℤ → ℕ → List ℤ
 rowPainted numbers i = set numbers (placeAt i + nextRowAt) (layerOf (placeNumbers numbers i) .«next_row» +ℤ pos 1)
+
+-- ---- Numbers without the layer in place i (document 02, 'Five').
+
+-- an unused place: an ellipse 0 by 0 at (0, 0) without paint, next row 0
+abbrev pub unusedPlace : List ℤ
+unusedPlace = replicate figureLength (pos 0) ++ absentPaint ∷ absentPaint ∷ replicate 3 (pos 0)
+
+-- what stands behind place i is written one place lower, and the last place keeps its own
+abbrev pub movedDown : List ℤ → ℕ → List ℤ
+movedDown numbers i = sets numbers (placeAt i) (drop (placeAt (suc i)) numbers)
+
+-- each place behind place i moves down one number, and the last place is left unused
+abbrev pub placeRemoved : List ℤ → ℕ → List ℤ
+placeRemoved numbers i = take (placeAt i) numbers ++ (drop (placeAt (suc i)) numbers ++ unusedPlace)

@@ -2,7 +2,10 @@
 // places).
 use canvas_size::CanvasSize;
 use host_answers::put_from;
+use host_records::ABSENT;
 use host_records::FIGURE_LENGTH;
+use host_records::FILL;
+use host_records::STROKE;
 use host_records::STYLE_LENGTH;
 use host_records::figure_of;
 use host_records::is_figure;
@@ -16,7 +19,7 @@ ghost use Prim.Native.Nat.{_<_};
 ghost use lib.ListN.{length};
 ghost use Rattle.geometry.specs.Limits.{maxLayers};
 ghost use Rattle.host_records.specs.RecordNumbers.{figureLength, styleLength};
-ghost use Rattle.host_sheet_record.specs.SheetRecord.{layerLength, sheetLength, isLayer, isSheet, holdsRecords, countOf, layerOf, placeNumbers, sheetOf, layerPut};
+ghost use Rattle.host_sheet_record.specs.SheetRecord.{layerLength, sheetLength, isLayer, isSheet, holdsRecords, countOf, layerOf, placeNumbers, sheetOf, layerPut, unusedPlace, movedDown, placeRemoved};
 
 // Where a layer's style and its next row stand, behind its figure, and how many numbers it has.
 pub const STYLE: usize = FIGURE_LENGTH;
@@ -36,6 +39,9 @@ pub const COUNT: usize = 2;
 pub const FIRST_PLACE: usize = 3;
 
 pub const SHEET_LENGTH: usize = FIRST_PLACE + LAYER_LENGTH * Layer::PLACES;
+
+// Where its last place begins.
+const LAST_PLACE: usize = SHEET_LENGTH - LAYER_LENGTH;
 
 // The count that numbers without records are read as: one more than there may be.
 const TOO_MANY: u32 = Sheet::MAX_LAYERS + 1;
@@ -162,4 +168,37 @@ pub fn put_layer(numbers: &mut [i32], place: usize, figure: &[i32], style: &[i32
     put_from(numbers, at, figure);
     put_from(numbers, at + STYLE, style);
     numbers[at + NEXT_ROW] = row;
+}
+
+// The numbers of a place that holds no layer.
+fn unused_place() -> [i32; LAYER_LENGTH]
+    ensures { λ r. ⌜ r ≡ unusedPlace ⌝ }
+{
+    let mut numbers = [0i32; LAYER_LENGTH];
+    numbers[STYLE + STROKE] = ABSENT;
+    numbers[STYLE + FILL] = ABSENT;
+    numbers
+}
+
+// Moves the numbers of each place behind a place down by one place. The last place keeps its own.
+fn move_down(numbers: &mut [i32], place: usize)
+    requires { ⌜ (length (now numbers) ≡ sheetLength) × (place < maxLayers) ⌝ }
+    ensures { λ _. ⌜ now (numbers .exit) ≡ movedDown (now (numbers .entry)) place ⌝ }
+{
+    let mut k = FIRST_PLACE + LAYER_LENGTH * place;
+    while k < LAST_PLACE {
+        numbers[k] = numbers[k + LAYER_LENGTH];
+        k += 1;
+    }
+}
+
+// Takes a place's numbers out: those behind it move down by one place, and the last place is left
+// unused (document 02, 'Five'). What stands before the place is not touched.
+pub fn remove_place(numbers: &mut [i32], place: usize)
+    requires { ⌜ (length (now numbers) ≡ sheetLength) × (place < maxLayers) ⌝ }
+    ensures { λ _. ⌜ now (numbers .exit) ≡ placeRemoved (now (numbers .entry)) place ⌝ }
+{
+    let unused = unused_place();
+    move_down(numbers, place);
+    put_from(numbers, LAST_PLACE, &unused);
 }

@@ -12,6 +12,7 @@ ghost use Rattle.host_calls.specs.Calls.{runNumber, RunTold};
 ghost use Rattle.netpbm_header.specs.declared.Format.the-variants.{P4, P5};
 ghost use Rattle.host_netpbm.specs.Netpbm.{writeSaid, writtenAfter, readSaid, readAfter};
 ghost use Rattle.host_sheet.specs.Sheets.{openSaid, addTold, addNumbers, paintTold, paintNumbers, paintCanvas};
+ghost use Rattle.host_sheet.specs.Sheets.{removeTold, removeNumbers, removeCanvas};
 
 // Whether a point is inside, as 1 or 0. Refused by 1, 2, 3, 4 and 13.
 #[no_mangle]
@@ -131,21 +132,38 @@ pub extern "C" fn wunqaber_sheet_paint(sheet: &mut [i32], layer: u32, canvas: &m
     host_sheet::paint(sheet, layer, canvas)
 }
 
-// A list of sheet calls run from a sheet just opened, and the answer of each. Refused by 6, 8 and 13.
+// A layer removed, its rows shown anew over the background. Refused by 7, 8 and 10.
+#[no_mangle]
+pub extern "C" fn wunqaber_sheet_remove(
+    sheet: &mut [i32],
+    layer: u32,
+    canvas: &mut [u8],
+    background: &[u8],
+) -> u32
+    ensures { λ r. ⌜ r ≡ removeTold (now (sheet .entry)) layer (now (canvas .entry)) (now (background .entry)) ⌝ }
+    ensures { λ _. ⌜ now (sheet .exit) ≡ removeNumbers (now (sheet .entry)) layer (now (canvas .entry)) (now (background .entry)) ⌝ }
+    ensures { λ _. ⌜ now (canvas .exit) ≡ removeCanvas (now (sheet .entry)) layer (now (canvas .entry)) (now (background .entry)) ⌝ }
+{
+    host_sheet::remove(sheet, layer, canvas, background)
+}
+
+// A list of sheet calls run from a sheet just opened, with one background for its removals, and the
+// answer of each. Refused by 6, 8 and 13; the background is looked at by a removal alone.
 #[no_mangle]
 pub extern "C" fn wunqaber_run_calls(
     width: u32,
     height: u32,
     calls: &[i32],
     canvas: &mut [u8],
+    background: &[u8],
     answers: &mut [u32],
 ) -> u32
     ensures { λ r. ⌜ r ≡ runNumber (runAnswer width height (now (calls .entry)) (length (now (canvas .entry)))
         (length (now (answers .entry)))) ⌝ }
-    ensures { λ _. ⌜ RunTold width height (now (calls .entry)) (now (canvas .entry)) (now (answers .entry)) (now (canvas .exit))
-        (now (answers .exit)) ⌝ }
+    ensures { λ _. ⌜ RunTold width height (now (calls .entry)) (now (canvas .entry)) (now (background .entry)) (now (answers .entry))
+        (now (canvas .exit)) (now (answers .exit)) ⌝ }
 {
-    host_calls::run_calls(width, height, calls, canvas, answers)
+    host_calls::run_calls(width, height, calls, canvas, background, answers)
 }
 
 // The canvas as P5, and the length of the file. Refused by 6, 8 and 13.

@@ -93,7 +93,7 @@ returns : tie.Need-returns
 returns c =
     let done = c .before .before .remove .ensures in
     rw (removes (c .before .before .before .before))
-    (record { answer = done .0; sheet = done .1 .0; bytes = done .1 .1 })
+    (record { answer = done .0; sheet = done .1 .0; bytes = done .1 .1 .0 })
 
 shared-slice-copy-out-if2 : tie.Need-shared-slice-copy-out-if2
 shared-slice-copy-out-if2 c = search needs
