@@ -118,6 +118,7 @@ pub fn remove(sheet: &mut [i32], layer: u32, canvas: &mut [u8], background: &[u8
     ensures { λ r. ⌜ r ≡ removeTold (now (sheet .entry)) layer (now (canvas .entry)) (now (background .entry)) ⌝ }
     ensures { λ _. ⌜ now (sheet .exit) ≡ removeNumbers (now (sheet .entry)) layer (now (canvas .entry)) (now (background .entry)) ⌝ }
     ensures { λ _. ⌜ now (canvas .exit) ≡ removeCanvas (now (sheet .entry)) layer (now (canvas .entry)) (now (background .entry)) ⌝ }
+    ensures { λ _. ⌜ now (background .exit) ≡ now (background .entry) ⌝ }
 {
     if !is_sheet(sheet) {
         return NO_RECORD;

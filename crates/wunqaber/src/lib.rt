@@ -143,6 +143,7 @@ pub extern "C" fn wunqaber_sheet_remove(
     ensures { λ r. ⌜ r ≡ removeTold (now (sheet .entry)) layer (now (canvas .entry)) (now (background .entry)) ⌝ }
     ensures { λ _. ⌜ now (sheet .exit) ≡ removeNumbers (now (sheet .entry)) layer (now (canvas .entry)) (now (background .entry)) ⌝ }
     ensures { λ _. ⌜ now (canvas .exit) ≡ removeCanvas (now (sheet .entry)) layer (now (canvas .entry)) (now (background .entry)) ⌝ }
+    ensures { λ _. ⌜ now (background .exit) ≡ now (background .entry) ⌝ }
 {
     host_sheet::remove(sheet, layer, canvas, background)
 }

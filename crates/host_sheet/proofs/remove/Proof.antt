@@ -112,7 +112,7 @@ same-length c = search needs
 
 returns : tie.Need-returns
 unfolding removeTold removeNumbers removeCanvas
-returns c = rw (sym (c .before .is-sheet .ensures) ∙ not-true _ (c .if1 .taken)) (refl, (refl, refl))
+returns c = rw (sym (c .before .is-sheet .ensures) ∙ not-true _ (c .if1 .taken)) (refl, (refl, (refl, refl)))
 
 sheet-of-requires : tie.Need-sheet-of-requires
 sheet-of-requires c κs = sheet-length (c .before .before .before .before .before .before .args .sheet .now) (is-one (c .before))
@@ -144,7 +144,7 @@ returns-2 c =
     let refused = sym (says made) ∙ ap (λ (a : SheetAnswer). said a) (told .enum-told2 .given .1) in
     rw (is-one (made .before .before .before .before), refused) (
       c .number-of .ensures ∙ ap (λ (a : SheetAnswer). answerNumber (said a)) (told .enum-told2 .given .1),
-      (refl, painted made),
+      (refl, (painted made, refl)),
     )
 
 remove-place-requires : tie.Need-remove-place-requires
@@ -178,7 +178,7 @@ returns-3 c =
       (
         ap₂ (λ (l : List ℤ) (z : ℤ). set l countAt z) (c .before .before .remove-place .ensures)
             (toZ-ofZ (c .from-u32 .ensures .fits) ∙ c .from-u32 .ensures .is ∙ ap (λ (s : Sheet). pos (s .count)) (carried told)),
-        painted made,
+        (painted made, refl),
       ),
     )
 
