@@ -10,7 +10,7 @@ use lib.ListN.{length, replicate, length-replicate}
 use Rattle.refusal.specs.declared.Refusal.the-variants.{Side}
 use Rattle.refusal.specs.declared.Checked.{Checked}
 use Rattle.refusal.specs.Refusal.{answerNumber, refuseIf}
-use Rattle.book.specs.Book.{Drawing, Call, add, paint, remove, Entry, hasRow, hasPainted}
+use Rattle.book.specs.Book.{Drawing, Call, add, paint, remove, hasRow, hasPainted}
 use Rattle.book.specs.Book.{isLeft, someOwes, noneLeft, bookAnswer, noted, bookAfter, bookAnswers, bookAfterAll}
 use Rattle.book.specs.Book.{painters, overpainted}
 use Rattle.book.specs.Canvas.{canvasRow, putRow, rowsFrom}

@@ -2,7 +2,7 @@
 -- row off its rows sets nothing, painting it whole overpaints every row of the canvas by the styled row there.
 -- Assumes nothing.
 use mathlib.Core.Path.{_≡_, refl, sym, ap, _∙_}
-use mathlib.Core.List.{List, _++_}
+use mathlib.Core.List.{List}
 use mathlib.Core.Bool.{Bool, true, false, cond}
 use Prim.Native.Nat.{ℕ, zero, suc, _+_, _*_, _<_}
 use native.Mathlib.Nat.{mul-comm}
@@ -134,7 +134,8 @@ module _ (d : Drawing) (item : d .Item) (W H : ℕ) where
       ∙ ap (λ (k : ℕ). d .over item (pos k) (take W canvas)) (omega arith)
       ∙ ap (d .over item (pos (y + zero))) (sym (row-at-start W canvas))
   overpaint-rows-row (suc n) y canvas (suc z) size low =
-      row-of-append W z (d .over item (pos y) (take W canvas)) (overpaintRows d W item (suc y) n (drop W canvas)) (first-wide n y canvas size)
+      row-of-append W z (d .over item (pos y) (take W canvas)) (overpaintRows d W item (suc y) n (drop W canvas))
+      (first-wide n y canvas size)
       ∙ overpaint-rows-row n (suc y) (drop W canvas) z (simp length-drop (omega (arith, size))) (omega arith)
       ∙ ap (λ (k : ℕ). d .over item (pos k) (canvasRow W z (drop W canvas))) (omega arith)
       ∙ ap (d .over item (pos (y + suc z))) (row-of-drop z canvas)

@@ -4,7 +4,7 @@ use mathlib.Core.Path.{_≡_, refl, sym, ap, _∙_}
 use mathlib.Core.List.{List, [], _∷_, _++_}
 use Prim.Native.Nat.{ℕ, zero, suc, _<_, _≤_}
 use native.Mathlib.Omega.{arith}
-use lib.ListN.{length, take, drop, set, getD, length-set, length-append}
+use lib.ListN.{length, take, drop, set, getD, length-set}
 use lib.Seq.{take-nil, take-append-le, take-suc, take-suc-set, take-all, length-take-le}
 use Rattle.book.specs.Book.{without}
 use Rattle.book.proofs.Lists.{length-without}

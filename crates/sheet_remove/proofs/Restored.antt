@@ -1,12 +1,12 @@
 -- The canvas after a removal by the steps of the code: rows copied from the background, and layer after layer laid over them. Canvas row
 -- by canvas row: each step changes a row from the first up to the last only, and there it is the step that the definition makes.
 -- Assumes nothing.
-use mathlib.Core.Path.{_≡_, refl, sym, ap, ap₂, _∙_}
+use mathlib.Core.Path.{_≡_, refl, sym, ap, ap₂, subst, _∙_}
 use mathlib.Core.Bool.{Bool, true, false, cond, _&&_}
 use mathlib.Core.List.{List, [], _∷_, _++_, map, append-assoc}
 use mathlib.Core.Option.{some}
 use Prim.Native.Nat.{ℕ, suc, _+_, _*_, _-_, _<_, _≤_, min, max}
-use native.Mathlib.Nat.{mul-le-mul-right, mul-comm}
+use native.Mathlib.Nat.{mul-le-mul-right}
 use native.Mathlib.Numerals.{add-one}
 use native.Mathlib.Omega.{arith}
 use lib.Dec.{leb, ltb}
@@ -14,6 +14,9 @@ use lib.IntN.{ℤ, pos, _+ℤ_}
 use lib.Signed.{leZ, ltZ}
 use lib.ListN.{length, take, drop, getD, length-take, drop-of-length-le, List·getD-append}
 use lib.Seq.{sets, sets-eq, length-sets, slice, length-slice, getD-take, getD-drop, getD-append-add, length-take-le, take-take}
+use mir.Syntax.{w32}
+use mir.Val.{SFits, toZ, ofZ}
+use mir.Facts.{toZ-ofZ}
 use borrow.Author.Tests.{leb-true, leb-false, ltb-true, ltb-false}
 use Rattle.signed.specs.Signed.{floor0}
 use Rattle.signed.proofs.Laws.{int, add-law}
@@ -24,7 +27,7 @@ use Rattle.book.specs.Whole.{paintRows}
 use Rattle.book.proofs.Tests.{and-true-parts, and-true-of, false-unless, tests-equal}
 use Rattle.book.proofs.Lists.{take-map, drop-map}
 use Rattle.book.proofs.CanvasRows.{canvas-row-length, canvas-of-length, canvas-of-row, canvases-equal-by-rows, rows-equal-by-bytes}
-use Rattle.book.proofs.EntryRows.{run-true, run-holds}
+use Rattle.book.proofs.EntryRows.{run-true}
 use Rattle.book.proofs.Picture.{overpainted-length, overpainted-append, restored-length, restored-row}
 use Rattle.book.proofs.Whole.{paint-rows-length}
 use Rattle.book.proofs.WholeRows.{paint-rows-row}
@@ -33,6 +36,11 @@ use Rattle.sheet_layers.specs.declared.Layer.{Layer}
 use Rattle.sheet_layers.specs.declared.rows.LayerRows.{LayerRows}
 use Rattle.sheet_layers.specs.Layers.{blankLayer, layerOf, layerRows}
 use Rattle.sheet_remove.specs.Removal.{laidOverRow, laidOver}
+
+-- a row of a layer, read as 32 bits hold it from where the rows were found
+pub row-held : {found rows : LayerRows} → found ≡ rows → (row : LayerRows → ℤ) → SFits w32 (row rows)
+    → toZ w32 (ofZ w32 (row found)) ≡ row rows
+row-held same row fits = toZ-ofZ (subst (λ (r : LayerRows). SFits w32 (row r)) (sym same) fits) ∙ ap row same
 
 -- ---- the layers of two lists that have painted a row
 layer-painters-append : (a b : Layers drawing) (y : ℤ)
@@ -320,7 +328,8 @@ module _ (W H : ℕ) (background canvas : List ℕ) (long : length background �
   half-length = laid-over-length W H firstRow endRow earlier start start-length
 
   pub restored-by-layers : laidOver W H firstRow endRow later half
-      ≡ restored drawing W H (some (layerOf (getD layers place blankLayer))) (without place (map layerOf (take count layers))) background canvas
+      ≡ restored drawing W H (some (layerOf (getD layers place blankLayer))) (without place (map layerOf (take count layers)))
+      background canvas
   unfolding laidOverRow restoredRow
   restored-by-layers =
       canvases-equal-by-rows W H (laidOver W H firstRow endRow later half) (restored drawing W H (some l) others background canvas)
@@ -340,10 +349,12 @@ module _ (W H : ℕ) (background canvas : List ℕ) (long : length background �
       others : Layers drawing
       others = without place (map layerOf (take count layers))
 
-      -- a row with some layers laid over it, if it is one that the layer has painted
+      -- row y with some layers laid over it, if it is one that the layer has painted
+      laid : ℕ → Bool → Layers drawing → List ℕ → List ℕ
+      laid y t some-layers row = cond t (overpainted drawing (layerPainters drawing some-layers (pos y)) (pos y) row) row
+
       over : Layers drawing → ℕ → List ℕ → List ℕ
-      over some-layers y row =
-          cond (leb firstRow y && ltb y endRow) (overpainted drawing (layerPainters drawing some-layers (pos y)) (pos y) row) row
+      over some-layers y row = laid y (leb firstRow y && ltb y endRow) some-layers row
 
       shown : ℕ → List ℕ
       shown y = overpainted drawing (layerPainters drawing others (pos y)) (pos y) (canvasRow W y background)
@@ -359,12 +370,7 @@ module _ (W H : ℕ) (background canvas : List ℕ) (long : length background �
           (sym (ap (λ (a : Layers drawing). layerPainters drawing a (pos y)) others-are ∙ layer-painters-append earlier later (pos y)))
 
       by-test : (y : ℕ) (t : Bool)
-          → cond t
-          (overpainted drawing (layerPainters drawing later (pos y)) (pos y)
-          (cond t (overpainted drawing (layerPainters drawing earlier (pos y)) (pos y) (cond t (canvasRow W y background) (canvasRow W y canvas)))
-          (cond t (canvasRow W y background) (canvasRow W y canvas))))
-          (cond t (overpainted drawing (layerPainters drawing earlier (pos y)) (pos y) (cond t (canvasRow W y background) (canvasRow W y canvas)))
-          (cond t (canvasRow W y background) (canvasRow W y canvas)))
+          → laid y t later (laid y t earlier (cond t (canvasRow W y background) (canvasRow W y canvas)))
           ≡ cond t (shown y) (canvasRow W y canvas)
       by-test y true = all-over y
       by-test y false = refl

@@ -1,25 +1,21 @@
 -- `sheet_remove::lay_over` meets its contract. Invariant: the layers that are left, laid over the canvas, make the whole.
 -- Assumes nothing.
-use mathlib.Core.Path.{_≡_, refl, sym, ap, ap₂, subst, _∙_}
+use mathlib.Core.Path.{_≡_, refl, sym, ap, ap₂, _∙_}
 use mathlib.Core.List.{List, map}
-use Prim.Native.Nat.{ℕ, _+_, _-_, _*_, _<_, _≤_, min, max}
+use Prim.Native.Nat.{ℕ, _+_, _-_, _<_, min, max}
 use native.Mathlib.Omega.{arith}
 use borrow.Author.Needs.{needs}
 use lib.IntN.{pos}
 use lib.ListN.{length, take, drop, getD}
-use mir.Syntax.{w32}
-use mir.Val.{SFits}
-use mir.Facts.{toZ-ofZ}
 use Rattle.signed.specs.Signed.{floor0}
 use Rattle.book.specs.Whole.{paintRows}
 use Rattle.drawing.specs.Drawing.{styledFigure, drawing}
 use Rattle.sheet_layers.specs.declared.Layer.{Layer}
-use Rattle.sheet_layers.specs.declared.rows.LayerRows.{LayerRows}
 use Rattle.sheet_layers.specs.Layers.{blankLayer, layerOf, layerRows}
 use Rattle.sheet_layers.proofs.RowTests.{noRows, place-here, place-past}
 use Rattle.sheet_layers.proofs.LayerRules.{LayerWithin}
 use Rattle.sheet_remove.specs.Removal.{laidOver}
-use Rattle.sheet_remove.proofs.Restored.{laid-over-none, laid-over-one, painted, painted-length}
+use Rattle.sheet_remove.proofs.Restored.{row-held, laid-over-none, laid-over-one, painted, painted-length}
 use Rattle.sheet_remove.proofs.lay_over.Statement.{statement}
 use Rattle.sheet_remove.proofs.lay_over.Tie as tie
 
@@ -58,20 +54,18 @@ rows-are c = start c .pre .1 .1 .1 .rows-are (place c) (left c)
 top-is : (c : tie.After-least Inv-loop μ-loop)
     → c .before .before .before .most .result ≡ max (start c .args .from) (floor0 (layerRows (layer c) .first))
 top-is c =
-    let fits = within c .rows in
     c .before .before .before .most .ensures
     ∙ ap (max (start c .args .from))
     (c .before .before .before .before .floor0 .ensures
-    ∙ ap floor0 (toZ-ofZ (subst (λ (r : LayerRows). SFits w32 (r .first)) (sym (rows-are c)) (fits .first)) ∙ ap (λ (r : LayerRows). r .first) (rows-are c)))
+    ∙ ap floor0 (row-held (rows-are c) (λ r. r .first) (within c .rows .first)))
 
 bottom-is : (c : tie.After-least Inv-loop μ-loop)
     → c .least .result ≡ min (start c .args .to) (floor0 (layerRows (layer c) .next))
 bottom-is c =
-    let fits = within c .rows in
     c .least .ensures
     ∙ ap (min (start c .args .to))
     (c .before .floor02 .ensures
-    ∙ ap floor0 (toZ-ofZ (subst (λ (r : LayerRows). SFits w32 (r .next)) (sym (rows-are c)) (fits .next)) ∙ ap (λ (r : LayerRows). r .next) (rows-are c)))
+    ∙ ap floor0 (row-held (rows-are c) (λ r. r .next) (within c .rows .next)))
 
 loop-holds : tie.Need-loop-holds Inv-loop μ-loop
 loop-holds c = (refl, refl)
@@ -98,7 +92,7 @@ mul-layer : tie.Need-mul-layer Inv-loop μ-loop
 mul-layer c = search needs
 
 array-copy-out-layer : tie.Need-array-copy-out-layer Inv-loop μ-loop
-array-copy-out-layer c = let few = c .before .before .before .before .before .before .before .before .before .before .pre .1 .1 .0 in omega arith
+array-copy-out-layer c = let few = start c .pre .1 .1 .0 in omega arith
 
 paint-rows-requires : tie.Need-paint-rows-requires Inv-loop μ-loop
 paint-rows-requires c κs =

@@ -2,7 +2,7 @@
 -- Assumes nothing.
 use mathlib.Core.Path.{_≡_, refl, sym, ap, _∙_}
 use mathlib.Core.List.{List}
-use Prim.Native.Nat.{ℕ, zero, suc, _+_, _*_, _-_, _<_, _≤_}
+use Prim.Native.Nat.{ℕ, zero, suc, _+_, _-_, _<_, _≤_}
 use native.Mathlib.Omega.{arith}
 use borrow.Author.Needs.{needs}
 use lib.IntN.{ℤ, pos}
@@ -77,11 +77,15 @@ loop-again c =
     let W = a .size .width in
     let H = a .size .height in
     let item = styledFigure (a .layer .figure) (a .layer .style) in
-    let painted = c .before .before .paint-row .ensures ∙ ap (λ (y : ℤ). paintRow drawing W H item y (walk .canvas)) (row-is (c .before .before .before)) in (
+    let painted =
+    c .before .before .paint-row .ensures
+    ∙ ap (λ (y : ℤ). paintRow drawing W H item y (walk .canvas)) (row-is (c .before .before .before)) in (
       ap (paintRows drawing W H item (pos (walk .y + 1)) (a .to - (walk .y + 1))) painted
           ∙ sym (step W H item (walk .y) (a .to) (walk .canvas) (c .before .before .before .before .before .loop-test .taken))
           ∙ walk .inv .0,
-      ap length painted ∙ paint-row-length drawing W H item (pos (walk .y)) (walk .canvas) (walk .inv .1 ∙ start .pre .0) ∙ sym (start .pre .0),
+      ap length painted
+          ∙ paint-row-length drawing W H item (pos (walk .y)) (walk .canvas) (walk .inv .1 ∙ start .pre .0)
+          ∙ sym (start .pre .0),
     )
 
 same-length : tie.Need-same-length Inv-loop μ-loop

@@ -2,17 +2,13 @@
 -- those of `restored-by-layers`.
 -- Assumes nothing.
 use borrow.Author.Needs.{needs}
-use mathlib.Core.Path.{_≡_, sym, ap, ap₂, subst, _∙_}
+use mathlib.Core.Path.{_≡_, sym, ap, ap₂, _∙_}
 use mathlib.Core.List.{List, map}
-use Prim.Native.Nat.{ℕ, _+_, _*_, _<_, _≤_, min}
+use Prim.Native.Nat.{ℕ, _+_, _*_, _≤_, min}
 use native.Mathlib.Nat.{mul-le-mul-right}
 use native.Mathlib.Omega.{arith}
-use lib.IntN.{ℤ}
 use lib.ListN.{length, take, drop, getD}
 use lib.Seq.{sets, slice, length-sets}
-use mir.Syntax.{w32}
-use mir.Val.{SFits, toZ, ofZ}
-use mir.Facts.{toZ-ofZ}
 use Rattle.signed.specs.Signed.{floor0}
 use Rattle.geometry.specs.Limits.{maxCanvasSide}
 use Rattle.book.specs.Sheet.{Layers}
@@ -22,7 +18,7 @@ use Rattle.sheet_layers.specs.declared.rows.LayerRows.{LayerRows}
 use Rattle.sheet_layers.specs.Layers.{blankLayer, layerOf, layerRows}
 use Rattle.sheet_layers.proofs.RowTests.{noRows}
 use Rattle.sheet_remove.specs.Removal.{Ready, laidOver}
-use Rattle.sheet_remove.proofs.Restored.{laid-over-length, restored-by-layers}
+use Rattle.sheet_remove.proofs.Restored.{row-held, laid-over-length, restored-by-layers}
 use Rattle.sheet_remove.proofs.restore.Statement.{statement}
 use Rattle.sheet_remove.proofs.restore.Tie as tie
 
@@ -36,21 +32,20 @@ layer c = getD (start c .args .layers) (start c .args .place) blankLayer
 rows-are : (c : tie.After-least2) → getD (start c .args .t5) (start c .args .place) noRows ≡ layerRows (layer c)
 rows-are c = start c .pre .1 .1 .1 .2 .rows-are (start c .args .place) (start c .pre .1 .1 .1 .0)
 
-held : (c : tie.After-least2) (row : LayerRows → ℤ) → SFits w32 (row (layerRows (layer c)))
-    → toZ w32 (ofZ w32 (row (getD (start c .args .t5) (start c .args .place) noRows))) ≡ row (layerRows (layer c))
-held c row fits = toZ-ofZ (subst (λ (r : LayerRows). SFits w32 (row r)) (sym (rows-are c)) fits) ∙ ap row (rows-are c)
-
-from-is : (c : tie.After-least2) → c .before .before .before .least .result ≡ min (start c .args .size .height) (floor0 (layerRows (layer c) .first))
+from-is : (c : tie.After-least2)
+    → c .before .before .before .least .result ≡ min (start c .args .size .height) (floor0 (layerRows (layer c) .first))
 from-is c =
     let fits = start c .pre .1 .1 .1 .2 .within (start c .args .place) (start c .pre .1 .1 .1 .0) .rows in
     c .before .before .before .least .ensures
-    ∙ ap (min (start c .args .size .height)) (c .before .before .before .before .floor0 .ensures ∙ ap floor0 (held c (λ r. r .first) (fits .first)))
+    ∙ ap (min (start c .args .size .height))
+    (c .before .before .before .before .floor0 .ensures ∙ ap floor0 (row-held (rows-are c) (λ r. r .first) (fits .first)))
 
 to-is : (c : tie.After-least2) → c .least2 .result ≡ min (start c .args .size .height) (floor0 (layerRows (layer c) .next))
 to-is c =
     let fits = start c .pre .1 .1 .1 .2 .within (start c .args .place) (start c .pre .1 .1 .1 .0) .rows in
     c .least2 .ensures
-    ∙ ap (min (start c .args .size .height)) (c .before .floor02 .ensures ∙ ap floor0 (held c (λ r. r .next) (fits .next)))
+    ∙ ap (min (start c .args .size .height))
+    (c .before .floor02 .ensures ∙ ap floor0 (row-held (rows-are c) (λ r. r .next) (fits .next)))
 
 -- they lie on the canvas
 row-within : (W H n r : ℕ) → r ≡ min H n → W * r ≤ W * H
@@ -122,7 +117,8 @@ mul-copy-bytes c =
     let a = start at .args in
     let wide = start at .pre .1 .1 .0 .0 in
     let high = start at .pre .1 .1 .0 .1 in
-    record { fits = omega (arith, area-fits (a .size .width) (a .size .height) wide high, row-within (a .size .width) (a .size .height) _ _ (from-is at)) }
+    let area = area-fits (a .size .width) (a .size .height) wide high in
+    record { fits = omega (arith, area, row-within (a .size .width) (a .size .height) _ _ (from-is at)) }
 
 cast-copy-bytes-2 : tie.Need-cast-copy-bytes-2
 cast-copy-bytes-2 c = search needs
@@ -133,7 +129,8 @@ mul-copy-bytes-2 c =
     let a = start at .args in
     let wide = start at .pre .1 .1 .0 .0 in
     let high = start at .pre .1 .1 .0 .1 in
-    record { fits = omega (arith, area-fits (a .size .width) (a .size .height) wide high, row-within (a .size .width) (a .size .height) _ _ (to-is at)) }
+    let area = area-fits (a .size .width) (a .size .height) wide high in
+    record { fits = omega (arith, area, row-within (a .size .width) (a .size .height) _ _ (to-is at)) }
 
 copy-bytes-requires : tie.Need-copy-bytes-requires
 copy-bytes-requires c κs =
@@ -172,7 +169,8 @@ lay-over-requires-2 c κs =
     let places = pre .1 .1 .1 in
     let few = places .1 in (
       ap length (c .before .before .before .lay-over .ensures)
-          ∙ laid-over-length (a .size .width) (a .size .height) _ _ (earlier-of at) _ (copied-long (c .before .before .before .before .before .before .before)),
+          ∙ laid-over-length (a .size .width) (a .size .height) _ _ (earlier-of at) _
+          (copied-long (c .before .before .before .before .before .before .before)),
       ((limits .0, omega (arith, to-is at)), (few, places .2)),
     )
 
@@ -189,9 +187,11 @@ returns c =
     c .before .before .lay-over2 .ensures
     ∙ ap (laidOver W H (at .before .before .before .least .result) (at .least2 .result) (later-of at))
     (c .before .before .before .before .before .before .lay-over .ensures
-    ∙ ap (laidOver W H (at .before .before .before .least .result) (at .least2 .result) (earlier-of at)) (c .before .before .before .before .before .before .before .before .before .before .copy-bytes .ensures))
+    ∙ ap (laidOver W H (at .before .before .before .least .result) (at .least2 .result) (earlier-of at))
+    (c .before .before .before .before .before .before .before .before .before .before .copy-bytes .ensures))
     ∙ ap₂ (steps-of at) (from-is at) (to-is at)
-    ∙ restored-by-layers W H (a .background .now) (a .canvas .now) (pre .1 .0) (pre .0) (a .layers) (a .place) (a .count) (pre .1 .1 .1 .0)
+    ∙ restored-by-layers W H (a .background .now) (a .canvas .now) (pre .1 .0) (pre .0) (a .layers) (a .place) (a .count)
+    (pre .1 .1 .1 .0)
 
 pub restore-spec : {M : Type 1} → statement M
 restore-spec =

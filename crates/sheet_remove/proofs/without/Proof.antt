@@ -1,14 +1,12 @@
 -- `sheet_remove::without` meets its contract. Invariant: up to place j the places are those of the list without the one taken out.
 -- Assumes nothing.
 use mathlib.Core.Path.{_≡_, subst}
-use mathlib.Core.List.{List}
-use Prim.Native.Nat.{ℕ, suc, _+_, _-_, _<_, _≤_}
+use Prim.Native.Nat.{ℕ, _+_, _-_, _<_, _≤_}
 use native.Mathlib.Omega.{arith}
 use native.Mathlib.Numerals.{add-one}
 use borrow.Author.Needs.{needs}
-use lib.ListN.{length, take, set, getD, length-set}
+use lib.ListN.{length, take, getD, length-set}
 use Rattle.book.specs.Book.{without}
-use Rattle.sheet_layers.specs.declared.Layer.{Layer}
 use Rattle.sheet_layers.specs.Layers.{blankLayer}
 use Rattle.sheet_remove.proofs.Moved.{none-moved, one-moved, all-moved}
 use Rattle.sheet_remove.proofs.without.Statement.{statement}
@@ -52,8 +50,9 @@ loop-again : tie.Need-loop-again Inv-loop μ-loop
 loop-again c =
     let walk = c .before .before .loop in
     let a = c .before .before .before .args in
-    let layer = getD (a .t1) (walk .j + 1) blankLayer in
-    let moved = one-moved (a .t1) (a .place) (omega arith) blankLayer (walk .moved) (walk .j) (walk .inv .0) (omega arith) (omega arith) (walk .inv .3) in (
+    let moved =
+    one-moved (a .t1) (a .place) (omega arith) blankLayer (walk .moved) (walk .j) (walk .inv .0) (omega arith) (omega arith)
+    (walk .inv .3) in (
       omega arith,
       omega arith,
       simp length-set (walk .inv .2),
