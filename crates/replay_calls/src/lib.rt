@@ -20,7 +20,7 @@ ghost use Prim.Native.Nat.{_≤_};
 
 // A line for each call: its name, and how many numbers, lists of numbers and lists of bytes it takes.
 // The arms of `make` and `on_rectangle` go by these lines, counted from 0.
-pub const TABLE: [u8; 333] = *b"contains 220
+pub const TABLE: [u8; 350] = *b"contains 220
 row 120
 points 030
 offset 120
@@ -32,7 +32,8 @@ paint_figure 221
 sheet_open 210
 sheet_add 030
 sheet_paint 111
-run_calls 221
+sheet_remove 112
+run_calls 222
 write_p5 212
 write_p4 212
 read_netpbm 012
@@ -85,10 +86,11 @@ pub fn make(
         9 => host_sheet::open(u0, u1, a),
         10 => host_sheet::add(a, b, c),
         11 => host_sheet::paint(a, u0, p),
-        12 => run_calls(u0, u1, a, p, b),
-        13 => host_netpbm::write_p5(u0, u1, p, q, a),
-        14 => host_netpbm::write_p4(u0, u1, p, q, a),
-        15 => host_netpbm::read(p, q, a),
+        12 => host_sheet::remove(a, u0, p, q),
+        13 => run_calls(u0, u1, a, p, q, b),
+        14 => host_netpbm::write_p5(u0, u1, p, q, a),
+        15 => host_netpbm::write_p4(u0, u1, p, q, a),
+        16 => host_netpbm::read(p, q, a),
         _ => on_rectangle(call, n, a),
     }
 }
@@ -135,11 +137,12 @@ fn run_with(
     height: u32,
     calls: &[i32],
     canvas: &mut [u8],
+    background: &[u8],
     list: &mut [i32],
     answers: &mut [u32],
 ) -> u32 {
     copy_bits(list, answers);
-    let answer = host_calls::run_calls(width, height, calls, canvas, answers);
+    let answer = host_calls::run_calls(width, height, calls, canvas, background, answers);
     copy_back(answers, list);
     answer
 }
@@ -149,6 +152,7 @@ fn run_within(
     height: u32,
     calls: &[i32],
     canvas: &mut [u8],
+    background: &[u8],
     list: &mut [i32],
     answers: &mut [u32],
 ) -> u32 {
@@ -158,26 +162,34 @@ fn run_within(
         height,
         calls,
         canvas,
+        background,
         &mut list[..count],
         &mut answers[..count],
     )
 }
 
-fn run_calls(width: u32, height: u32, calls: &[i32], canvas: &mut [u8], list: &mut [i32]) -> u32 {
+fn run_calls(
+    width: u32,
+    height: u32,
+    calls: &[i32],
+    canvas: &mut [u8],
+    background: &[u8],
+    list: &mut [i32],
+) -> u32 {
     let mut answers = [0u32; 128];
-    run_within(width, height, calls, canvas, list, &mut answers)
+    run_within(width, height, calls, canvas, background, list, &mut answers)
 }
 
 // The calls that a host does not have: of rectangles, runs and stroke widths. They are answered in
 // the host's manner.
 fn on_rectangle(call: usize, n: &[u32], out: &mut [i32]) -> u32 {
     match call {
-        16 => center(rectangle(n), out),
-        17 => put_answer(with_center(n), out),
-        18 => put_range(rectangle(n).rows(), out),
-        19 => put_range(rectangle(n).columns(), out),
-        20 => put_answer(rectangle(n).offset(integer(n, 4)), out),
-        21 => range(n, out),
+        17 => center(rectangle(n), out),
+        18 => put_answer(with_center(n), out),
+        19 => put_range(rectangle(n).rows(), out),
+        20 => put_range(rectangle(n).columns(), out),
+        21 => put_answer(rectangle(n).offset(integer(n, 4)), out),
+        22 => range(n, out),
         _ => widths(n, out),
     }
 }
