@@ -1,11 +1,11 @@
 -- `sheet_remove::without` meets its contract. Invariant: up to place j the places are those of the list without the one taken out.
 -- Assumes nothing.
 use mathlib.Core.Path.{_≡_, subst}
-use Prim.Native.Nat.{ℕ, _+_, _-_, _<_, _≤_}
+use Prim.Native.Nat.{ℕ, _-_, _<_, _≤_}
 use native.Mathlib.Omega.{arith}
 use native.Mathlib.Numerals.{add-one}
 use borrow.Author.Needs.{needs}
-use lib.ListN.{length, take, getD, length-set}
+use lib.ListN.{length, take, length-set}
 use Rattle.book.specs.Book.{without}
 use Rattle.sheet_layers.specs.Layers.{blankLayer}
 use Rattle.sheet_remove.proofs.Moved.{none-moved, one-moved, all-moved}
