@@ -1,5 +1,5 @@
-/* Draws the page of crates/cafe, on a striped background, while two jobs end: a tile is removed when each layer has painted
- * half of the rows of a box, another when all the rest is painted. Then draws the page of the four tiles that stayed on a
+/* Draws the page of crates/cafe, on a striped background, while two jobs end: a tile is removed when each layer has been
+ * asked for half as many rows as a box has, another when all the rest is painted. Then draws the page of the four tiles that stayed on a
  * canvas of its own. Writes the first as a Netpbm P5 file to standard output; ends with status 1 where a call is answered
  * otherwise than it must be, where the two canvases differ, or where the background is no longer what it was.
  * docs/pictures/leaving.png is made of that file. */

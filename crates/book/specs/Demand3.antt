@@ -33,7 +33,7 @@ module _ (d : Drawing) where
 
   -- Demand 3 of the sheet and canvas s and the book that a list of calls leaves, with the canvas as first lent.
   pub record AfterCalls (W H : ℕ) (lent : List ℕ) (s : State (d .Item)) (book : Book d) : Type 0 where
-    -- row y of the canvas: the lent row, and over it, the first added first, each figure that has painted y and no other
+    -- row y of the canvas: the lent row, and over it, the first added first, each figure still noted that has painted y and no other
     pub picture : (y : ℕ) → y < H
         → canvasRow W y (s .canvas) ≡ overpainted d (painters d book (pos y)) (pos y) (canvasRow W y lent)
     -- the paint call of a figure that is noted gets a number if the figure has no row left, or if one that is noted before

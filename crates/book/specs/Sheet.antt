@@ -25,7 +25,7 @@ pub record Layer (A : Type 0) : Type 0 where
   pub item : A
   pub next : ℤ
 
--- A sheet's layers in the order of adding, and the canvas that its paint calls get (demand 3).
+-- A sheet's layers in the order of adding, and the canvas that its paint calls and removals get (demand 3).
 pub record State (A : Type 0) : Type 0 where
   pub layers : List (Layer A)
   pub canvas : List ℕ
@@ -203,7 +203,7 @@ module _ (d : Drawing) where
   afterAll W H s [] = s
   afterAll W H s (call ∷ calls) = afterAll W H (after W H s call) calls
 
-  -- A sheet just opened ("Sheet": it has no layers), and the canvas lent to its paint calls.
+  -- A sheet just opened ("Sheet": it has no layers), and the canvas lent to its paint calls and removals.
   abbrev pub opened : List ℕ → State (d .Item)
   opened lent = record { layers = []; canvas = lent }
 

@@ -125,11 +125,6 @@ run (call ∷ calls) numbers canvas s bytes is same kept =
         }
 
 -- ---- what is asked of the host's removals is asked of the book's
-over-lent-call : (lent : List ℕ) (call : HostCall) → HostOverLent lent call → OverLent drawing lent (callOf call)
-over-lent-call lent (add figure style) over = over
-over-lent-call lent (paint i) over = over
-over-lent-call lent (remove i background) over = over
-
 over-lent : (lent : List ℕ) (calls : List HostCall) → Each (HostOverLent lent) calls → Each (OverLent drawing lent) (bookCalls calls)
 unfolding bookCalls
 over-lent lent [] each = each
@@ -137,7 +132,7 @@ over-lent lent (call ∷ calls) (this, rest) = by (over-lent lent calls rest) (g
   where
     by : Each (OverLent drawing lent) (bookCalls calls) → (t : Bool) → givesRecords call ≡ t
         → Each (OverLent drawing lent) (bookCalls (call ∷ calls))
-    by later true records = rw records (over-lent-call lent call this, later)
+    by later true records = rw records (this, later)
     by later false none = rw none later
 
 -- ---- opening

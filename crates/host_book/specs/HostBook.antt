@@ -15,7 +15,7 @@ use Rattle.book.specs.Book.{Call, bookAnswers, bookAfterAll}
 use Rattle.book.specs.Book as book
 use Rattle.book.specs.Each.{Each}
 use Rattle.book.specs.Sheet.{WithinSide, answer}
-use Rattle.book.specs.Demand3.{AfterCalls}
+use Rattle.book.specs.Demand3.{AfterCalls, OverLent}
 use Rattle.drawing.specs.Drawing.{StyledFigure, drawing}
 use Rattle.sheet.specs.Sheet.{stateOf}
 use Rattle.host_records.specs.RecordNumbers.{isFigure, isStyle}
@@ -113,9 +113,7 @@ pub record HostDemand3Of (W H : ℕ) (out : List ℤ) (lent : List ℕ) (calls :
 
 -- The background of a removal is the canvas as first lent; other calls have none (document 02, 'Five').
 abbrev pub HostOverLent : List ℕ → HostCall → Type 0
-HostOverLent lent (add figure style) = Unit {0}
-HostOverLent lent (paint i) = Unit {0}
-HostOverLent lent (remove i background) = background ≡ lent
+HostOverLent lent call = OverLent drawing lent (callOf call)
 
 -- Demand 3 for a host: every W and H within limits, every list for a sheet's numbers with anything in it, every canvas of that size
 -- with any bytes, every list of calls, each removal among them with that canvas as first lent for its background.

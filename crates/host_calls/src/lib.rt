@@ -22,6 +22,7 @@ pub fn run_calls(
         (length (now (answers .entry)))) ⌝ }
     ensures { λ _. ⌜ RunTold width height (now (calls .entry)) (now (canvas .entry)) (now (background .entry)) (now (answers .entry))
         (now (canvas .exit)) (now (answers .exit)) ⌝ }
+    ensures { λ _. ⌜ now (background .exit) ≡ now (background .entry) ⌝ }
 {
     let ran = sheet_calls::run_calls(width, height, calls, canvas, background, answers);
     let answer = ran.answer;

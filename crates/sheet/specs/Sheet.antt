@@ -25,8 +25,8 @@ abbrev pub said : SheetAnswer → Checked
 said (sheet-answer.Refused refusal) = Refused refusal
 said sheet-answer.Accepted = Passed
 
--- a sheet record with the canvas that its paint calls get: its layers are those in its first places, and 17 if it says more than
--- 16 ('The records')
+-- a sheet record with the canvas that its paint calls and removals get: its layers are those in its first places, and 17 if it says
+-- more than 16 ('The records')
 abbrev pub stateOf : Sheet → List ℕ → State StyledFigure
 stateOf s canvas = Layers·stateOf (s .count) (s .layers) canvas
 

@@ -111,6 +111,7 @@ pub fn run_calls(
         (length (now (answers .entry))) ⌝ }
     ensures { λ r. ⌜ RunLeaves (runSaid (r .answer)) width height (callsOf (now (background .entry)) (now (calls .entry)))
         (now (canvas .entry)) (now (answers .entry)) (r .sheet) (now (canvas .exit)) (now (answers .exit)) ⌝ }
+    ensures { λ _. ⌜ now (background .exit) ≡ now (background .entry) ⌝ }
 {
     let opened = Sheet::open(width, height);
     let sheet = opened.sheet;

@@ -39,7 +39,7 @@ use Rattle.sheet_layers.specs.declared.rows.LayerRows.{LayerRows}
 use Rattle.sheet_layers.specs.declared.RowsFound.the-variants.{Broken, Kept}
 use Rattle.sheet_layers.specs.LayerRows.{rowsOwe, someRowsOwe, rowsOvertake, noRowsOvertake, rowsInOrder}
 use Rattle.sheet_layers.specs.Layers.{layerOf, blankLayer, layerRows, brokenRules}
-use Rattle.sheet_layers.proofs.RowTests.{RowsFit, and-false, place-here, place-past, put-here}
+use Rattle.sheet_layers.proofs.RowTests.{RowsFit, noRows, and-false, place-here, place-past, put-here}
 
 -- ---- one layer
 module _ (l : Layer) where
@@ -211,6 +211,11 @@ pub record LayerWithin (l : Layer) : Type 0 where
   pub stroke : l .style .«stroke_width» ≤ wideOffset
   pub next : Near widePoint (l .«next_row»)
   pub rows : RowsFit (layerRows l)
+
+-- the layers in the first places are within these bounds, and their rows were found
+pub record Ready (layers : List Layer) (rows : List LayerRows) (count : ℕ) : Type 0 where
+  pub within : (i : ℕ) → i < count → LayerWithin (getD layers i blankLayer)
+  pub rows-are : (i : ℕ) → i < count → getD rows i noRows ≡ layerRows (getD layers i blankLayer)
 
 pub kept-within : (l : Layer) → layerKeepsRules drawing (layerOf l) ≡ true → LayerWithin l
 unfolding layerKeepsRules layerRows

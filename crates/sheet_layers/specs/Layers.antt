@@ -35,7 +35,7 @@ blankLayer =
 abbrev pub layersOf : ℕ → List Layer → Layers drawing
 layersOf count places = map layerOf (take count (places ++ (blankLayer ∷ [])))
 
--- such a sheet with the canvas that its paint calls get (demand 3)
+-- such a sheet with the canvas that its paint calls and removals get (demand 3)
 abbrev pub stateOf : ℕ → List Layer → List ℕ → State StyledFigure
 stateOf count places canvas = record { layers = layersOf count places; canvas = canvas }
 

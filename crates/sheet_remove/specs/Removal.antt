@@ -1,27 +1,15 @@
 -- Document 02, 'Five': the canvas after the removal of a layer, as the code makes it: rows from one up to another, overpainted by layer
 -- after layer. The law `restored-by-layers` (proofs/Restored.antt) says that this gives `book`'s canvas after a removal.
 -- Assumes nothing.
-use mathlib.Core.Path.{_≡_}
 use mathlib.Core.Bool.{cond, _&&_}
 use mathlib.Core.List.{List}
-use Prim.Native.Nat.{ℕ, _<_}
+use Prim.Native.Nat.{ℕ}
 use lib.Dec.{leb, ltb}
 use lib.IntN.{pos}
-use lib.ListN.{getD}
 use Rattle.book.specs.Canvas.{canvasRow, canvasOf}
 use Rattle.book.specs.Book.{overpainted}
 use Rattle.book.specs.Sheet.{Layers, layerPainters}
 use Rattle.drawing.specs.Drawing.{drawing}
-use Rattle.sheet_layers.specs.declared.Layer.{Layer}
-use Rattle.sheet_layers.specs.declared.rows.LayerRows.{LayerRows}
-use Rattle.sheet_layers.specs.Layers.{blankLayer, layerRows}
-use Rattle.sheet_layers.proofs.RowTests.{noRows}
-use Rattle.sheet_layers.proofs.LayerRules.{LayerWithin}
-
--- the layers in the first places are within limits, and their rows were found
-pub record Ready (layers : List Layer) (rows : List LayerRows) (count : ℕ) : Type 0 where
-  pub within : (i : ℕ) → i < count → LayerWithin (getD layers i blankLayer)
-  pub rows-are : (i : ℕ) → i < count → getD rows i noRows ≡ layerRows (getD layers i blankLayer)
 
 -- row y of a canvas, if it is one from a first row up to another, overpainted by those of some layers that have painted it
 unfoldable pub laidOverRow : ℕ → ℕ → ℕ → Layers drawing → List ℕ → ℕ → List ℕ

@@ -16,8 +16,8 @@ ghost use Rattle.book.specs.Sheet.{restored};
 ghost use Rattle.book.specs.Whole.{paintRows};
 ghost use Rattle.drawing.specs.Drawing.{styledFigure, drawing};
 ghost use Rattle.sheet_layers.specs.Layers.{blankLayer, layerOf};
-ghost use Rattle.sheet_layers.proofs.LayerRules.{LayerWithin};
-ghost use Rattle.sheet_remove.specs.Removal.{Ready, laidOver};
+ghost use Rattle.sheet_layers.proofs.LayerRules.{LayerWithin, Ready};
+ghost use Rattle.sheet_remove.specs.Removal.{laidOver};
 
 // The places without one: those behind it move down, and the last is left blank.
 pub fn without(places: [Layer; Layer::PLACES], place: usize) -> [Layer; Layer::PLACES]

@@ -1,6 +1,6 @@
 -- `host_calls::run_calls` meets its contract: what the run says is told by its number, and its sheet is not handed on.
 -- Assumes nothing.
-use mathlib.Core.Path.{_≡_, sym, ap, subst, _∙_}
+use mathlib.Core.Path.{_≡_, refl, sym, ap, subst, _∙_}
 use lib.ListN.{length}
 use Rattle.sheet_calls.specs.declared.RunAnswer.{RunAnswer}
 use Rattle.sheet_calls.specs.SheetCalls.{RunSays, runSaid, runAnswer, RunLeaves}
@@ -32,7 +32,7 @@ leaves c =
           (λ (s : RunSays).
           RunLeaves s (a .width) (a .height) (callsOf (a .background .now) (a .calls .now)) (a .canvas .now) (a .answers .now)
           (c .run-calls .result .sheet) (c .run-calls .last .1 .1 .1 .0) (c .run-calls .last .1 .1 .1 .1 .1 .0))
-          (says c) (c .run-calls .ensures .1);
+          (says c) (c .run-calls .ensures .1 .0);
     }
 
 run-calls-requires : tie.Need-run-calls-requires
@@ -61,7 +61,7 @@ returns c =
     let back-8 = c .before .before .before .before .before .before .before .before in (
       c .number .ensures ∙ ap (λ (s : RunSays). runNumber s)
           (sym (ap (λ (a : RunAnswer). runSaid a) (c .before .before .answer .given .1)) ∙ says back-8),
-      leaves back-8,
+      (leaves back-8, refl),
     )
 
 same-length-3 : tie.Need-same-length-3
@@ -74,7 +74,7 @@ returns-2 : tie.Need-returns-2
 returns-2 c = (
   ap (λ (s : RunSays). runNumber s) (sym (ap (λ (a : RunAnswer). runSaid a) (c .enum-told .given .1)) ∙ says
       (c .before .before .before .before .before .before)),
-  leaves (c .before .before .before .before .before .before),
+  (leaves (c .before .before .before .before .before .before), refl),
 )
 
 same-length-5 : tie.Need-same-length-5
@@ -87,7 +87,7 @@ returns-3 : tie.Need-returns-3
 returns-3 c = (
   ap (λ (s : RunSays). runNumber s) (sym (ap (λ (a : RunAnswer). runSaid a) (c .enum-told2 .given .1)) ∙ says
       (c .before .before .before .before .before .before)),
-  leaves (c .before .before .before .before .before .before),
+  (leaves (c .before .before .before .before .before .before), refl),
 )
 
 pub run-calls-spec : {M : Type 1} → statement M

@@ -96,7 +96,10 @@ returns c =
       ap (λ (r : Refusal). refusedBy (number r)) (refusal-found (c .refusal .ensures) told)
           ∙ sym (run-refused (a .width) (a .height) (a .calls .now) (length (a .canvas .now)) (length (a .answers .now)) _
           (sym (checked check) ∙ told)),
-      record { sheet = check .before .before .before .before .before .before .«open» .ensures .1; kept-canvas = refl; kept-answers = refl },
+      (
+        record { sheet = check .before .before .before .before .before .before .«open» .ensures .1; kept-canvas = refl; kept-answers = refl },
+        refl,
+      ),
     )
 
 encodes-calls-requires : tie.Need-encodes-calls-requires
@@ -109,11 +112,14 @@ returns-2 c =
     let a = entry told .args in
     let none = sym (c .before .encodes-calls .ensures) ∙ not-true _ (c .if1 .taken) in (
       sym (run-not-calls (a .width) (a .height) (a .calls .now) (length (a .canvas .now)) (length (a .answers .now)) (passed told) none),
-      record {
-        sheet = told .before .before .before .before .before .before .before .before .«open» .ensures .1;
-        kept-canvas = refl;
-        kept-answers = refl;
-      },
+      (
+        record {
+          sheet = told .before .before .before .before .before .before .before .before .«open» .ensures .1;
+          kept-canvas = refl;
+          kept-answers = refl;
+        },
+        refl,
+      ),
     )
 
 make-calls-requires : tie.Need-make-calls-requires
@@ -138,9 +144,12 @@ returns-3 c =
     let long = passed-next (canvasSizeCheck (a .width) (a .height)) (canvasLengthCheck (a .width) (a .height) (length (a .canvas .now)))
     (sizes-passed told) in (
       sym (run-accepted (a .width) (a .height) (a .calls .now) (length (a .canvas .now)) (length (a .answers .now)) (passed told) calls),
-      run-from (a .width) (a .height) (a .canvas .now) (a .answers .now) (callsOf (a .background .now) (a .calls .now)) size long
-          (opened .«open» .result .sheet) (opened .«open» .ensures .1)
-          (made .make-calls .ensures .0) (made .make-calls .ensures .1 .0) (made .make-calls .ensures .1 .1),
+      (
+        run-from (a .width) (a .height) (a .canvas .now) (a .answers .now) (callsOf (a .background .now) (a .calls .now)) size long
+            (opened .«open» .result .sheet) (opened .«open» .ensures .1)
+            (made .make-calls .ensures .0) (made .make-calls .ensures .1 .0) (made .make-calls .ensures .1 .1),
+        refl,
+      ),
     )
 
 pub run-calls-spec : {M : Type 1} → statement M

@@ -17,7 +17,8 @@ use Rattle.sheet_layers.specs.declared.Layer.{Layer}
 use Rattle.sheet_layers.specs.declared.rows.LayerRows.{LayerRows}
 use Rattle.sheet_layers.specs.Layers.{blankLayer, layerOf, layerRows}
 use Rattle.sheet_layers.proofs.RowTests.{noRows}
-use Rattle.sheet_remove.specs.Removal.{Ready, laidOver}
+use Rattle.sheet_layers.proofs.LayerRules.{Ready}
+use Rattle.sheet_remove.specs.Removal.{laidOver}
 use Rattle.sheet_remove.proofs.Restored.{row-held, laid-over-length, restored-by-layers}
 use Rattle.sheet_remove.proofs.restore.Statement.{statement}
 use Rattle.sheet_remove.proofs.restore.Tie as tie

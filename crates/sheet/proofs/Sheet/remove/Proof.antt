@@ -22,7 +22,7 @@ use Rattle.sheet.specs.Sheet.{sheetAnswer, carriedOutSheet}
 use Rattle.sheet_checks.specs.Asked.{removeCheck}
 use Rattle.sheet_checks.proofs.Places.{sixteen-places, layers-are, kept-few, kept-layer, kept-width, kept-height}
 use Rattle.sheet_checks.proofs.Answers.{RemoveAccepted, remove-check-is, removed-accepted, rows-at}
-use Rattle.sheet_remove.specs.Removal.{Ready}
+use Rattle.sheet_layers.proofs.LayerRules.{Ready}
 use Rattle.sheet.proofs.Records.{refused-record, refused-canvas, removed-record, removed-canvas}
 use Rattle.sheet.proofs.Sheet.remove.Statement.{statement}
 use Rattle.sheet.proofs.Sheet.remove.Tie as tie
