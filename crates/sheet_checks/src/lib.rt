@@ -104,17 +104,17 @@ pub fn asked_row(
     Asked::Row(next)
 }
 
-// Refusals 7, 8 and 10 of a removal, by whether the rules are kept, where the canvas and the background
-// are so many bytes long.
+// Refusals 7, 8 and 10 of a removal from a sheet of so many layers, by whether the rules are kept,
+// where the canvas and the background are so many bytes long.
 pub fn check_remove(
     kept: bool,
     size: CanvasSize,
-    count: u32,
+    layers: u32,
     layer: u32,
     bytes: usize,
     background: usize,
 ) -> Checked
-    ensures { λ r. ⌜ r ≡ removeCheck kept (size .width) (size .height) bytes background count layer ⌝ }
+    ensures { λ r. ⌜ r ≡ removeCheck kept (size .width) (size .height) bytes background layers layer ⌝ }
 {
     if !kept {
         return Checked::Refused(Refusal::SheetRule);
@@ -124,7 +124,7 @@ pub fn check_remove(
     let Checked::Passed = lent else {
         return lent;
     };
-    if count <= layer {
+    if layers <= layer {
         return Checked::Refused(Refusal::NoLayer);
     }
     Checked::Passed
