@@ -4,6 +4,8 @@
 // leaves out are skipped first, and the test begins where the ellipse does. That column is contained
 // but where corners overlap; there the walk goes on. Columns are counted from the left edge, and for
 // the last one from the right edge.
+#![tactic(auto)]
+
 ghost use Rattle.std.specs.Prelude.{◌≡◌, true, ◌+◌, ◌-◌, ◌<◌, ◌≤◌};
 ghost use Rattle.scanline.specs.declared.Place.TheVariants.{At};
 ghost use Rattle.rounded_rectangle.specs.Relative.{Ready, ReadyBox, radii};

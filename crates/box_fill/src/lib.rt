@@ -1,6 +1,8 @@
 // The fill of a styled box row, after embedded-graphics 0.8.2 `rounded_rectangle/styled.rs`
 // (`StyledScanlines`). Columns are counted from the fill area's left edge, and for the last one from
 // its right edge.
+#![tactic(auto)]
+
 ghost use Rattle.std.specs.Prelude.{◌≡◌, ◌*◌, ◌<◌, ◌≤◌};
 ghost use Rattle.signed.specs.Signed.{Near};
 ghost use Rattle.geometry.specs.Bounds.{wide_point};
@@ -14,14 +16,14 @@ use rounded_rectangle::RoundedRectangleContains;
 use scanline::Place;
 
 // Where the searches of a row begin, on the left and on the right: nothing depends on it but time.
-#[derive(Drop)]
+#[derive(Clone, Copy)]
 pub struct Hints {
     pub left: u32,
     pub right: u32,
 }
 
 // The fill of a row, and the hints for the row after it.
-#[derive(Drop)]
+#[derive(Clone, Copy)]
 pub struct FillRun {
     pub run: Range,
     pub hints: Hints,

@@ -1,6 +1,8 @@
 // Rows of a box whose two sides are alike, where one search serves both, and rows with straight sides,
 // which need none: what a scan of a styled box's rows is spared. The Rust has none of it: in
 // embedded-graphics 0.8.2 `rounded_rectangle/styled.rs` every row is searched from both ends.
+#![tactic(auto)]
+
 ghost use Rattle.std.specs.Prelude.{◌≡◌, true, ◌<◌, ◌≤◌};
 ghost use Rattle.rounded_rectangle.specs.Relative.{ReadyBox, radii, row_insets};
 ghost use Rattle.box_mirrored.specs.Sides.{alike, MirroredSides, StraightFor};

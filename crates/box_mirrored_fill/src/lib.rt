@@ -1,6 +1,8 @@
 // The fill of a styled box row in a scan of rows, after embedded-graphics 0.8.2
 // `rounded_rectangle/styled.rs` (`StyledScanlines`): where the two sides of the row are alike, one search
 // serves both, and no column is tested again.
+#![tactic(auto)]
+
 ghost use Rattle.std.specs.Prelude.{◌≡◌, ◌*◌, ◌≤◌};
 ghost use Rattle.signed.specs.Signed.{Near};
 ghost use Rattle.geometry.specs.Bounds.{wide_point};

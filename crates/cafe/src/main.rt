@@ -2,6 +2,8 @@
 // painted twice: a row of this layer and a row of that, the uppermost asked first, so that many calls
 // are refused because a lower layer owes the row; and tile after tile. The file is written only if
 // the two canvases are equal, byte for byte.
+#![tactic(auto)]
+
 use corner_radii::CornerRadii;
 use figure::Figure;
 use geometry::{Point, Size};

@@ -1,6 +1,8 @@
 // Styled rows painted onto the rows of a canvas, after the order in which the pixel iterators of
 // embedded-graphics 0.8.2 `ellipse/styled.rs` and `rounded_rectangle/styled.rs` give pixels: left
 // stroke, fill, right stroke. A canvas is lent bytes, so there is no `DrawTarget`.
+#![tactic(auto)]
+
 ghost use Rattle.std.specs.Prelude.{◌≡◌, true, List, ℕ, ◌+◌, ◌*◌, ◌≤◌, length};
 ghost use Rattle.geometry.specs.Bounds.{wide_side};
 ghost use Rattle.canvas.specs.Canvas.{overpaint_runs, overpaint_at};

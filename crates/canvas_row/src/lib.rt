@@ -1,5 +1,7 @@
 // One styled row painted on a canvas, whatever figure it is of. The paper adds it; the Rust draws
 // through `DrawTarget`.
+#![tactic(auto)]
+
 ghost use Rattle.std.specs.Prelude.{◌≡◌, ◌*◌, ◌≤◌, length};
 ghost use Rattle.signed.specs.Signed.{Near};
 ghost use Rattle.geometry.specs.Bounds.{wide_point, wide_side};

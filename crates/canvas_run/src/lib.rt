@@ -1,5 +1,7 @@
 // One run painted onto a row of a canvas, as far as the row goes: what the pixel iterators of
 // embedded-graphics 0.8.2 `ellipse/styled.rs` and `rounded_rectangle/styled.rs` do pixel by pixel.
+#![tactic(auto)]
+
 ghost use Rattle.std.specs.Prelude.{◌≡◌, ◌≤◌, length, replicate};
 ghost use Rattle.geometry.specs.Bounds.{wide_side};
 ghost use Rattle.canvas_run.specs.Run.{run_over};
@@ -9,7 +11,7 @@ use geometry_range::Range;
 use style::Paint;
 
 // Columns of a row, from `from` up to but not including `to`.
-#[derive(Drop)]
+#[derive(Clone, Copy)]
 pub struct Columns {
     pub from: u32,
     pub to: u32,

@@ -1,11 +1,13 @@
 // The width and height of a lent canvas, with the checks that every call on a canvas makes first
 // (refusals 6 and 8). Document 01 adds it; the Rust has no such type.
+#![tactic(auto)]
+
 ghost use Rattle.std.specs.Prelude.{◌≡◌};
 ghost use Rattle.canvas_size.specs.CanvasSize.{side_check, canvas_size_check, canvas_length_check};
 
 use refusal::{Checked, Refusal, refuse_above};
 
-#[derive(Drop)]
+#[derive(Clone, Copy)]
 pub struct CanvasSize {
     pub width: u32,
     pub height: u32,

@@ -1,5 +1,7 @@
 // Draws what a clock shows, two tiles side by side, and writes it as Netpbm P5 to standard output: on
 // the left the oval is filled, so the person is clocked in; on the right it is hollow.
+#![tactic(auto)]
+
 use corner_radii::CornerRadii;
 use figure::Figure;
 use geometry::{Point, Size};

@@ -5,14 +5,14 @@ ghost use Rattle.corner.specs.EdgeBounds.{BoundedEdge, BoundedEdges};
 ghost use Rattle.corner.specs.Edge.{overlap as edge_overlap, further_over, most_over, tighter as edge_tighter, tightest as edge_tightest};
 
 // An edge of a box: the sum of the two radii along it, S, and its length, L.
-#[derive(Drop)]
+#[derive(Clone, Copy)]
 pub struct Edge {
     pub sum: u32,
     pub length: u32,
 }
 
 // The edges of a box, in the order in which the rules take them.
-#[derive(Drop)]
+#[derive(Clone, Copy)]
 pub struct Edges {
     pub top: Edge,
     pub right: Edge,

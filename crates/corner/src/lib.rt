@@ -2,6 +2,8 @@
 // embedded-graphics 0.8.2 `rounded_rectangle/corner_radii.rs` and `rounded_rectangle/mod.rs`
 // (`OffsetOutline`); how a W3C box's corner grows is not in the source. `corner_radii` does it at all
 // four corners.
+#![tactic(auto)]
+
 use crate::edge::Edge;
 use geometry::Size;
 

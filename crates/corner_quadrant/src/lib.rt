@@ -1,6 +1,8 @@
 // A corner of a box: the test of the whole ellipse of twice its radii, by columns and rows counted
 // from the corner inward, after embedded-graphics 0.8.2 `rounded_rectangle/ellipse_quadrant.rs`; and
 // the inset on a side of the box by its two corners. `rounded_rectangle` has all four.
+#![tactic(auto)]
+
 ghost use Rattle.std.specs.Prelude.{◌≡◌, true, ◌<◌, ◌≤◌};
 ghost use Rattle.geometry.specs.Bounds.{wide_side, SizeUpTo};
 ghost use Rattle.scanline.specs.Places.{find_from};
@@ -11,7 +13,7 @@ use ellipse::EllipseContains;
 use geometry::Size;
 use scanline::Place;
 
-#[derive(Drop)]
+#[derive(Clone, Copy)]
 pub struct EllipseQuadrant {
     pub radius: Size,
     pub test: EllipseContains,

@@ -3,6 +3,8 @@
 // (`OffsetOutline`) for the offset. The W3C rule is not in the source, nor is how a W3C box's radii
 // grow, nor the fraction that both rules answer. Each rule finds the edge that decides and scales by
 // it; the Rust keeps that edge in three mutable locals. The Rust's builder is left out.
+#![tactic(auto)]
+
 ghost use Rattle.std.specs.Prelude.{◌≡◌, ◌<◌, ◌≤◌};
 ghost use Rattle.signed.specs.Signed.{Near};
 ghost use Rattle.geometry.specs.Bounds.{wide_side, SizeUpTo};
@@ -16,7 +18,7 @@ use corner::{grow_corner, offset_corner, scale_corner};
 use geometry::Size;
 use refusal::{Checked, Refusal, refuse_above};
 
-#[derive(Drop)]
+#[derive(Clone, Copy)]
 pub struct CornerRadii {
     pub top_left: Size,
     pub top_right: Size,
@@ -26,7 +28,7 @@ pub struct CornerRadii {
 
 // Radii confined to a box, and the fraction by which they were reduced: the length L of the edge that
 // decided and the sum S of the given radii along it, not cancelled; 1 and 1 where nothing was reduced.
-#[derive(Drop)]
+#[derive(Clone, Copy)]
 pub struct ConfinedRadii {
     pub radii: CornerRadii,
     pub length: u32,

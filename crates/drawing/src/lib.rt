@@ -1,6 +1,8 @@
 // What a canvas call has to know of a figure with its style: whether the two are within limits, which
 // rows it has, and one of its rows painted on a canvas. The one-call painting and the sheet stand on
 // this; `specs/Drawing.antt` puts it into the book of demand 3.
+#![tactic(auto)]
+
 ghost use Rattle.std.specs.Prelude.{◌≡◌, ◌*◌, ◌≤◌, length};
 ghost use Rattle.signed.specs.Signed.{Near};
 ghost use Rattle.geometry.specs.Bounds.{wide_point, wide_side};
@@ -19,7 +21,7 @@ use refusal::Checked;
 use style::Style;
 
 // The rows of a stroke area: the first, or its top if it has none, and how many there are.
-#[derive(Drop)]
+#[derive(Clone, Copy)]
 pub struct StrokeRows {
     pub first: i32,
     pub count: u32,

@@ -1,6 +1,8 @@
 // The test of a point, after embedded-graphics 0.8.2 `ellipse/mod.rs` (`EllipseContains`) and
 // `circle/mod.rs` (`diameter_to_threshold`). The test depends on the distances from the middle alone, so
 // it works on unsigned numbers; in u64, so that every size is answered where the Rust overflows u32.
+#![tactic(auto)]
+
 ghost use Rattle.std.specs.Prelude.{◌≡◌, ◌*◌, ◌-◌, ◌<◌, ◌≤◌, nat_abs};
 ghost use Rattle.signed.specs.Signed.{Near};
 ghost use Rattle.geometry.specs.Bounds.{wide_side, wide_point, SizeUpTo, PointNear};
@@ -14,7 +16,7 @@ use rectangle::Rectangle;
 
 // The weights of X² and Y² and the bound of their sum: one form for equal and unequal sides, where
 // the Rust compares its two squares at each point.
-#[derive(Drop)]
+#[derive(Clone, Copy)]
 pub struct EllipseContains {
     pub x_weight: u64,
     pub y_weight: u64,
@@ -24,7 +26,7 @@ pub struct EllipseContains {
 // The test on one row, for many columns: the weight of X², and what the row leaves of the bound. So the
 // test at a column is one square, one product and one comparison. The Rust has no such test: it forms
 // the part of Y anew at each point.
-#[derive(Drop)]
+#[derive(Clone, Copy)]
 pub struct RowContains {
     pub x_weight: u64,
     pub threshold: u64,

@@ -1,4 +1,6 @@
 // The rows of an ellipse, after embedded-graphics 0.8.2 `ellipse/points.rs` (`Scanlines`).
+#![tactic(auto)]
+
 ghost use Rattle.std.specs.Prelude.{◌≡◌, ◌≤◌};
 ghost use Rattle.signed.specs.Signed.{Near};
 ghost use Rattle.geometry.specs.Bounds.{wide_side, wide_point, SizeUpTo};

@@ -2,6 +2,8 @@
 // which looks from the left. Up to the middle the test once true stays true, so here it is found by
 // halving, or from a column that is supposed near. Each search forms the test of its row once, and goes
 // from column to column by that.
+#![tactic(auto)]
+
 ghost use Rattle.std.specs.Prelude.{◌≡◌, true, ◌+◌, ◌-◌, ◌/◌, ◌<◌, ◌≤◌};
 ghost use Rattle.geometry.specs.Bounds.{wide_side};
 ghost use Rattle.scanline.specs.Places.{find_from};

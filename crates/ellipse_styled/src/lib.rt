@@ -1,6 +1,8 @@
 // The styled rows of an ellipse, after embedded-graphics 0.8.2 `ellipse/styled.rs`
 // (`StyledScanlines`). The fill is looked for among the stroke's columns, by the ellipse of the fill
 // sides about the centre of the stroke area.
+#![tactic(auto)]
+
 ghost use Rattle.std.specs.Prelude.{◌≡◌, ◌*◌, ◌-◌, ◌<◌, ◌≤◌};
 ghost use Rattle.signed.specs.Signed.{Near};
 ghost use Rattle.geometry.specs.Bounds.{wide_side, wide_point, SizeUpTo};
@@ -21,7 +23,7 @@ use rectangle::Rectangle;
 use scanline::{Place, StyledRow, StyledRuns};
 
 // Where the searches of a row begin, for the stroke and for the fill: nothing depends on it but time.
-#[derive(Drop)]
+#[derive(Clone, Copy)]
 pub struct EllipseHints {
     pub stroke: u32,
     pub fill: u32,
@@ -29,7 +31,7 @@ pub struct EllipseHints {
 
 // An ellipse made ready for many rows: its stroke area, its fill sides, the tests of both, and
 // whether it has rows.
-#[derive(Drop)]
+#[derive(Clone, Copy)]
 pub struct StyledEllipse {
     pub area: Rectangle,
     pub sides: Size,
@@ -39,14 +41,14 @@ pub struct StyledEllipse {
 }
 
 // A styled row, and the hints for the row after it.
-#[derive(Drop)]
+#[derive(Clone, Copy)]
 pub struct EllipseRow {
     pub row: StyledRow,
     pub hints: EllipseHints,
 }
 
 // The runs of a row, and the hint for the next row's fill.
-#[derive(Drop)]
+#[derive(Clone, Copy)]
 struct HintedRuns {
     runs: StyledRuns,
     hint: u32,

@@ -10,26 +10,26 @@ use rectangle::{Rectangle, RectangleAnswer};
 use refusal::{Checked, Refusal};
 use scanline::{Row, Scanline};
 
-#[derive(Drop)]
+#[derive(Clone, Copy)]
 pub enum ContainsAnswer {
     Refused(Refusal),
     Answered(bool),
 }
 
-#[derive(Drop)]
+#[derive(Clone, Copy)]
 pub enum RowAnswer {
     Refused(Refusal),
     NoRow,
     Row(Scanline),
 }
 
-#[derive(Drop)]
+#[derive(Clone, Copy)]
 pub enum FigureAnswer {
     Refused(Refusal),
     Answered(Figure),
 }
 
-#[derive(Drop)]
+#[derive(Clone, Copy)]
 pub enum RadiiAnswer {
     Refused(Refusal),
     NoCorners,

@@ -3,6 +3,8 @@
 // (`OffsetOutline`, `confine_radii`); the W3C box is not in the source. The functions of this file
 // are for callers that have made the checks; those that a host calls are in calls.rt. The shape that
 // rows and tests go by is in `shape`.
+#![tactic(auto)]
+
 use geometry::{check_position, check_size};
 use rectangle::Rectangle;
 use refusal::Checked;
@@ -18,7 +20,7 @@ ghost use Rattle.figure.specs.Bounds.{wide_offset, OwnFigure, BoundedFigure, Bou
 ghost use Rattle.figure.specs.Figure.{own_rectangle, offset as figure_offset, shape as figure_shape};
 ghost use Rattle.figure.specs.Calls.{corners_check, figure_check};
 
-#[derive(Drop)]
+#[derive(Clone, Copy)]
 pub enum Figure {
     Ellipse(Rectangle),
     CrateBox(RoundedRectangle),

@@ -2,6 +2,8 @@
 // pass that counts, so that a list too short is refused before anything is written, and one that
 // writes. Both walk the rows by the same tests: a walk for both would ask in each row which of the two
 // it is, and a function for the tests alone would leave both walks as they are.
+#![tactic(auto)]
+
 ghost use Rattle.std.specs.Prelude.{◌≡◌, ◌*◌, ◌≤◌, length};
 ghost use Rattle.std.proofs.lemmas.List.Edits.{sets};
 ghost use Rattle.signed.specs.Signed.{Near};
@@ -16,7 +18,7 @@ use geometry_range::Range;
 use refusal::{Checked, Refusal, check_room};
 use scanline::Row;
 
-#[derive(Drop)]
+#[derive(Clone, Copy)]
 pub enum PointsAnswer {
     Refused(Refusal),
     // The number of x, y pairs, from the list's start on.

@@ -1,12 +1,14 @@
 // Points and sizes on signed coordinates, and the checks of them and of an offset against the limits
 // of the library, after embedded-graphics 0.8.2 `geometry`. The Rust's bodies of `Point` and `Size`
 // are in another crate.
+#![tactic(auto)]
+
 ghost use Rattle.std.specs.Prelude.{◌≡◌};
 ghost use Rattle.geometry.specs.Checks.{size_check, position_check, center_check, asked_check, point_check, offset_check};
 
 use refusal::{Checked, Refusal, refuse_above, refuse_beyond};
 
-#[derive(Drop)]
+#[derive(Clone, Copy)]
 pub struct Point {
     pub x: i32,
     pub y: i32,
@@ -19,7 +21,7 @@ impl Point {
     pub const MAX_POSITION: u32 = 4096;
 }
 
-#[derive(Drop)]
+#[derive(Clone, Copy)]
 pub struct Size {
     pub width: u32,
     pub height: u32,

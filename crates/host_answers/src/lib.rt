@@ -1,5 +1,7 @@
 // Answers handed to a host as numbers: one u32 that says how a call went, and the values written
 // into a lent list.
+#![tactic(auto)]
+
 ghost use Rattle.std.specs.Prelude.{◌≡◌, ◌+◌, ◌≤◌, pos, length};
 ghost use Rattle.std.proofs.lemmas.List.Edits.{sets};
 ghost use Rattle.signed.specs.Signed.{Is};

@@ -1,5 +1,7 @@
 // A list of sheet calls run for a host. The answer is one number; only where it is 0 has anything been
 // written.
+#![tactic(auto)]
+
 ghost use Rattle.std.specs.Prelude.{◌≡◌, length};
 ghost use Rattle.sheet_calls.specs.SheetCalls.{run_answer};
 ghost use Rattle.host_calls.specs.Calls.{run_number, RunTold};

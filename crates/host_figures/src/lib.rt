@@ -1,6 +1,8 @@
 // The calls on figures for a host that gives numbers: the figure is read from them, the call made, and
 // its answer told as one number, with the values in a lent list. Only where the answer is 0 has
 // anything been written.
+#![tactic(auto)]
+
 ghost use Rattle.host_answers.specs.HostAnswers.{Tells};
 ghost use Rattle.host_figures.specs.Figures.{contains_said, row_said, offset_said, confined_radii_said, ellipse_with_center_said};
 

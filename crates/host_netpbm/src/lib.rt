@@ -1,6 +1,8 @@
 // Netpbm files for a host: a canvas written as one, with the file's length in a lent list, and one read
 // into a canvas, with its width and height there. The answer is one number; only where it is 0 has
 // anything been written.
+#![tactic(auto)]
+
 ghost use Rattle.std.specs.Prelude.{◌≡◌, [], ◌∷◌, pos, length};
 ghost use Rattle.refusal.specs.Refusal.{answered};
 ghost use Rattle.netpbm_header.specs.declared.Format.TheVariants.{P4, P5};

@@ -1,5 +1,7 @@
 // A figure painted on a canvas in one call, for a host that gives numbers. The answer is one number; only
 // where it is 0 has anything been written.
+#![tactic(auto)]
+
 ghost use Rattle.std.specs.Prelude.{◌≡◌};
 ghost use Rattle.host_answers.specs.HostAnswers.{outcome_number};
 ghost use Rattle.host_paint.specs.Paint.{paint_said, painted_after};

@@ -1,6 +1,8 @@
 // The call that lists a figure's points, for a host that gives numbers: the figure is read from them, and
 // the answer told as one number, with the number of points in a lent list. Only where the answer is 0 has
 // anything been written.
+#![tactic(auto)]
+
 ghost use Rattle.std.specs.Prelude.{◌≡◌, length};
 ghost use Rattle.host_answers.specs.HostAnswers.{Tells};
 ghost use Rattle.host_points.specs.Points.{points_said, pairs_after};

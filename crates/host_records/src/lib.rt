@@ -1,5 +1,7 @@
 // Figures and styles written as numbers, as a host gives them: which numbers are one, and which one
 // they are (specs/RecordNumbers.antt lists the places).
+#![tactic(auto)]
+
 ghost use Rattle.std.specs.Prelude.{◌≡◌, length};
 ghost use Rattle.host_records.specs.RecordNumbers.{figure_length, style_length, within, none_negative, is_figure, is_style, paint_of, alignment_of, size_of, rectangle_of, corners_of, figure_of, style_of};
 

@@ -1,6 +1,8 @@
 // The calls on a sheet for a host that keeps it as numbers: what the call needs is read from them, and
 // what it changed is written back. Answers are one number; only where it is 0 has anything been
 // written.
+#![tactic(auto)]
+
 ghost use Rattle.std.specs.Prelude.{◌≡◌};
 ghost use Rattle.host_answers.specs.HostAnswers.{Tells};
 ghost use Rattle.host_sheet.specs.Sheets.{opened_numbers, open_said, add_told, add_numbers, paint_told, paint_numbers, paint_canvas};

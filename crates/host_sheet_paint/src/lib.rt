@@ -1,5 +1,7 @@
 // Painting on a sheet that a host keeps as numbers: what is tested and painted is read from them, and no
 // sheet is made and handed on.
+#![tactic(auto)]
+
 ghost use Rattle.std.specs.Prelude.{◌≡◌, List, ℕ, length};
 ghost use Rattle.signed.specs.Signed.{Is};
 ghost use Rattle.refusal.specs.declared.Checked.TheVariants.{Passed as Checked-as-Passed};

@@ -1,5 +1,7 @@
 // One place of a sheet that a host keeps as numbers: whether it holds a layer that keeps its own rules,
 // and that layer's rows. The tests are made on the numbers themselves, and no layer is made of them.
+#![tactic(auto)]
+
 ghost use Rattle.std.specs.Prelude.{◌≡◌, true, cond, ◌&&◌, ◌+◌, ◌*◌, ◌≤◌, leb, ltb, pos, ◌-ℤ◌, length};
 ghost use Rattle.signed.specs.Signed.{Near, Is, floor0 as signed_floor0};
 ghost use Rattle.corner.specs.Bounds.{wide_stroke_side};

@@ -1,5 +1,7 @@
 // A sheet written as numbers, as a host keeps it in its own memory (specs/SheetRecord.antt lists the
 // places).
+#![tactic(auto)]
+
 ghost use Rattle.std.specs.Prelude.{◌≡◌, ◌<◌, length};
 ghost use Rattle.geometry.specs.Limits.{max_layers};
 ghost use Rattle.host_records.specs.RecordNumbers.{figure_length, style_length};

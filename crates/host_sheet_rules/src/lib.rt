@@ -1,5 +1,7 @@
 // The rules of all layers of a sheet that a host keeps as numbers, and what a paint call asks of them,
 // in one walk over the places from the last to the first.
+#![tactic(auto)]
+
 ghost use Rattle.std.specs.Prelude.{◌≡◌, true, ◌-◌, ◌<◌, ◌≤◌, length};
 ghost use Rattle.geometry.specs.Limits.{max_layers};
 ghost use Rattle.sheet_layers.specs.LayerRows.{no_rows_overtake};
@@ -13,7 +15,7 @@ use sheet_layers::RowsFound;
 use sheet_layers::rows::LayerRows;
 
 // The rows that some layers have painted: they lie from the first up to the end.
-#[derive(Drop)]
+#[derive(Clone, Copy)]
 pub struct PaintedRows {
     pub first: i32,
     pub end: i32,
@@ -46,7 +48,7 @@ impl PaintedRows {
 
 // What a paint call asks of layers that keep the rules: whether its own layer has a row left, and
 // whether an earlier layer owes the row.
-#[derive(Drop)]
+#[derive(Clone, Copy)]
 pub struct Asked {
     pub left: bool,
     pub owed: bool,
@@ -73,7 +75,7 @@ impl Asked {
     }
 }
 
-#[derive(Drop)]
+#[derive(Clone, Copy)]
 pub enum PlacesTested {
     Broken,
     Kept(Asked),

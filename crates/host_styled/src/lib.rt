@@ -1,5 +1,7 @@
 // The calls on styled figures for a host that gives numbers: figure and style are read from them, the
 // call made, and its answer told as one number, with the values in a lent list.
+#![tactic(auto)]
+
 ghost use Rattle.host_answers.specs.HostAnswers.{Tells};
 ghost use Rattle.host_styled.specs.Styled.{styled_row_said, styled_bounding_box_said};
 

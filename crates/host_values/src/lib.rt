@@ -1,4 +1,6 @@
 // The values of the calls' answers put into a host's list.
+#![tactic(auto)]
+
 ghost use Rattle.std.specs.Prelude.{◌≡◌, [], ◌∷◌, ◌++◌, map, pos};
 ghost use Rattle.refusal.specs.Refusal.{answered};
 ghost use Rattle.host_answers.specs.HostAnswers.{held_by32, Tells};

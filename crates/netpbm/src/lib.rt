@@ -4,6 +4,8 @@
 //
 // The calls that a host makes have no `requires`: they refuse by the first number that applies and
 // then have written nothing. The functions below them are for callers that have made the checks.
+#![tactic(auto)]
+
 ghost use Rattle.std.specs.Prelude.{◌≡◌, ◌+◌, ◌*◌, ◌≤◌, length};
 ghost use Rattle.netpbm_text.specs.Written.{Wrote};
 ghost use Rattle.netpbm_header.specs.declared.Format.TheVariants.{P4, P5};
@@ -17,7 +19,7 @@ use netpbm_read::{ReadAnswer, read_beside};
 use netpbm_text::put;
 use refusal::{Checked, Refusal, check_room};
 
-#[derive(Drop)]
+#[derive(Clone, Copy)]
 pub enum WriteAnswer {
     Refused(Refusal),
     // The length of the file, from the buffer's start.

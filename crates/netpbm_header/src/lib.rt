@@ -1,5 +1,7 @@
 // The header of a Netpbm P4 or P5 picture, put at the start of a lent file buffer: the part of `netpbm`
 // that does not depend on the pixels.
+#![tactic(auto)]
+
 ghost use Rattle.std.specs.Prelude.{◌≡◌, ◌++◌, ◌+◌, ◌≤◌, length};
 ghost use Rattle.netpbm_text.specs.Written.{Wrote};
 ghost use Rattle.netpbm_header.specs.Header.{magic, line_feed, ending, header};
@@ -8,7 +10,7 @@ use canvas_size::CanvasSize;
 use netpbm_text::{number_length, put, put_number};
 
 // The raster of a picture: rows of bits, or a byte for each pixel.
-#[derive(Drop)]
+#[derive(Clone, Copy)]
 pub enum Format {
     P4,
     P5,

@@ -1,6 +1,8 @@
 // The header of a Netpbm file, P4 or P5, read in one walk over its bytes. A number that is larger than
 // any limit is kept as one that is above every limit too (`MOST_KEPT`), so that digits may go on.
 // Document 02 adds it; the Rust has no such file.
+#![tactic(auto)]
+
 ghost use Rattle.std.specs.Prelude.{◌≡◌, true, false, ◌+◌, ◌*◌, ◌-◌, ◌≤◌, min, length, drop};
 ghost use Rattle.netpbm_text.specs.Bytes.{digit_value};
 ghost use Rattle.netpbm_parser.specs.Parser.{digits, after_gap, after_white, closing, starts_with, of_width, file_header};
@@ -14,20 +16,20 @@ use netpbm_text::{ends_comment, is_digit, is_white};
 const MOST_KEPT: u32 = 65536;
 
 // A number of a header and the place behind it.
-#[derive(Drop)]
+#[derive(Clone, Copy)]
 pub enum Number {
     Malformed,
     Read(u32, usize),
 }
 
 // Where the raster begins.
-#[derive(Drop)]
+#[derive(Clone, Copy)]
 pub enum Place {
     None,
     At(usize),
 }
 
-#[derive(Drop)]
+#[derive(Clone, Copy)]
 pub struct Header {
     pub format: Format,
     pub width: u32,
@@ -36,7 +38,7 @@ pub struct Header {
     pub raster: usize,
 }
 
-#[derive(Drop)]
+#[derive(Clone, Copy)]
 pub enum HeaderAnswer {
     NoHeader,
     Headed(Header),

@@ -1,6 +1,8 @@
 // The raster of a one-colour Netpbm picture, P4 (the netpbm tools' `pbm(5)`): rows of bits, eight to a
 // byte, high bit first, each row filled up to a whole byte. Packing and unpacking go by the byte, for
 // rows of any width. Document 02 adds it; the Rust has no such file.
+#![tactic(auto)]
+
 ghost use Rattle.std.specs.Prelude.{◌≡◌, ◌+◌, ◌*◌, ◌≤◌, length, drop};
 ghost use Rattle.netpbm_text.specs.Written.{Wrote};
 ghost use Rattle.netpbm_raster.specs.Raster.{bit, packed_byte, row_bytes, raster_length, packed_row, packed_rows, unpacked_row, unpacked_rows};

@@ -1,6 +1,8 @@
 // A Netpbm picture, P4 or P5, read from a lent file into a lent canvas: the part of `netpbm` that reads.
 // The header is read first; the raster only once all checks have passed, in one pass. Document 02 adds
 // it; the Rust has no such file.
+#![tactic(auto)]
+
 ghost use Rattle.std.specs.Prelude.{◌≡◌, [], ◌∷◌, ◌*◌, ◌≤◌, pos, length, drop};
 ghost use Rattle.refusal.specs.declared.Refusal.TheVariants.{RasterLength};
 ghost use Rattle.refusal.specs.Refusal.{refuse_if, or_else, above, answered};
@@ -15,7 +17,7 @@ use netpbm_raster::{raster_length, unpack_rows};
 use netpbm_text::put;
 use refusal::{Checked, Refusal};
 
-#[derive(Drop)]
+#[derive(Clone, Copy)]
 pub enum ReadAnswer {
     Refused(Refusal),
     // The width and height that the header says.

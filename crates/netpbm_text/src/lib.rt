@@ -1,6 +1,8 @@
 // The text of a Netpbm header. Bytes and decimal numbers are put into a lent buffer at a place that the
 // caller gives; each function that puts answers the place after the last byte that it put, where the
 // next one goes on. And what the bytes of such a text are: whitespace, the end of a comment, a digit.
+#![tactic(auto)]
+
 ghost use Rattle.std.specs.Prelude.{◌≡◌, [], ◌∷◌, ◌+◌, ◌≤◌, ◌<◌, length};
 ghost use Rattle.netpbm_text.specs.Decimal.{digit, decimal};
 ghost use Rattle.netpbm_text.specs.Written.{Wrote};

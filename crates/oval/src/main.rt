@@ -1,5 +1,7 @@
 // Draws the oval of document 01 and writes it as Netpbm P5 to standard output: an ellipse 4 by 4,
 // filled with 9, on a canvas of zeros.
+#![tactic(auto)]
+
 use figure::Figure;
 use geometry::{Point, Size};
 use libc::STDOUT_FILENO;

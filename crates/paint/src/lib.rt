@@ -1,6 +1,8 @@
 // A figure with its style painted in one call, without a sheet, on a canvas given with its width and
 // height. Document 01 adds it; in the Rust it is `pixels` drawn to a target. Its checks
 // stand here, its rows are painted by crate paint_figures.
+#![tactic(auto)]
+
 ghost use Rattle.std.specs.Prelude.{◌≡◌};
 ghost use Rattle.paint.specs.Paint.{paint_outcome, paint_call, canvas_after};
 
@@ -10,7 +12,7 @@ use paint_figures::paint_whole;
 use refusal::{Checked, Refusal};
 use style::Style;
 
-#[derive(Drop)]
+#[derive(Clone, Copy)]
 pub enum PaintAnswer {
     Refused(Refusal),
     Painted,

@@ -1,6 +1,8 @@
 // The rows of a box made ready, painted. Where all rows of a symmetric box are asked for it is painted from
 // both ends inward, two rows by one search, and then the rows between by one row; any other box goes row by
 // row (crate paint_rows). For callers that have made the checks.
+#![tactic(auto)]
+
 ghost use Rattle.std.specs.Prelude.{◌≡◌, ◌-◌, ◌*◌, ◌<◌, ◌≤◌, length};
 ghost use Rattle.signed.specs.Signed.{Near};
 ghost use Rattle.geometry.specs.Bounds.{wide_side};
@@ -22,7 +24,7 @@ use styled_box::StyledBox;
 use styled_symmetric::{SymmetricBox, Symmetry};
 
 // The rows that a turn paints: how far from one to the next, how many, and the row of the next turn.
-#[derive(Drop)]
+#[derive(Clone, Copy)]
 struct Turn {
     step: u32,
     count: u32,

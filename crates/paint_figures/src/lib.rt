@@ -1,5 +1,7 @@
 // All rows of a figure with its style that a canvas has, painted. Areas and tests are made once for the
 // figure, and its rows painted by crates paint_rows and paint_boxes. For callers that have made the checks.
+#![tactic(auto)]
+
 ghost use Rattle.std.specs.Prelude.{◌≡◌, ◌*◌, ◌≤◌, length};
 ghost use Rattle.signed.specs.Signed.{Near};
 ghost use Rattle.geometry.specs.Bounds.{wide_side};

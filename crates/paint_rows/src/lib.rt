@@ -1,6 +1,8 @@
 // The rows of a figure made ready, painted one after another. Tests are made once for the figure, and
 // each row hands its hints to the next; rows that are alike, and rows that mirror each other, are found
 // once. For callers that have made the checks.
+#![tactic(auto)]
+
 ghost use Rattle.std.specs.Prelude.{◌≡◌, ◌*◌, ◌≤◌, length};
 ghost use Rattle.signed.specs.Signed.{Near};
 ghost use Rattle.geometry.specs.Bounds.{wide_side};

@@ -2,6 +2,8 @@
 // writes it as P4 to standard output. Of a grey page the dark pixels become 1 bits, which such a panel
 // shows black. A file that is no such page is answered by nothing. The stored input is the page that
 // `cafe` writes.
+#![tactic(auto)]
+
 use libc::{STDIN_FILENO, STDOUT_FILENO};
 use netpbm::WriteAnswer;
 use netpbm_read::ReadAnswer;

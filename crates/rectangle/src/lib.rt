@@ -1,6 +1,8 @@
 // The rectangle on signed coordinates and the calls that a host makes on it, after embedded-graphics
 // 0.8.2 `rectangle/mod.rs`; the Rust's bodies of `center`, `with_center`, `rows` and `columns` are in
 // another crate. No call has a `requires`: out of limits it refuses by the lowest number.
+#![tactic(auto)]
+
 use geometry::{Point, Size, check_center, check_offset, check_position, check_size};
 use geometry_range::Range;
 use refusal::{Checked, Refusal};
@@ -12,25 +14,25 @@ ghost use Rattle.refusal.specs.Refusal.{unless};
 ghost use Rattle.geometry.specs.Checks.{position_check};
 ghost use Rattle.rectangle.specs.Calls.{rectangle_check, rectangle_values, point_outcome, range_outcome, rectangle_outcome, rectangle_refusal, center_call, rows_call, columns_call, with_center_call, offset_call};
 
-#[derive(Drop)]
+#[derive(Clone, Copy)]
 pub struct Rectangle {
     pub top_left: Point,
     pub size: Size,
 }
 
-#[derive(Drop)]
+#[derive(Clone, Copy)]
 pub enum PointAnswer {
     Refused(Refusal),
     Answered(Point),
 }
 
-#[derive(Drop)]
+#[derive(Clone, Copy)]
 pub enum RangeAnswer {
     Refused(Refusal),
     Answered(Range),
 }
 
-#[derive(Drop)]
+#[derive(Clone, Copy)]
 pub enum RectangleAnswer {
     Refused(Refusal),
     Answered(Rectangle),

@@ -1,6 +1,8 @@
 // Where a size lies that stands at a point: its centre, its rows and its columns, and the point that
 // it stands at about a centre, after embedded-graphics 0.8.2 `rectangle/mod.rs`. `rectangle` keeps point
 // and size together. Each promise says both axes, or both ends.
+#![tactic(auto)]
+
 ghost use Rattle.std.specs.Prelude.{◌≡◌, ◌*◌, pos, ◌+ℤ◌, ◌-ℤ◌};
 ghost use Rattle.rectangle_side.specs.Side.{center_term};
 ghost use Rattle.geometry.specs.Bounds.{wide_side, wide_point, PointNear, SizeUpTo};

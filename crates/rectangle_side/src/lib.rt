@@ -1,5 +1,7 @@
 // What is done with one side of a rectangle, after embedded-graphics 0.8.2 `rectangle/mod.rs`.
 // `rectangle` does it with both.
+#![tactic(auto)]
+
 ghost use Rattle.std.specs.Prelude.{◌≡◌, ◌≤◌};
 ghost use Rattle.signed.specs.Signed.{Near};
 ghost use Rattle.rectangle_side.specs.Side.{wide_side, center_term, offset_side};

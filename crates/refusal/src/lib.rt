@@ -1,9 +1,11 @@
 // The refusals of document 01's table and of document 02, and the checks that lead to them. A call
 // makes its checks in the table's order (14 before all others), so the first that fails gives the number.
+#![tactic(auto)]
+
 ghost use Rattle.std.specs.Prelude.{◌≡◌};
 ghost use Rattle.refusal.specs.Refusal.{number as refusal_number, refusal_of, refuse_if, or_else, above, beyond, room_check};
 
-#[derive(Drop)]
+#[derive(Clone, Copy)]
 pub enum Refusal {
     // A side above the limit.
     Side,
@@ -63,7 +65,7 @@ impl Refusal {
 }
 
 // What a check finds; and what a call that gives no values answers: `Passed` where it is accepted.
-#[derive(Drop)]
+#[derive(Clone, Copy)]
 pub enum Checked {
     Passed,
     Refused(Refusal),

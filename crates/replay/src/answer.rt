@@ -9,7 +9,7 @@ use replay_lines::words::{byte_at, read_bytes, read_list, read_numbers};
 
 // What a line lends: how many lists of numbers and of bytes, how much of each, and the place after it
 // all.
-#[derive(Drop)]
+#[derive(Clone, Copy)]
 pub(crate) struct Lent {
     pub lists: usize,
     pub byte_lists: usize,

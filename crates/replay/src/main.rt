@@ -5,18 +5,20 @@
 // Every function is proved safe and to end, and promises at most where it stays: what the calls answer
 // is promised where they are made, and what this program writes is compared with the stored lines. A line has
 // 8,192 bytes of room, and what it lends 42,176 (answer.rt, and the answers of `run_calls`).
+#![tactic(auto)]
+
 mod answer;
 
 use libc::{STDIN_FILENO, STDOUT_FILENO};
 
-#[derive(Drop)]
+#[derive(Clone, Copy)]
 pub(crate) enum Byte {
     Is(u8),
     End,
 }
 
 // How many bytes of the line buffer hold the next line.
-#[derive(Drop)]
+#[derive(Clone, Copy)]
 pub(crate) enum Line {
     Held(usize),
     TooLong,

@@ -1,6 +1,8 @@
 // The calls that a line can ask for: those of the host's crates, as C makes them, and those of the
 // library that a host does not have. A call more is a line of TABLE, an arm below, and a function
 // where the arm has more to do than to hand on.
+#![tactic(auto)]
+
 ghost use Rattle.std.specs.Prelude.{◌≤◌};
 
 use geometry::{Point, Size};

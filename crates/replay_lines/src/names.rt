@@ -4,7 +4,7 @@ ghost use Rattle.std.specs.Prelude.{◌<◌, ◌≤◌, length};
 
 use crate::words::{after, digit};
 
-#[derive(Drop)]
+#[derive(Clone, Copy)]
 pub struct Takes {
     pub numbers: usize,
     pub lists: usize,
@@ -12,7 +12,7 @@ pub struct Takes {
 }
 
 // A call's line in the table, and what it takes.
-#[derive(Drop)]
+#[derive(Clone, Copy)]
 pub enum Found {
     Call(usize, Takes),
     Nothing,

@@ -9,7 +9,7 @@ const MOST: u64 = 4294967295;
 const FURTHEST: u32 = 2147483648;
 
 // A number of 32 bits, a negative one as its two's complement.
-#[derive(Drop)]
+#[derive(Clone, Copy)]
 struct Number {
     pub bits: u32,
     pub at: usize,
@@ -18,7 +18,7 @@ struct Number {
 const NO_NUMBER: Number = Number { bits: 0, at: 0 };
 
 // The numbers of a list's entry that are left, and the first of them.
-#[derive(Drop)]
+#[derive(Clone, Copy)]
 struct Run {
     pub value: u32,
     pub step: u32,
@@ -27,7 +27,7 @@ struct Run {
 }
 
 // How many places of a list were filled.
-#[derive(Drop)]
+#[derive(Clone, Copy)]
 pub struct Filled {
     pub count: usize,
     pub at: usize,

@@ -2,6 +2,8 @@
 // `rounded_rectangle/mod.rs` (`RoundedRectangleContains`) and `points.rs` (`Scanlines`). Columns and
 // rows are counted from the box's corners, unsigned; signed numbers come in with the asked point or
 // row, and go out with the run.
+#![tactic(auto)]
+
 ghost use Rattle.std.specs.Prelude.{◌≡◌, ◌<◌, ◌≤◌};
 ghost use Rattle.signed.specs.Signed.{Near};
 ghost use Rattle.geometry.specs.Bounds.{wide_point, wide_side, PointNear, SizeUpTo};
@@ -19,21 +21,21 @@ use geometry_range::Range;
 use rectangle::Rectangle;
 use scanline::{Place, Row};
 
-#[derive(Drop)]
+#[derive(Clone, Copy)]
 pub struct RoundedRectangle {
     pub rectangle: Rectangle,
     pub corners: CornerRadii,
 }
 
 // A box whose radii are confined to its size, with their fraction.
-#[derive(Drop)]
+#[derive(Clone, Copy)]
 pub struct ConfinedBox {
     pub rectangle: Rectangle,
     pub corners: ConfinedRadii,
 }
 
 // A box made ready for many tests: its size and its quadrants.
-#[derive(Drop)]
+#[derive(Clone, Copy)]
 pub struct RoundedRectangleContains {
     pub size: Size,
     pub top_left: EllipseQuadrant,
@@ -43,7 +45,7 @@ pub struct RoundedRectangleContains {
 }
 
 // How far a row's run stays within the box's columns, on the left and on the right.
-#[derive(Drop)]
+#[derive(Clone, Copy)]
 pub struct Insets {
     pub left: u32,
     pub right: u32,

@@ -1,6 +1,8 @@
 // Rows of figures, and the places of columns and rows in them, after embedded-graphics 0.8.2
 // `common/scanline.rs`. Inside a figure's box columns and rows are counted from a corner, unsigned;
 // the leaves here carry signed columns to places and back.
+#![tactic(auto)]
+
 ghost use Rattle.std.specs.Prelude.{◌≡◌, ◌+◌, ◌*◌, ◌≤◌, pos, ◌+ℤ◌, ◌-ℤ◌, length};
 ghost use Rattle.std.proofs.lemmas.List.Edits.{sets};
 ghost use Rattle.signed.specs.Signed.{Near, Is};
@@ -11,14 +13,14 @@ ghost use Rattle.scanline.specs.Points.{run_points, entries};
 use geometry_range::Range;
 
 // A row of a figure: its y and its run.
-#[derive(Drop)]
+#[derive(Clone, Copy)]
 pub struct Scanline {
     pub y: i32,
     pub x: Range,
 }
 
 // The run of a row whose y the caller has, or none where the figure lacks the row.
-#[derive(Drop)]
+#[derive(Clone, Copy)]
 pub enum Row {
     Run(Range),
     NoRow,
@@ -26,7 +28,7 @@ pub enum Row {
 
 // A row of a styled figure: its y and three runs, after `common/styled_scanline.rs`, which holds the
 // whole run and the fill and makes the two stroke runs of them.
-#[derive(Drop)]
+#[derive(Clone, Copy)]
 pub struct StyledScanline {
     pub y: i32,
     pub stroke_left: Range,
@@ -35,7 +37,7 @@ pub struct StyledScanline {
 }
 
 // The three runs without the y, which rows that are alike share.
-#[derive(Drop)]
+#[derive(Clone, Copy)]
 pub struct StyledRuns {
     pub stroke_left: Range,
     pub fill: Range,
@@ -43,14 +45,14 @@ pub struct StyledRuns {
 }
 
 // The runs of a styled row whose y the caller has, or none where the stroke area lacks the row.
-#[derive(Drop)]
+#[derive(Clone, Copy)]
 pub enum StyledRow {
     Runs(StyledRuns),
     NoRow,
 }
 
 // A place counted from a corner: where a search ends, or where a column or row stands.
-#[derive(Drop)]
+#[derive(Clone, Copy)]
 pub enum Place {
     At(u32),
     Nowhere,

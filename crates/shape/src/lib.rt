@@ -2,6 +2,8 @@
 // rows; where the Rust has traits and generics there is a match on the shape. After embedded-graphics
 // 0.8.2 `ellipse/mod.rs`, `rounded_rectangle/mod.rs`. The functions are for callers that have made the
 // checks; those that a host calls are in `figure`.
+#![tactic(auto)]
+
 use geometry::Point;
 use rectangle::Rectangle;
 use rounded_rectangle::ConfinedBox;
@@ -17,7 +19,7 @@ ghost use Rattle.shape.specs.Bounds.{BoundedShape};
 ghost use Rattle.shape.specs.Shape.{rectangle as shape_rectangle, contains_shape, row_of_shape};
 
 // A figure whose radii are confined: what rows and tests go by.
-#[derive(Drop)]
+#[derive(Clone, Copy)]
 pub enum Shape {
     Ellipse(Rectangle),
     RoundedBox(ConfinedBox),

@@ -2,6 +2,8 @@
 // row. The paper adds it; the Rust has no such type. A sheet is handed in and back by value, and
 // every call tests all its rules, so any record can be given. A refused call hands the sheet back as
 // it was given and changes no byte.
+#![tactic(auto)]
+
 ghost use Rattle.std.specs.Prelude.{◌≡◌, []};
 ghost use Rattle.book.specs.Book.{add as call_add, paint as call_paint, remove as call_remove};
 ghost use Rattle.drawing.specs.Drawing.{styled_figure};
@@ -14,7 +16,7 @@ use sheet_checks::Asked;
 use sheet_layers::Layer;
 use style::Style;
 
-#[derive(Drop)]
+#[derive(Clone, Copy)]
 pub struct Sheet {
     pub width: u32,
     pub height: u32,
@@ -23,13 +25,13 @@ pub struct Sheet {
     pub layers: [Layer; Layer::PLACES],
 }
 
-#[derive(Drop)]
+#[derive(Clone, Copy)]
 pub enum SheetAnswer {
     Refused(Refusal),
     Accepted,
 }
 
-#[derive(Drop)]
+#[derive(Clone, Copy)]
 pub struct SheetOutcome {
     pub sheet: Sheet,
     pub answer: SheetAnswer,

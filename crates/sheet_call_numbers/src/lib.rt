@@ -1,4 +1,6 @@
 // Sheet calls written as numbers, 20 for each call, as specs/CallNumbers.antt lists them.
+#![tactic(auto)]
+
 ghost use Rattle.std.specs.Prelude.{◌≡◌, length};
 ghost use Rattle.sheet_call_numbers.specs.CallNumbers.{call_length, is_call, encodes_calls};
 

@@ -1,5 +1,7 @@
 // A list of calls, written as numbers (crate sheet_call_numbers), run from a sheet just opened on one
 // canvas, with one background for its removals: the function whose promise is demand 3.
+#![tactic(auto)]
+
 ghost use Rattle.std.specs.Prelude.{◌≡◌, ◌*◌, ◌≤◌, length};
 ghost use Rattle.refusal.specs.Refusal.{answer_number};
 ghost use Rattle.sheet.specs.Sheet.{said};
@@ -12,7 +14,7 @@ use refusal::{Checked, Refusal, check_room};
 use sheet::{Sheet, SheetAnswer, SheetOutcome};
 use sheet_call_numbers::{CALL_LENGTH, FIGURE, KIND, LAYER, PAINT, REMOVE, STYLE, STYLE_END};
 
-#[derive(Drop)]
+#[derive(Clone, Copy)]
 pub enum RunAnswer {
     Refused(Refusal),
     // The numbers are no list of calls.
@@ -20,7 +22,7 @@ pub enum RunAnswer {
     Ran,
 }
 
-#[derive(Drop)]
+#[derive(Clone, Copy)]
 pub struct RunOutcome {
     pub sheet: Sheet,
     pub answer: RunAnswer,

@@ -1,5 +1,7 @@
 // The refusals 7 to 12 of a sheet with its size, its count and its places for layers, whatever they
 // hold.
+#![tactic(auto)]
+
 ghost use Rattle.std.specs.Prelude.{◌≡◌, true, List, map, ℕ, length, take};
 ghost use Rattle.refusal.specs.Refusal.{or_else};
 ghost use Rattle.book.specs.Book.{add as call_add, paint as call_paint};
@@ -16,7 +18,7 @@ use sheet_layers::{Layer, RulesTested};
 pub const MAX_LAYERS: u32 = Layer::PLACES as u32;
 
 // What a paint call on a layer finds: the row that it asks for, or a refusal.
-#[derive(Drop)]
+#[derive(Clone, Copy)]
 pub enum Asked {
     Row(i32),
     Refused(Refusal),

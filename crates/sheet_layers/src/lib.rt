@@ -1,5 +1,7 @@
 // The layers of a sheet and the rules that they keep, one by one and two by two (refusal 7). The
 // paper adds them; the Rust has no such type.
+#![tactic(auto)]
+
 use crate::rows::{LayerRows, in_order};
 use figure::Figure;
 use geometry::{Point, Size};
@@ -17,7 +19,7 @@ ghost use Rattle.sheet_layers.specs.Layers.{blank_layer, layer_of, layer_rows, b
 ghost use Rattle.sheet_layers.specs.declared.RowsFound.TheVariants as rows-found;
 
 // A figure with its style on a sheet, and the row that its next paint call paints.
-#[derive(Drop)]
+#[derive(Clone, Copy)]
 pub struct Layer {
     pub figure: Figure,
     pub style: Style,
@@ -25,14 +27,14 @@ pub struct Layer {
 }
 
 // What the test of one layer's rules finds.
-#[derive(Drop)]
+#[derive(Clone, Copy)]
 pub enum RowsFound {
     Broken,
     Kept(LayerRows),
 }
 
 // What the test of all layers' rules finds. The rows are those of the layers where they are kept.
-#[derive(Drop)]
+#[derive(Clone, Copy)]
 pub struct RulesTested {
     pub kept: bool,
     pub rows: [LayerRows; LayerRows::PLACES],

@@ -5,7 +5,7 @@ ghost use Rattle.geometry.specs.Limits.{max_layers};
 ghost use Rattle.sheet_layers.specs.LayerRows.{rows_owe, some_rows_owe, rows_overtake, no_rows_overtake, rows_in_order};
 
 // The rows of a layer: the first of its stroke area, its next row, and the one after its last.
-#[derive(Drop)]
+#[derive(Clone, Copy)]
 pub struct LayerRows {
     pub first: i32,
     pub next: i32,

@@ -1,5 +1,7 @@
 // What the removal of a layer changes: the places behind it move down, and the canvas rows that it had
 // painted are shown anew over a background. The paper adds it; the Rust has no such type.
+#![tactic(auto)]
+
 ghost use Rattle.std.specs.Prelude.{◌≡◌, [], ◌∷◌, ◌++◌, map, ◌*◌, ◌-◌, ◌<◌, ◌≤◌, pos, length, take, drop, get_or};
 ghost use Rattle.std.proofs.Math.Option.{some};
 ghost use Rattle.std.proofs.lemmas.List.Edits.{sets};

@@ -1,6 +1,8 @@
 // The arithmetic leaves of the library: each operation on signed numbers that the crates above use
 // is a function whose contract carries the whole equation, and whatever bound its callers need.
 // The laws by which `omega` reads signed numbers are in proofs/Laws.antt, with examples beside it.
+#![tactic(auto)]
+
 ghost use Rattle.std.specs.Prelude.{◌≡◌, ◌≤◌, min, max, pos, nat_abs, ◌+ℤ◌, ◌-ℤ◌};
 ghost use Rattle.std.specs.Int.{w32};
 ghost use Rattle.std.proofs.Common.{SFits};

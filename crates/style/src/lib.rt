@@ -1,19 +1,21 @@
 // Paints and styles, after embedded-graphics 0.8.2 `primitives/primitive_style.rs`. A colour is one
 // byte, so `Option<C>` is the enum `Paint`, and the builder is left out.
+#![tactic(auto)]
+
 ghost use Rattle.std.specs.Prelude.{◌≡◌};
 ghost use Rattle.style.specs.Style.{default_alignment, styled_by_default, aligned, style_check, outside_stroke_width, inside_stroke_width, widths_outcome, widths_call};
 
 use refusal::{Checked, Refusal, refuse_above};
 
 // What a run is painted with: nothing, or a colour byte.
-#[derive(Drop)]
+#[derive(Clone, Copy)]
 pub enum Paint {
     Absent,
     Colour(u8),
 }
 
 // Where the stroke lies about the outline.
-#[derive(Drop)]
+#[derive(Clone, Copy)]
 pub enum StrokeAlignment {
     Inside,
     Center,
@@ -30,7 +32,7 @@ impl StrokeAlignment {
     }
 }
 
-#[derive(Drop)]
+#[derive(Clone, Copy)]
 pub struct Style {
     pub stroke: Paint,
     pub fill: Paint,
@@ -39,13 +41,13 @@ pub struct Style {
 }
 
 // How a stroke width is shared out about the outline.
-#[derive(Drop)]
+#[derive(Clone, Copy)]
 pub struct Widths {
     pub outside: u32,
     pub inside: u32,
 }
 
-#[derive(Drop)]
+#[derive(Clone, Copy)]
 pub enum WidthsAnswer {
     Refused(Refusal),
     Answered(Widths),

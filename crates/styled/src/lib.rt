@@ -1,5 +1,7 @@
 // Styled figures: their bounding box and rows, after embedded-graphics 0.8.2 both `styled.rs` and
 // `common/styled_scanline.rs`. A figure's stroke area and fill area are shapes of one kind.
+#![tactic(auto)]
+
 ghost use Rattle.std.specs.Prelude.{◌≡◌, ◌≤◌};
 ghost use Rattle.signed.specs.Signed.{Near};
 ghost use Rattle.geometry.specs.Bounds.{wide_point};
@@ -18,7 +20,7 @@ use style::Style;
 use styled_row::{crate_row_at, ellipse_row_at, w3c_row_at};
 use styled_straight::{StraightRow, straight_row};
 
-#[derive(Drop)]
+#[derive(Clone, Copy)]
 pub enum StyledRowAnswer {
     Refused(Refusal),
     NoRow,

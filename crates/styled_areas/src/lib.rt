@@ -1,5 +1,7 @@
 // The stroke area and the fill area of a figure with its style, after embedded-graphics 0.8.2 both
 // `styled.rs`, for callers that have made the checks.
+#![tactic(auto)]
+
 ghost use Rattle.std.specs.Prelude.{◌≡◌, ◌≤◌};
 ghost use Rattle.signed.specs.Signed.{Near};
 ghost use Rattle.figure.specs.Bounds.{wide_offset, OwnFigure, BoundedShape};

@@ -1,6 +1,8 @@
 // A styled box made ready for all its rows: the rectangles of both areas and their tests, after
 // embedded-graphics 0.8.2 `StyledScanlines` of `rounded_rectangle/styled.rs`. A scan hands the hints that
 // a row leaves to the next row; they choose where searches start, and no answer depends on them.
+#![tactic(auto)]
+
 ghost use Rattle.std.specs.Prelude.{◌≡◌, ◌<◌};
 ghost use Rattle.signed.specs.Signed.{Near};
 ghost use Rattle.geometry.specs.Bounds.{wide_point};
@@ -17,21 +19,21 @@ use scanline::{Place, StyledRow};
 use styled_row::around_fill;
 
 // Where the searches of a row begin, for both areas: nothing depends on it but time.
-#[derive(Drop)]
+#[derive(Clone, Copy)]
 pub struct RowHints {
     pub stroke: Hints,
     pub fill: Hints,
 }
 
 // A styled row, and the hints for the row after it.
-#[derive(Drop)]
+#[derive(Clone, Copy)]
 pub struct HintedRow {
     pub row: StyledRow,
     pub hints: RowHints,
 }
 
 // A box made ready: the rectangles of its stroke area and its fill area, and their tests.
-#[derive(Drop)]
+#[derive(Clone, Copy)]
 pub struct StyledBox {
     pub area: Rectangle,
     pub stroke: RoundedRectangleContains,

@@ -2,6 +2,8 @@
 // embedded-graphics 0.8.2 `StyledScanlines` of both `styled.rs`. A scan of rows goes by `styled_scan`,
 // which makes both areas ready once and hands hints from row to row; nothing of it is called here. The
 // areas are made by the kind of the figure, so that no figure or shape is handed over in memory.
+#![tactic(auto)]
+
 ghost use Rattle.std.specs.Prelude.{◌≡◌, ◌*◌, ◌-◌, ◌<◌, ◌≤◌, pos, neg_ℤ};
 ghost use Rattle.signed.specs.Signed.{Near};
 ghost use Rattle.geometry.specs.Bounds.{wide_point, wide_side, SizeUpTo};

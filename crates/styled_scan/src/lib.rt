@@ -1,5 +1,7 @@
 // A styled figure made ready for all its rows: both areas with their tests, after embedded-graphics
 // 0.8.2 `StyledScanlines` of both `styled.rs`.
+#![tactic(auto)]
+
 ghost use Rattle.std.specs.Prelude.{◌≡◌, ℤ};
 ghost use Rattle.figure.specs.Bounds.{BoundedShape};
 ghost use Rattle.styled_row.specs.StyledRow.{styled_row_of_shapes};
@@ -10,7 +12,7 @@ use figure::Shape;
 use styled_box::StyledBox;
 
 // A styled figure made ready. Areas of two kinds, which no figure has, have no rows.
-#[derive(Drop)]
+#[derive(Clone, Copy)]
 pub enum StyledShape {
     Ellipse(StyledEllipse),
     RoundedBox(StyledBox),

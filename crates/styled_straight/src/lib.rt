@@ -1,6 +1,8 @@
 // Rows of a styled box that no corner of either area touches, for a row that is asked for alone: they
 // need no confined radii, no test made ready and no search. The Rust has none of it: in
 // embedded-graphics 0.8.2 `rounded_rectangle/styled.rs` every row is searched from both ends.
+#![tactic(auto)]
+
 ghost use Rattle.std.specs.Prelude.{◌≡◌, true, ◌-◌, ◌<◌, ◌≤◌, pos, neg_ℤ};
 ghost use Rattle.signed.specs.Signed.{Near};
 ghost use Rattle.geometry.specs.Bounds.{wide_point};
@@ -18,14 +20,14 @@ use scanline::{Place, StyledRuns};
 use styled_row::around_fill;
 
 // A row of a styled box as far as it is known without the corners: its runs, or nothing.
-#[derive(Drop)]
+#[derive(Clone, Copy)]
 pub enum StraightRow {
     Runs(StyledRuns),
     Unknown,
 }
 
 // How many rows from its top down, and from its bottom up, the corners of a box have at most.
-#[derive(Drop)]
+#[derive(Clone, Copy)]
 pub struct Reaches {
     pub upper: u32,
     pub lower: u32,

@@ -2,6 +2,8 @@
 // stroke area's rows. Such a box is known by one corner of each area: its upper rows need one search
 // for both sides and no test of the corners, and its lower rows mirror the upper ones. The Rust has
 // none of it: embedded-graphics 0.8.2 `rounded_rectangle/styled.rs` searches every row from both ends.
+#![tactic(auto)]
+
 ghost use Rattle.std.specs.Prelude.{◌≡◌, true, ◌+◌, ◌<◌, ◌≤◌, pos, ◌+ℤ◌};
 ghost use Rattle.geometry.specs.Bounds.{wide_side};
 ghost use Rattle.scanline.specs.Places.{find_from};
@@ -28,7 +30,7 @@ use styled_row::around_fill;
 
 // A box whose corners are all alike: each area with one of its corners, how many rows the fill area begins below
 // the stroke area, and how many rows at the top, and as many at the bottom, a corner or the border has.
-#[derive(Drop)]
+#[derive(Clone, Copy)]
 pub struct SymmetricBox {
     pub area: Rectangle,
     pub corner: EllipseQuadrant,
@@ -39,14 +41,14 @@ pub struct SymmetricBox {
 }
 
 // Whether a box is symmetric.
-#[derive(Drop)]
+#[derive(Clone, Copy)]
 pub enum Symmetry {
     Symmetric(SymmetricBox),
     Asymmetric,
 }
 
 // A fill, and where the next row's is looked for.
-#[derive(Drop)]
+#[derive(Clone, Copy)]
 struct Filled {
     run: Range,
     hint: u32,

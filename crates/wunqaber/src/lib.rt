@@ -1,5 +1,7 @@
 // The library for a host in C or Rust: every call on numbers and lent buffers, as include/wunqaber.h
 // declares it. Each is the call of the same name in a host_.. crate, with the same promise.
+#![tactic(auto)]
+
 ghost use Rattle.std.specs.Prelude.{◌≡◌, length};
 ghost use Rattle.host_answers.specs.HostAnswers.{outcome_number, Tells};
 ghost use Rattle.host_figures.specs.Figures.{contains_said, row_said, offset_said, confined_radii_said, ellipse_with_center_said};
