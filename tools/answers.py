@@ -18,6 +18,17 @@ def norm(name):
     return name.replace("_", "-")
 
 
+def step_name(name):
+    """A step's name as it was before port.py and respell.py turned what looked like a word of theirs."""
+    n = norm(name).lower()
+    n = n[:-len("-lem")] if n.endswith("-lem") else n
+    n = n[:-len("-cases")] if n.endswith("-cases") else n
+    for a, b in (("is-is", "is-"), ("isplace-in", "place-in"), ("type-size", "size-of")):
+        if n.startswith(a):
+            n = b + n[len(a):]
+    return n
+
+
 def read(p):
     with open(p, encoding="utf-8") as f:
         return f.read()
@@ -69,7 +80,12 @@ class Function:
         return None
 
     def arm_of(self, i):
-        return self.d["arms"][i]
+        a = self.d["arms"][i]
+        return a if a and isinstance(a[0], str) else None
+
+    def test_of(self, i):
+        a = self.d["arms"][i]
+        return dict(map(tuple, a)) if a and not isinstance(a[0], str) else None
 
     def chain(self, base, cur, to):
         """base.before.. from the place cur to the place `to`, as today's records nest."""
@@ -97,15 +113,14 @@ class Function:
         """What base.fields is today: ('place', index, text), ('step', index, rest, text) or ('text', text)"""
         i, at = 0, cur
         while i < len(fields) and fields[i] == "before":
-            at = self.parent[at]
-            if at is None:
-                self.say(f"too many .before at {base}")
-                return ("text", base + "".join("." + f for f in fields))
+            at = self.parent[at] if self.parent[at] is not None else at
             i += 1
         rest = fields[i:]
         if not rest:
             return ("place", at, base, cur)
-        f = norm(rest[0])
+        f = step_name(rest[0])
+        if f == "pre":
+            rest[0] = f = "requires"
         if f in ("args", "ranges", "requires", "well-formed", "good"):
             if f == "requires" and self.pre and len(rest) > 1:
                 c = self.clause(self.pre, rest[1:])
@@ -118,11 +133,7 @@ class Function:
                 if len(wa) == 2 and len(rest) > 1 and "." + rest[0] == wa[0] and rest[1] == wa[1].lstrip("."):
                     rest[1] = wb[1].lstrip(".")
             return ("text", base + "".join("." + x for x in rest))
-        for p in self.up(at):
-            if norm(self.places[p][2][0]) == f or norm(self.places[p][2][1]) == f:
-                return self.step(base, at, p, rest[1:])
-        self.say(f"no step {rest[0]} at {self.places[at][0]}: {base}.{'.'.join(fields)}")
-        return ("text", base + "".join("." + x for x in fields))
+        return self.resolve_from(base, cur, at, rest)
 
     def step(self, base, at, p, rest):
         old, new = self.places[p][2]
@@ -143,9 +154,26 @@ class Function:
             if best:
                 more = self.clauses(p, [best[0]] + rest[len(best[1]):], best[0])
                 return ("step", p, rest, ".".join([base, a[0]] + more))
+            if not rest:
+                return ("step", p, rest, None)
             self.say(f"arm {a[0]} lacks {old}.{'.'.join(rest)}")
             return ("text", ".".join([base, a[0]] + rest))
+        t = self.test_of(p)
+        if t and rest and rest[0] in t:
+            rest = [t[rest[0]]] + rest[1:]
         return ("step", p, rest, ".".join([base, new] + self.clauses(p, rest, "")))
+
+    def deepest(self, i):
+        """The last place of the arm that the place i is in."""
+        a = self.arm_of(i)
+        if not a:
+            return i
+        best = i
+        for j in range(len(self.places)):
+            b = self.arm_of(j)
+            if b and b[0] == a[0] and b[1] > self.arm_of(best)[1] and i in self.group(j):
+                best = j
+        return best
 
     def group(self, i):
         a, out = self.arm_of(i), [i]
@@ -166,16 +194,19 @@ class Function:
                     return rest
                 return rest[: j + 1] + n
             if f == "new" and callee and j + 1 < len(rest) and rest[j + 1].isdigit():
-                words = callee.split("::")
-                m = self.muts.get((words[0], words[-1])) or self.muts.get((self.crate, words[-1]))
-                if m and int(rest[j + 1]) < len(m) and len(m) == 1:
-                    rest[j + 1] = m[0]
-                else:
-                    self.say(f"new of {callee}: {rest} {m}")
+                names, k, i = self.d["params"].get(callee) or [], 0, j + 1
+                while i < len(rest) and rest[i] == "1":
+                    k, i = k + 1, i + 1
+                if i < len(rest) and rest[i] == "0":
+                    i += 1
+                if k < len(names):
+                    return rest[: j + 1] + [names[k]] + rest[i:]
+                self.say(f"new of {callee}: {rest} {names}")
                 return rest
         return rest
 
     def new_place(self, i):
+        i = self.deepest(i)
         n = norm(self.places[i][0])
         if n in self.asked_places:
             return "goal." + self.new[i]
@@ -253,11 +284,11 @@ def tokens_env(fn, body, env, funs):
         fields = [x.strip("«»") if x.startswith("«") else x for x in fields]
         rep = None
         if f and f in funs and arg in env:
-            cur = env[arg]["place"]
+            cur = fn.wanted.get(f, env[arg]["place"])
             base = env[arg]["base"]
             at_place = cur
             for _ in re.findall("before", befores):
-                at_place = fn.parent[at_place]
+                at_place = fn.parent[at_place] if fn.parent[at_place] is not None else at_place
             # the function's own body says where it leads
             to = funs[f]
             if fields or True:
@@ -277,7 +308,9 @@ def tokens_env(fn, body, env, funs):
         lm = re.search(r"let (\w[\w'-]*) =\s*$", before)
         whole_let = lm and re.match(r"\s+in\b", after)
         if rep[0] == "place":
-            txt = fn.chain(rep[2], rep[3], rep[1])
+            hm = re.search(r"(?<![\w'.-])(\w[\w'-]*)\s+$", before)
+            to = fn.wanted.get(hm[1], rep[1]) if hm else rep[1]
+            txt = fn.chain(rep[2], rep[3], fn.deepest(to))
             if txt is None:
                 fn.say(f"a place within an arm: {m[0]}")
                 txt = rep[2]
@@ -286,8 +319,16 @@ def tokens_env(fn, body, env, funs):
             txt_final = txt
         elif rep[0] == "step":
             txt_final = rep[3]
-            if whole_let:
-                env[lm[1]] = {"kind": "step", "base": rep[4] if len(rep) > 4 else rep[3], "at": rep[5] if len(rep) > 5 else None, "p": rep[1], "rest": rep[2]}
+            if whole_let and len(rep) > 4:
+                env[lm[1]] = {"kind": "step", "base": rep[4], "at": rep[5], "p": rep[1], "rest": rep[2]}
+            if txt_final is None and whole_let:
+                # a step of an arm is no record of its own: its fields are named where they are used
+                result.append(text[pos:lm.start()])
+                pos = m.end() + re.match(r"\s+in\b\s*", after).end()
+                continue
+            if txt_final is None:
+                fn.say(f"a whole step of an arm: {m[0]}")
+                txt_final = m[0]
         else:
             txt_final = rep[1]
             if whole_let and lm[1] in env:
@@ -303,19 +344,16 @@ def resolve_from(self, base, cur, place, fields):
     """Fields of a record of `place`, which is base (a record of cur, below it)."""
     i, at = 0, place
     while i < len(fields) and fields[i] == "before":
-        at = self.parent[at]
-        if at is None:
-            self.say(f"too many .before at {base}")
-            return ("text", base)
+        at = self.parent[at] if self.parent[at] is not None else at
         i += 1
     rest = fields[i:]
     if not rest:
         return ("place", at, base, cur)
-    f = norm(rest[0])
-    if f in ("args", "ranges", "requires", "well-formed", "good"):
+    f = step_name(rest[0])
+    if f in ("args", "ranges", "requires", "well-formed", "good", "pre"):
         return self.resolve(base, at, rest)
-    for p in self.up(at):
-        if norm(self.places[p][2][0]) == f or norm(self.places[p][2][1]) == f:
+    for p in list(self.up(at)) + list(self.up(cur)):
+        if step_name(self.places[p][2][0]) == f or step_name(self.places[p][2][1]) == f:
             r = self.step(base, cur, p, rest[1:])
             if r[0] == "step":
                 return ("step", p, rest[1:], r[3], base, cur)
@@ -400,7 +438,9 @@ def turn(crate, folder, path, d, muts):
         m = re.search(r"tie\.Need-([\w-]+)", sig)
         if m and dcl["kind"] == "def" and re.match(r"^(?:abbrev |pub )*" + re.escape(dcl["name"]) + r" : tie\.Need-", sig):
             old = norm(m[1])
-            old = old[len("overflow-"):] if old not in fn.needs and old.startswith("overflow-") else old
+            for a, b in (("overflow-", ""), ("slice-bounds-", "part-"), ("nonzero-", "")):
+                if old not in fn.needs and old.startswith(a):
+                    old = b + old[len(a):]
             if old not in fn.needs:
                 fn.say(f"no goal {m[1]}")
                 new = m[1]
@@ -457,6 +497,11 @@ def turn(crate, folder, path, d, muts):
                 if not re.match(r"^\s*\(", a):
                     k += 1
         return env
+    fn.wanted = {}
+    for h in helpers:
+        env = params(h)
+        if env:
+            fn.wanted[h["name"]] = next(iter(env.values()))
     def place_types(t):
         def one(m):
             n = norm(m[1])
@@ -467,8 +512,8 @@ def turn(crate, folder, path, d, muts):
         # invariants and measures are passed to place types
         t = re.sub(r"tie\.((?:Start|After-|At-|In-|Then|Else|Joined)[\w-]*)((?: (?:invariant|decreases)-[\w-]+)*)", one, t)
         return t
-    def rewrite(t, env):
-        e = {v: {"kind": "place", "place": i, "base": v, "cur": i} for v, i in env.items()}
+    def rewrite(t, env, last=False):
+        e = {v: {"kind": "place", "place": i, "base": v, "cur": fn.deepest(i) if last else i} for v, i in env.items()}
         t = tokens_env(fn, t, e, funs)
         for a, b in renames.items():
             t = re.sub(r"(?<![\w'.-])" + re.escape(a) + r"(?![\w'-])", b, t)
@@ -556,7 +601,7 @@ def turn(crate, folder, path, d, muts):
             if dcl.get("placefun"):
                 # what it leads to is reached by the fields themselves; kept where a whole record is passed on
                 pass
-            t = rewrite(t, env)
+            t = rewrite(t, env, True)
             t = place_types(t)
             com = "\n".join(dcl["comment"]).strip("\n")
             out_ans.append((com + "\n" if com else "") + t.rstrip())
