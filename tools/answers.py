@@ -409,6 +409,17 @@ def as_record(fn, body, clauses):
     head, value = body[:at], body[at:]
     if value.strip() in ("search rules", "cc"):
         return body
+    # the value may be what is left after `rw` and its like
+    lead = ""
+    if top_tuple(value) is None:
+        v, deep = value.rstrip(), 0
+        if v.endswith(")"):
+            for i in range(len(v) - 1, -1, -1):
+                deep += (v[i] == ")") - (v[i] == "(")
+                if deep == 0:
+                    break
+            if top_tuple(v[i:]) is not None:
+                lead, value = v[:i], v[i:]
     parts, rest = [], value
     for k in range(len(clauses) - 1):
         p = top_tuple(rest)
@@ -418,7 +429,8 @@ def as_record(fn, body, clauses):
         parts.append(p[0])
         rest = p[1]
     parts.append(rest.strip())
-    return head + " record { " + "; ".join(f"{c} = {v}" for c, v in zip(clauses, parts)) + " }"
+    made = "record { " + "; ".join(f"{c} = {v}" for c, v in zip(clauses, parts)) + " }"
+    return head + (lead + "(" + made + ")" if lead else " " + made)
 
 
 def turn(crate, folder, path, d, muts):

@@ -11,7 +11,7 @@ pub returns-in_default : goal.returns-in_default
 returns-in_default c =
     let told = c.before.before in
     rw (sym c.check_room-checked.ensures ∙ c.in_default.is)
-    (c.number.ensures ∙ ap number (refusal_found c.refusal.ensures c.in_default.is), refl)
+    (record { value = c.number.ensures ∙ ap number (refusal_found c.refusal.ensures c.in_default.is); out_after = refl })
 
 pub put_from-requires : goal.put_from-requires
 put_from-requires c =
@@ -24,4 +24,4 @@ put_from-requires c =
 pub returns : goal.returns
 returns c =
     let at_check_room = c.check_room-checked in
-    rw (sym c.check_room-checked.ensures ∙ c.in-Passed.is) (refl, c.put_from.ensures)
+    rw (sym c.check_room-checked.ensures ∙ c.in-Passed.is) (record { value = refl; out_after = c.put_from.ensures })

@@ -48,10 +48,10 @@ paints c =
     a.height a.canvas.now)
 
 pub returns-then-not-is_figure : goal.returns-then-not-is_figure
-returns-then-not-is_figure c = rw (sym c.is_figure.ensures ∙ not-true _ c.if-not-is_figure.true) (refl, refl)
+returns-then-not-is_figure c = rw (sym c.is_figure.ensures ∙ not-true _ c.if-not-is_figure.true) (record { value = refl; canvas_after = refl })
 
 pub returns-then-not-is_style : goal.returns-then-not-is_style
-returns-then-not-is_style c = rw (is_one c.before.before, sym c.is_style.ensures ∙ not-true _ c.if-not-is_style.true) (refl, refl)
+returns-then-not-is_style c = rw (is_one c.before.before, sym c.is_style.ensures ∙ not-true _ c.if-not-is_style.true) (record { value = refl; canvas_after = refl })
 
 pub figure_of-requires : goal.figure_of-requires
 figure_of-requires c = figure_length_lem c.args.figure.now (is_one c.before.before)
@@ -63,20 +63,14 @@ pub returns-in-Refused : goal.returns-in-Refused
 returns-in-Refused c =
     let back_10 = c.before.before.before.before.before.before.before.before in
     let back_12 = c.before.before.before.before.before.before.before.before.before.before in
-    rw (is_one c.before.before.before.before.before.before.before.before.before.before, is_styled c.before.before.before.before.before.before.before.before) (
-      c.number.ensures ∙ ap (λ (o : Outcome). outcome_number o)
+    rw (is_one c.before.before.before.before.before.before.before.before.before.before, is_styled c.before.before.before.before.before.before.before.before) (record { value = c.number.ensures ∙ ap (λ (o : Outcome). outcome_number o)
           (sym (ap (λ (a : PaintAnswer). paint_outcome a) c.in-Refused.is) ∙ says
-          c.before.before.before.before),
-      paints c.before.before.before.before,
-    )
+          c.before.before.before.before); canvas_after = paints c.before.before.before.before })
 
 pub returns-in-Painted : goal.returns-in-Painted
 returns-in-Painted c =
     let back_8 = c.before.before.before.before.before.before.before in
     let back_10 = c.before.before.before.before.before.before.before.before.before in
-    rw (is_one c.before.before.before.before.before.before.before.before.before, is_styled c.before.before.before.before.before.before.before) (
-      ap (λ (o : Outcome). outcome_number o)
-          (sym (ap (λ (a : PaintAnswer). paint_outcome a) c.in-Painted.is) ∙ says c.before.before.before),
-      paints
-          c.before.before.before,
-    )
+    rw (is_one c.before.before.before.before.before.before.before.before.before, is_styled c.before.before.before.before.before.before.before) (record { value = ap (λ (o : Outcome). outcome_number o)
+          (sym (ap (λ (a : PaintAnswer). paint_outcome a) c.in-Painted.is) ∙ says c.before.before.before); canvas_after = paints
+          c.before.before.before })

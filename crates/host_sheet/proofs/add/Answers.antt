@@ -93,11 +93,11 @@ place c =
 
 pub returns-then-not-is_sheet : goal.returns-then-not-is_sheet
 unfolding add_told add_numbers
-returns-then-not-is_sheet c = rw (sym c.is_sheet.ensures ∙ not-true _ c.if-not-is_sheet.true) (refl, refl)
+returns-then-not-is_sheet c = rw (sym c.is_sheet.ensures ∙ not-true _ c.if-not-is_sheet.true) (record { value = refl; sheet_after = refl })
 
 pub returns-then-not-is_figure : goal.returns-then-not-is_figure
 unfolding add_told add_numbers
-returns-then-not-is_figure c = rw (is_one c.before.before, sym c.is_figure.ensures ∙ not-true _ c.if-not-is_figure.true) (refl, refl)
+returns-then-not-is_figure c = rw (is_one c.before.before, sym c.is_figure.ensures ∙ not-true _ c.if-not-is_figure.true) (record { value = refl; sheet_after = refl })
 
 pub returns-then-not-is_style : goal.returns-then-not-is_style
 unfolding add_told add_numbers
@@ -107,7 +107,7 @@ returns-then-not-is_style c =
       is_a_figure c.before.before,
       sym c.is_style.ensures ∙ not-true _
           c.if-not-is_style.true,
-    ) (refl, refl)
+    ) (record { value = refl; sheet_after = refl })
 
 pub sheet_of-before-requires : goal.sheet_of-before-requires
 sheet_of-before-requires c =
@@ -137,7 +137,7 @@ returns-in_default c =
       is_a_style c.before.before.before.before.before.before,
       refused,
     )
-    (c.number_of.ensures ∙ ap (λ (a : SheetAnswer). answer_number (said a)) c.in_default.is, refl)
+    (record { value = c.number_of.ensures ∙ ap (λ (a : SheetAnswer). answer_number (said a)) c.in_default.is; sheet_after = refl })
 
 pub bounds-places-place : goal.bounds-places-place
 bounds-places-place c = place c.before.before.before
@@ -184,9 +184,7 @@ returns c =
       is_a_figure c.before.before.before.before.before.before.before.before.before.before.before.before.before.before.before.before,
       is_a_style c.before.before.before.before.before.before.before.before.before.before.before.before.before.before,
       is_accepted_lem c.before.before.before.before.before.before.before.before.before,
-    ) (
-      refl,
-      ap₂ (λ (l : List ℤ) (z : ℤ). set l count_at z)
+    ) (record { value = refl; sheet_after = ap₂ (λ (l : List ℤ) (z : ℤ). set l count_at z)
           (c.put_layer.ensures
           ∙ ap₂ (λ (k : ℕ) (z : ℤ). layer_put
           c.args.sheet.now k
@@ -197,5 +195,4 @@ returns c =
           (carried c.before.before.before.before.before.before.before.before.before)
           (count_is c.before.before.before.before.before.before.before.before.before)))
           (to_z-of_z c.from_u32.ensures.fits ∙ c.from_u32.ensures.is
-          ∙ ap (λ (s : Sheet). pos s.count) (carried c.before.before.before.before.before.before.before.before.before)),
-    )
+          ∙ ap (λ (s : Sheet). pos s.count) (carried c.before.before.before.before.before.before.before.before.before)) })

@@ -42,7 +42,7 @@ is_accepted_lem c = sym (checked c.before.before) ∙ c.in-Passed.is
 
 pub returns-then-not-is_sheet : goal.returns-then-not-is_sheet
 unfolding paint_told paint_numbers paint_canvas
-returns-then-not-is_sheet c = rw (sym c.is_sheet.ensures ∙ not-true _ c.if-not-is_sheet.true) (refl, (refl, refl))
+returns-then-not-is_sheet c = rw (sym c.is_sheet.ensures ∙ not-true _ c.if-not-is_sheet.true) (record { value = refl; sheet_after = refl; canvas_after = refl })
 
 pub check_paint-checked-requires : goal.check_paint-checked-requires
 check_paint-checked-requires c = sheet_length_lem c.args.sheet.now (is_one c.before)
@@ -55,10 +55,7 @@ returns-in_default c =
     let check = c.before.before.before in
     let a = c.args in
     let refused = sym (checked check) ∙ c.in_default.is in
-    rw (is_one c.before.before.before.before, refused) (
-      c.number.ensures ∙ ap number (refusal_found c.refusal.ensures c.in_default.is),
-      (refl, sym (refused_canvas (sheet_of a.sheet.now) (sixteen a.sheet.now) a.canvas.now (call_paint a.layer) _ refused)),
-    )
+    rw (is_one c.before.before.before.before, refused) (record { value = c.number.ensures ∙ ap number (refusal_found c.refusal.ensures c.in_default.is); sheet_after = refl; canvas_after = sym (refused_canvas (sheet_of a.sheet.now) (sixteen a.sheet.now) a.canvas.now (call_paint a.layer) _ refused) })
 
 pub paint_next-requires : goal.paint_next-requires
 paint_next-requires c =
@@ -71,7 +68,4 @@ returns c =
     let told = c.before.before.before.before.before.before in
     let a = c.args in
     let painted = c.paint_next.ensures in
-    rw (is_one c.before.before.before.before.before.before.before.before, is_accepted_lem c.before.before.before.before.before.before) (
-      refl,
-      (c.paint_next.ensures.numbers_after ∙ painted_numbers a.sheet.now a.layer a.canvas.now (is_accepted_lem told), c.paint_next.ensures.canvas_after),
-    )
+    rw (is_one c.before.before.before.before.before.before.before.before, is_accepted_lem c.before.before.before.before.before.before) (record { value = refl; sheet_after = c.paint_next.ensures.numbers_after ∙ painted_numbers a.sheet.now a.layer a.canvas.now (is_accepted_lem told); canvas_after = c.paint_next.ensures.canvas_after })

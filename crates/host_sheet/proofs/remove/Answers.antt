@@ -111,7 +111,7 @@ long c = sheet_length_lem c.args.sheet.now (is_one c.before.before.before.before
 
 pub returns-then-not-is_sheet : goal.returns-then-not-is_sheet
 unfolding remove_told remove_numbers remove_canvas
-returns-then-not-is_sheet c = rw (sym c.is_sheet.ensures ∙ not-true _ c.if-not-is_sheet.true) (refl, (refl, (refl, refl)))
+returns-then-not-is_sheet c = rw (sym c.is_sheet.ensures ∙ not-true _ c.if-not-is_sheet.true) (record { value = refl; sheet_after = refl; canvas_after = refl; background_value = refl })
 
 pub sheet_of-before-requires : goal.sheet_of-before-requires
 sheet_of-before-requires c = sheet_length_lem c.args.sheet.now (is_one c.before)
@@ -123,10 +123,7 @@ returns-in_default c =
     let told = c.before in
     let made = c.before.before.before.before in
     let refused = sym (says made) ∙ ap (λ (a : SheetAnswer). said a) c.in_default.is in
-    rw (is_one c.before.before.before.before.before.before.before, refused) (
-      c.number_of.ensures ∙ ap (λ (a : SheetAnswer). answer_number (said a)) c.in_default.is,
-      (refl, (painted c.before.before.before.before, refl)),
-    )
+    rw (is_one c.before.before.before.before.before.before.before, refused) (record { value = c.number_of.ensures ∙ ap (λ (a : SheetAnswer). answer_number (said a)) c.in_default.is; sheet_after = refl; canvas_after = painted c.before.before.before.before; background_value = refl })
 
 pub remove_place-requires : goal.remove_place-requires
 remove_place-requires c = (long c.before.before, place c.before.before)
@@ -148,11 +145,5 @@ unfolding remove_told remove_numbers remove_canvas
 returns c =
     let told = c.before.before.before.before.before in
     let made = c.before.before.before.before.before.before.before.before in
-    rw (is_one c.before.before.before.before.before.before.before.before.before.before.before, is_accepted_lem c.before.before.before.before.before) (
-      refl,
-      (
-        ap₂ (λ (l : List ℤ) (z : ℤ). set l count_at z) c.remove_place.ensures
-            (to_z-of_z c.from_u32.ensures.fits ∙ c.from_u32.ensures.is ∙ ap (λ (s : Sheet). pos s.count) (carried told)),
-        (painted c.before.before.before.before.before.before.before.before, refl),
-      ),
-    )
+    rw (is_one c.before.before.before.before.before.before.before.before.before.before.before, is_accepted_lem c.before.before.before.before.before) (record { value = refl; sheet_after = ap₂ (λ (l : List ℤ) (z : ℤ). set l count_at z) c.remove_place.ensures
+            (to_z-of_z c.from_u32.ensures.fits ∙ c.from_u32.ensures.is ∙ ap (λ (s : Sheet). pos s.count) (carried told)); canvas_after = painted c.before.before.before.before.before.before.before.before; background_value = refl })

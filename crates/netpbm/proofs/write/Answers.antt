@@ -57,7 +57,7 @@ overflow_add-header_length c =
 pub returns-in_default : goal.returns-in_default
 returns-in_default c =
     rw (sym (checked c.before.before.before) ∙ c.in_default.is)
-    (refused_early refused c.refusal.ensures c.in_default.is, refl)
+    (record { result_value = refused_early refused c.refusal.ensures c.in_default.is; file_after = refl })
 
 pub put_picture-requires : goal.put_picture-requires
 put_picture-requires c =
@@ -70,4 +70,4 @@ returns c =
     let check = c.before.before.before.before.before in
     let written = c.put_picture.ensures in
     rw (sym (checked check) ∙ c.in-Passed.is)
-    (ap (λ (n : ℕ). answered (pos n ∷ [])) (c.put_picture.ensures.place ∙ omega arith), c.put_picture.ensures.list)
+    (record { result_value = ap (λ (n : ℕ). answered (pos n ∷ [])) (c.put_picture.ensures.place ∙ omega arith); file_after = c.put_picture.ensures.list })

@@ -43,7 +43,7 @@ put_row-next-requires c =
     let a = c.args in
     let within : c.loop-left.from + a.width ≤ length a.canvas.now = omega (arith, turn_less c.loop-left.left a.width (omega arith)) in
     rw (row_part a.canvas.now c.loop-left.from a.width, row_part_length a.canvas.now c.loop-left.from a.width within)
-    (omega arith, omega (arith, turn_less c.loop-left.left (row_bytes a.width) (omega arith)))
+    (record { row_len_bound = omega arith; row_in_bounds = omega (arith, turn_less c.loop-left.left (row_bytes a.width) (omega arith)) })
 
 -- src/lib.rt:76:9
 pub overflow_sub-left : goal.overflow_sub-left

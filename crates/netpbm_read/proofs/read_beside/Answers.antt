@@ -67,7 +67,7 @@ returns-in_default c =
     let seen = sym (ap (λ (r : HeaderAnswer). header_in a.file.now r) c.in_default.is)
     ∙ c.read_header.ensures.result_value in
     let check = sym (check_capped (file_header a.file.now) n a.room) ∙ ap (λ (h : ReadHeader). read_check h n a.room) (sym seen) in
-    rw check (refl, refl)
+    rw check (record { result_value = refl; canvas_after = refl })
 
 pub overflow_sub-file : goal.overflow_sub-file
 overflow_sub-file c =
@@ -78,7 +78,7 @@ overflow_sub-file c =
 pub returns-in_default-checked : goal.returns-in_default-checked
 returns-in_default-checked c =
     let IsRefused-as = c.in_default-checked.is in
-    rw (sym (made c.before.before.before) ∙ c.in_default-checked.is) (refused_early refused c.refusal.ensures c.in_default-checked.is, refl)
+    rw (sym (made c.before.before.before) ∙ c.in_default-checked.is) (record { result_value = refused_early refused c.refusal.ensures c.in_default-checked.is; canvas_after = refl })
 
 pub read_headed-requires : goal.read_headed-requires
 read_headed-requires c =
@@ -96,4 +96,4 @@ returns c =
     let whole = seen c.before.before.before.before.before ∙ header_kept (file_header a.file.now) (length a.canvas.now) a.room passed in
     let read = c.read_headed.ensures in
     rw passed
-    (c.read_headed.ensures.result_value ∙ ap (λ (h : ReadHeader). answered (sides_of h)) whole, c.read_headed.ensures.canvas_after ∙ ap (λ (h : ReadHeader). canvas_of h) whole)
+    (record { result_value = c.read_headed.ensures.result_value ∙ ap (λ (h : ReadHeader). answered (sides_of h)) whole; canvas_after = c.read_headed.ensures.canvas_after ∙ ap (λ (h : ReadHeader). canvas_of h) whole })

@@ -41,7 +41,7 @@ passed c = paint_passed _ _ _ _ _ (sym (checked c.before.before) ∙ c.in-Passed
 pub returns-in_default : goal.returns-in_default
 returns-in_default c =
     rw (sym (checked c.before.before.before) ∙ c.in_default.is)
-    (refused_early refused c.refusal.ensures c.in_default.is, refl)
+    (record { result_value = refused_early refused c.refusal.ensures c.in_default.is; canvas_after = refl })
 
 pub paint_whole-requires : goal.paint_whole-requires
 paint_whole-requires c =
@@ -54,8 +54,5 @@ pub returns : goal.returns
 returns c =
     let a = c.args in
     let p = passed c.before.before.before.before in
-    rw (sym (checked c.before.before.before.before.before.before) ∙ c.in-Passed.is) (
-      refl,
-      c.paint_whole.ensures ∙ whole_is_painted a.figure a.style a.width a.height a.canvas.now
-          p.size,
-    )
+    rw (sym (checked c.before.before.before.before.before.before) ∙ c.in-Passed.is) (record { result_value = refl; canvas_after = c.paint_whole.ensures ∙ whole_is_painted a.figure a.style a.width a.height a.canvas.now
+          p.size })

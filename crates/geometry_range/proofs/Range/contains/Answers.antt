@@ -1,5 +1,5 @@
 -- `geometry_range::Range::contains` meets its contract: the first test decides, or else the second does.
-use Rattle.core.specs.Prelude.{◌≡◌, true, false}
+use Rattle.std.specs.Prelude.{◌≡◌, true, false}
 use lib.Signed.{le_z}
 use mir.Syntax.{w32}
 use mir.Val.{SFits}
