@@ -62,6 +62,8 @@ class Function:
         self.args = {a: b for a, b in d["args"]}
         self.pre = (d["pre"] or {}).get("fields")
         self.lts = set()
+        self.typed = [bool(t) for t in d["typed"]]
+        self.views = {}
 
     def up(self, i):
         while i is not None:
@@ -107,7 +109,7 @@ class Function:
             else:
                 i = self.parent[i]
             n += 1
-        return base + ".before" * n
+        return base + ".before" * (n + self.views.get(base, False))
 
     def resolve(self, base, cur, fields):
         """What base.fields is today: ('place', index, text), ('step', index, rest, text) or ('text', text)"""
@@ -208,7 +210,7 @@ class Function:
     def new_place(self, i):
         i = self.deepest(i)
         n = norm(self.places[i][0])
-        if n in self.asked_places:
+        if n in self.asked_places and not self.typed[i]:
             return "goal." + self.new[i]
         self.lts.add(i)
         return self.new[i]
@@ -250,7 +252,7 @@ def split(text):
                         i += 1
                         continue
                     break
-                if k.startswith(" ") or k.startswith("unfolding") or (kind == "def" and re.match(re.escape(name) + r"(?![\w'-])", k)):
+                if k.startswith((" ", ")")) or k.startswith("unfolding") or (kind == "def" and re.match(re.escape(name) + r"(?![\w'-])", k)):
                     block.append(k)
                     i += 1
                     continue
@@ -352,8 +354,9 @@ def resolve_from(self, base, cur, place, fields):
     f = step_name(rest[0])
     if f in ("args", "ranges", "requires", "well-formed", "good", "pre"):
         return self.resolve(base, at, rest)
-    for p in list(self.up(at)) + list(self.up(cur)):
-        if step_name(self.places[p][2][0]) == f or step_name(self.places[p][2][1]) == f:
+    found = [p for k in (0, 1) for w in (at, cur) for p in self.up(w) if step_name(self.places[p][2][k]) == f]
+    for p in found[:1]:
+        if True:
             r = self.step(base, cur, p, rest[1:])
             if r[0] == "step":
                 return ("step", p, rest[1:], r[3], base, cur)
@@ -526,6 +529,7 @@ def turn(crate, folder, path, d, muts):
         return t
     def rewrite(t, env, last=False):
         e = {v: {"kind": "place", "place": i, "base": v, "cur": fn.deepest(i) if last else i} for v, i in env.items()}
+        fn.views = {v: not last and fn.typed[i] for v, i in env.items()}
         t = tokens_env(fn, t, e, funs)
         for a, b in renames.items():
             t = re.sub(r"(?<![\w'.-])" + re.escape(a) + r"(?![\w'-])", b, t)
@@ -658,10 +662,13 @@ def turn(crate, folder, path, d, muts):
             extra.append(f"use {module}.Invariants.{{{', '.join(names)}}}")
         lts = []
         if fn.lts:
-            loops = " ".join(f"goal.the-invariant-{p[1]} goal.the-decreases-{p[1]}" for p, v in d["loops"])
-            extra += [f"use {module}.Lts", f"use {module}.Reads"]
+            loops = "".join(f" goal.the-invariant-{p[1]} goal.the-decreases-{p[1]}" for p, v in d["loops"])
+            calls = any(p[3] for p in fn.places)
+            extra += [f"use {module}.Lts", f"use {module}.Reads"] + [f"use {module}.Tie"] * calls
             for i in sorted(fn.lts):
-                lts.append(f"abbrev {fn.new[i]} : Type 0\n{fn.new[i]} = Lts.{fn.places[i][0]} Reads.Pre Reads.Post{' ' + loops if loops else ''}")
+                past = "Past-" if fn.arm_of(i) else ""
+                of = ("Tie.the-claims " if calls else "") + "Reads.Pre Reads.Post" + loops + (" Tie.handed_clauses" if calls else "")
+                lts.append(f"abbrev {fn.new[i]} : Type 0\n{fn.new[i]} = Lts.{past}{fn.places[i][0]} {of}")
         out = headline + kept(body_ans) + extra + [f"use {module}.Goals as goal", ""]
         if lts:
             out += ["-- the facts known at these places", "\n\n".join(lts), ""]

@@ -9,8 +9,6 @@ use Rattle.scanline.specs.Points.{run_points, entries}
 use Rattle.scanline.proofs.Listing.{StillTo}
 use Rattle.scanline.proofs.put_run.Given as goal
 
-pub )
-
 abbrev pub invariant-loop-k : goal.invariant-loop-k
 invariant-loop-k l =
     (l.k ≤ l.n) × (l.i ≡ l.at + 2 * l.k)
