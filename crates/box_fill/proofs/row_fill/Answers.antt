@@ -15,14 +15,15 @@ use Rattle.box_fill.proofs.Rows.{Looked, first_in, first_mirrored, right_start, 
 use native.Mathlib.Omega.{arith}
 use Rattle.box_fill.proofs.row_fill.Lts
 use Rattle.box_fill.proofs.row_fill.Reads
+use Rattle.box_fill.proofs.row_fill.Tie
 use Rattle.box_fill.proofs.row_fill.Goals as goal
 
 -- the facts known at these places
 abbrev Start : Type 0
-Start = Lts.Start Reads.Pre Reads.Post
+Start = Lts.Start Tie.the-claims Reads.Pre Reads.Post Tie.handed_clauses
 
 abbrev After-first_contained : Type 0
-After-first_contained = Lts.After-first_contained Reads.Pre Reads.Post
+After-first_contained = Lts.After-first_contained Tie.the-claims Reads.Pre Reads.Post Tie.handed_clauses
 
 -- ---- after the first search: the arguments, the places to look through, and how many are skipped
 abbrev entry : After-first_contained → Start

@@ -19,17 +19,18 @@ use Rattle.box_fill.proofs.Rows.{fill_off_rows, fill_relative}
 use native.Mathlib.Omega.{arith}
 use Rattle.box_mirrored_fill.proofs.fill_run.Lts
 use Rattle.box_mirrored_fill.proofs.fill_run.Reads
+use Rattle.box_mirrored_fill.proofs.fill_run.Tie
 use Rattle.box_mirrored_fill.proofs.fill_run.Goals as goal
 
 -- the facts known at these places
 abbrev Start : Type 0
-Start = Lts.Start Reads.Pre Reads.Post
+Start = Lts.Start Tie.the-claims Reads.Pre Reads.Post Tie.handed_clauses
 
 abbrev After-place_of : Type 0
-After-place_of = Lts.After-place_of Reads.Pre Reads.Post
+After-place_of = Lts.After-place_of Tie.the-claims Reads.Pre Reads.Post Tie.handed_clauses
 
 abbrev In-At-mirrored_skip : Type 0
-In-At-mirrored_skip = Lts.After-known_told2 Reads.Pre Reads.Post
+In-At-mirrored_skip = Lts.Past-After-known_told2 Tie.the-claims Reads.Pre Reads.Post Tie.handed_clauses
 
 row_place : (c : After-place_of) (told : Place) → c.place_of.result ≡ told
     → Placed c.args.rectangle.top_left.y c.args.b.size.height c.args.y told
@@ -43,7 +44,7 @@ rectangle_place c told is =
 
 pub place_of-requires : goal.place_of-requires
 place_of-requires c =
-    let start = c.before.before.before in
+    let start = c.before.before.before.before in
     let tall = c.requires.ready_fill.ready.size.height in
     let top = c.requires.ready_fill.at.y in record { near = rw (to_z-of_z top.fits) top; n_le_wide_side = omega arith; near_2 = rw (to_z-of_z c.requires.near.fits) c.requires.near }
 
@@ -58,8 +59,8 @@ returns-in_default c =
 
 pub mirrored_skip-requires : goal.mirrored_skip-requires
 mirrored_skip-requires c =
-    let after = c.before in
-    let row = row_place c.before (At c.in-At.dy) c.in-At.is in record { ready_box = c.requires.ready_fill.ready; dy_lt_height = row.1 }
+    let after = c.before.before in
+    let row = row_place c.before.before (At c.in-At.dy) c.in-At.is in record { ready_box = c.requires.ready_fill.ready; dy_lt_height = row.1 }
 
 -- ---- the fill by its place, and as the definition has it
 row_fill_is : (c : After-place_of) (dy : ℕ) → c.place_of.result ≡ At dy
@@ -73,9 +74,9 @@ row_fill_is c dy is =
 -- the two sides are not known to be alike
 pub row_fill-requires : goal.row_fill-requires
 row_fill-requires c =
-    let after = c.before.before.before.before in
+    let after = c.before.before.before.before.before in
     let left = c.requires.ready_fill.at.x in
-    let row = row_place c.before.before.before.before (At c.in-At.dy) c.in-At.is in record { near = rw (to_z-of_z left.fits) left; ready_box = c.requires.ready_fill.ready; dy_lt_height = row.1; near_run = c.requires.near_run }
+    let row = row_place c.before.before.before.before.before (At c.in-At.dy) c.in-At.is in record { near = rw (to_z-of_z left.fits) left; ready_box = c.requires.ready_fill.ready; dy_lt_height = row.1; near_run = c.requires.near_run }
 
 pub returns-in_default-mirrored_skip : goal.returns-in_default-mirrored_skip
 returns-in_default-mirrored_skip c =
@@ -96,7 +97,7 @@ between c =
 
 pub filled_between-requires : goal.filled_between-requires
 filled_between-requires c =
-    let after = c.before.before.before.before in
+    let after = c.before.before.before.before.before in
     let left = c.requires.ready_fill.at.x in record { near = rw (to_z-of_z left.fits) left; width_le_wide_stroke_side = (c.requires.ready_fill.ready.size.width, (between c.before).half); near_run = c.requires.near_run }
 
 pub returns : goal.returns

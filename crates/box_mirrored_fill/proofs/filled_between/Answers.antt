@@ -9,14 +9,15 @@ use Rattle.box_fill.proofs.Rows.{place_read}
 use Rattle.box_mirrored_fill.proofs.MirroredFill.{between_some, between_none, first_small, end_small}
 use Rattle.box_mirrored_fill.proofs.filled_between.Lts
 use Rattle.box_mirrored_fill.proofs.filled_between.Reads
+use Rattle.box_mirrored_fill.proofs.filled_between.Tie
 use Rattle.box_mirrored_fill.proofs.filled_between.Goals as goal
 
 -- the facts known at these places
 abbrev Start : Type 0
-Start = Lts.Start Reads.Pre Reads.Post
+Start = Lts.Start Tie.the-claims Reads.Pre Reads.Post Tie.handed_clauses
 
 abbrev After-least-end : Type 0
-After-least-end = Lts.After-least Reads.Pre Reads.Post
+After-least-end = Lts.After-least Tie.the-claims Reads.Pre Reads.Post Tie.handed_clauses
 
 first_is : (c : After-least-end) → c.most-begin.result
     ≡ max (place_in c.args.left c.args.width c.args.run.start) c.args.k

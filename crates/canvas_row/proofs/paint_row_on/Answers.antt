@@ -14,24 +14,28 @@ use Rattle.canvas.specs.Canvas.{overpaint_at}
 use Rattle.canvas_row.proofs.PaintBy.{paint_by_above, paint_by_below, paint_by_runs, paint_by_lacking}
 use Rattle.canvas_row.proofs.paint_row_on.Lts
 use Rattle.canvas_row.proofs.paint_row_on.Reads
+use Rattle.canvas_row.proofs.paint_row_on.Tie
 use Rattle.canvas_row.proofs.paint_row_on.Goals as goal
 
 -- the facts known at these places
 abbrev Start : Type 0
-Start = Lts.Start Reads.Pre Reads.Post
+Start = Lts.Start Tie.the-claims Reads.Pre Reads.Post Tie.handed_clauses
+
+abbrev Else-y-lt0 : Type 0
+Else-y-lt0 = Lts.Else1 Tie.the-claims Reads.Pre Reads.Post Tie.handed_clauses
 
 abbrev After-floor0-place : Type 0
-After-floor0-place = Lts.After-floor0 Reads.Pre Reads.Post
+After-floor0-place = Lts.After-floor0 Tie.the-claims Reads.Pre Reads.Post Tie.handed_clauses
 
 abbrev Else-size-place : Type 0
-Else-size-place = Lts.Else2 Reads.Pre Reads.Post
+Else-size-place = Lts.Else2 Tie.the-claims Reads.Pre Reads.Post Tie.handed_clauses
 
 -- the asked row as it is held is the asked row
 row_held : (c : Start) → to_z w32 (of_z w32 c.args.y) ≡ c.args.y
 row_held c = to_z-of_z c.requires.near.fits
 
 -- on the canvas: not above it, and not below it
-not_above : (c : goal.Else-y-lt0) → lt_z c.args.y (pos 0) ≡ false
+not_above : (c : Else-y-lt0) → lt_z c.args.y (pos 0) ≡ false
 not_above c = subst (λ (z : ℤ). lt_z z (pos 0) ≡ false) (row_held c.before.before) c.if-y-lt0.false
 
 place_is : (c : After-floor0-place) → c.floor0-place.result ≡ floor0 c.args.y
@@ -44,7 +48,7 @@ not_below c =
 
 pub returns-then-y-lt0 : goal.returns-then-y-lt0
 returns-then-y-lt0 c =
-    let entry = c.before.before in
+    let entry = c.before.before.before in
     let a = c.args in
     sym (paint_by_above (λ _. a.row) a.style a.size.width a.size.height a.canvas.now a.y
     (subst (λ (z : ℤ). lt_z z (pos 0) ≡ true) (row_held entry) c.if-y-lt0.true))
@@ -54,7 +58,7 @@ returns-then-size-place c =
     let a = c.args in
     let past = c.if-size-place.true in
     sym (paint_by_below (λ _. a.row) a.style a.size.width a.size.height a.canvas.now a.y
-    (not_above c.before.before.before) (omega (arith, place_is c.before.before)))
+    (not_above c.before.before.before) (omega (arith, place_is c.before.before.before)))
 
 pub returns-in_default : goal.returns-in_default
 returns-in_default c =
@@ -72,8 +76,8 @@ paint_row_at-requires c =
 
 pub returns : goal.returns
 returns c =
-    let back_9 = c.before.before.before.before.before.before.before in
-    let back_10 = c.before.before.before.before.before.before.before.before in
+    let back_9 = c.before.before.before.before.before.before.before.before in
+    let back_10 = c.before.before.before.before.before.before.before.before.before in
     let a = c.args in
     let runs = c.in-Runs.runs in
     c.paint_row_at.ensures

@@ -20,7 +20,6 @@ loop-i-preserved c = (
   simp length-set (omega arith),
   simp length-set c.loop-i.invariant.1,
   fill_turn _ c.loop-i.i _ c.loop-i-test.true c.loop-i.invariant.2,
-
 )
 
 pub shape_of-part : goal.shape_of-part

@@ -11,7 +11,6 @@ pub returns-then-h-dy : goal.returns-then-h-dy
 returns-then-h-dy c = (
   c.inset-then-h-dy.ensures.0 ∙ side_by_lower _ _ _ _ _ c.if-dy-above.false c.if-h-dy.true,
   c.inset-then-h-dy.ensures.1,
-
 )
 
 pub returns : goal.returns

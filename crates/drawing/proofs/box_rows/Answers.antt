@@ -10,11 +10,12 @@ use mir.Val.{SFits}
 use Rattle.rectangle.specs.declared.Rectangle.{Rectangle}
 use Rattle.drawing.proofs.box_rows.Lts
 use Rattle.drawing.proofs.box_rows.Reads
+use Rattle.drawing.proofs.box_rows.Tie
 use Rattle.drawing.proofs.box_rows.Goals as goal
 
 -- the facts known at these places
 abbrev After-offset-area : Type 0
-After-offset-area = Lts.After-offset Reads.Pre Reads.Post
+After-offset-area = Lts.After-offset Tie.the-claims Reads.Pre Reads.Post Tie.handed_clauses
 
 -- the area made is the definition's
 area_is : (c : After-offset-area) → c.offset-area.result ≡ rectangle_offset c.args.rectangle c.args.k

@@ -20,7 +20,7 @@ paint_row_on-requires c =
 pub returns : goal.returns
 returns c =
     let at_row_at = c.row_at in
-    let entry = c.before.before.before.before.before.before in
+    let entry = c.before.before.before.before.before.before.before in
     let a = c.args in
     let held = to_z-of_z c.requires.near.fits in
     let row = c.row_at.result in

@@ -15,11 +15,12 @@ use Rattle.drawing.specs.Rows.{box_rows, ellipse_rows, stroke_rows}
 use Rattle.drawing.proofs.Rows.{rows_of_ellipse, rows_of_crate_box, rows_of_w3c_box, RowsWithin, box_rows_within, ellipse_rows_within}
 use Rattle.drawing.proofs.stroke_rows.Lts
 use Rattle.drawing.proofs.stroke_rows.Reads
+use Rattle.drawing.proofs.stroke_rows.Tie
 use Rattle.drawing.proofs.stroke_rows.Goals as goal
 
 -- the facts known at these places
 abbrev After-from_u32-outside : Type 0
-After-from_u32-outside = Lts.After-from_u32 Reads.Pre Reads.Post
+After-from_u32-outside = Lts.After-from_u32 Tie.the-claims Reads.Pre Reads.Post Tie.handed_clauses
 
 -- the outside width as a signed number is the definition's, and near
 width_is : (c : After-from_u32-outside) → c.from_u32-outside.result ≡ pos (outside_stroke_width c.args.style)

@@ -17,14 +17,21 @@ use native.Mathlib.Omega.{arith}
 use Rattle.signed.proofs.Laws.{int}
 use Rattle.ellipse_rows.proofs.row.Lts
 use Rattle.ellipse_rows.proofs.row.Reads
+use Rattle.ellipse_rows.proofs.row.Tie
 use Rattle.ellipse_rows.proofs.row.Goals as goal
 
 -- the facts known at these places
 abbrev Start : Type 0
-Start = Lts.Start Reads.Pre Reads.Post
+Start = Lts.Start Tie.the-claims Reads.Pre Reads.Post Tie.handed_clauses
+
+abbrev In-At : Type 0
+In-At = Lts.Past-After-known_told Tie.the-claims Reads.Pre Reads.Post Tie.handed_clauses
+
+abbrev Else-not-has_rows : Type 0
+Else-not-has_rows = Lts.Else1 Tie.the-claims Reads.Pre Reads.Post Tie.handed_clauses
 
 -- where the asked row stands, and that there are rows
-row_place : (c : goal.In-At) →
+row_place : (c : In-At) →
     Placed c.args.ellipse.top_left.y c.args.ellipse.size.height
     c.args.y (At c.in-At.dy)
 row_place c =
@@ -32,7 +39,7 @@ row_place c =
     let entry = c.before.before.before.before.before in
     placed_told _ _ _ c.requires.bounded.at.y.fits c.requires.near.fits c.place_of.ensures c.in-At.is
 
-rows_there : (c : goal.Else-not-has_rows) → first_row_inside c.args.ellipse.size.width c.args.ellipse.size.height
+rows_there : (c : Else-not-has_rows) → first_row_inside c.args.ellipse.size.width c.args.ellipse.size.height
     ≡ true
 rows_there c = sym c.has_rows.ensures ∙ not-false _ c.if-not-has_rows.false
 
@@ -55,12 +62,12 @@ returns-then-not-has_rows c =
 pub gap-requires : goal.gap-requires
 gap-requires c =
     let at_pre = c.requires in
-    let placed = row_place c.before.before.before in (placed.1, at_pre.0.size.height)
+    let placed = row_place c.before.before.before.before in (placed.1, at_pre.0.size.height)
 
 pub first_inside-requires : goal.first_inside-requires
 first_inside-requires c =
     let at_new = c.new-test in
-    let entry = c.before.before.before.before.before.before.before.before.before in
+    let entry = c.before.before.before.before.before.before.before.before.before.before in
     let wide = first_row_wide _ _ (rows_there c.before) in
     let tall = c.requires.bounded.size.height in record { small_weights = c.new-test.ensures.1; width_nonzero = (wide, c.requires.bounded.size.width, omega arith); from_bound = (omega arith, c.requires.bounded.size.width) }
 
@@ -76,8 +83,8 @@ returns-in_default-first_inside c =
 
 pub mirrored-requires : goal.mirrored-requires
 mirrored-requires c =
-    let half_entry = c.before.before.before.before.before.before in
-    let entry = c.before.before.before.before.before.before.before.before.before.before.before.before in
+    let half_entry = c.before.before.before.before.before.before.before in
+    let entry = c.before.before.before.before.before.before.before.before.before.before.before.before.before in
     let found = (found_at _ _ _ _ (sym c.first_inside.ensures ∙ c.in-At-first_inside.is)).below in record { near = omega (arith, int); width_le_wide_side = (c.requires.bounded.size.width, omega arith) }
 
 pub returns : goal.returns

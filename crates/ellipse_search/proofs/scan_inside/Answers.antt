@@ -9,11 +9,12 @@ use Rattle.ellipse_search.proofs.Search.{finds_on_row, walk_left_finds}
 use native.Mathlib.Omega.{arith}
 use Rattle.ellipse_search.proofs.scan_inside.Lts
 use Rattle.ellipse_search.proofs.scan_inside.Reads
+use Rattle.ellipse_search.proofs.scan_inside.Tie
 use Rattle.ellipse_search.proofs.scan_inside.Goals as goal
 
 -- the facts known at these places
 abbrev After-on_row-row : Type 0
-After-on_row-row = Lts.After-on_row Reads.Pre Reads.Post
+After-on_row-row = Lts.After-on_row Tie.the-claims Reads.Pre Reads.Post Tie.handed_clauses
 
 finds : (c : After-on_row-row) → let a = c.args in find_from (column_on_row c.on_row-row.result a.width) a.count a.from
     ≡ find_from (column_inside a.test a.width a.y) a.count a.from
@@ -23,8 +24,6 @@ finds c =
 
 pub walk_left-requires : goal.walk_left-requires
 walk_left-requires c = record { small_weight = c.on_row-row.ensures.1; width_le_wide_side = (omega arith, omega arith, omega arith); from_le_start = (omega arith, sym c.inside_left.ensures ∙ c.if-inside_left.true) }
-
-)
 
 -- from the hint
 pub returns-then-inside_left : goal.returns-then-inside_left

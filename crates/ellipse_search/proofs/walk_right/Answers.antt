@@ -29,7 +29,6 @@ loop-k-preserved c = (
   omega arith,
   omega arith,
   passed_more c.loop-k.invariant.2 (sym c.inside_left.ensures ∙ c.if-inside_left.false),
-
 )
 
 pub returns : goal.returns

@@ -20,14 +20,15 @@ use native.Mathlib.Omega.{arith}
 use Rattle.signed.proofs.Laws.{int}
 use Rattle.figure_points.proofs.count_points.Lts
 use Rattle.figure_points.proofs.count_points.Reads
+use Rattle.figure_points.proofs.count_points.Tie
 use Rattle.figure_points.proofs.count_points.Goals as goal
 
 -- the facts known at these places
 abbrev After-rectangle-rectangle : Type 0
-After-rectangle-rectangle = Lts.After-rectangle Reads.Pre Reads.Post goal.the-invariant-loop-dy goal.the-decreases-loop-dy
+After-rectangle-rectangle = Lts.After-rectangle Tie.the-claims Reads.Pre Reads.Post goal.the-invariant-loop-dy goal.the-decreases-loop-dy Tie.handed_clauses
 
 abbrev After-row : Type 0
-After-row = Lts.After-row Reads.Pre Reads.Post goal.the-invariant-loop-dy goal.the-decreases-loop-dy
+After-row = Lts.After-row Tie.the-claims Reads.Pre Reads.Post goal.the-invariant-loop-dy goal.the-decreases-loop-dy Tie.handed_clauses
 
 pub rectangle-rectangle-requires : goal.rectangle-rectangle-requires
 rectangle-rectangle-requires c = omega (arith, int)

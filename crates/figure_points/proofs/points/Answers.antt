@@ -18,11 +18,12 @@ use Rattle.refusal.proofs.Checks.{refused_early}
 use native.Mathlib.Omega.{arith}
 use Rattle.figure_points.proofs.points.Lts
 use Rattle.figure_points.proofs.points.Reads
+use Rattle.figure_points.proofs.points.Tie
 use Rattle.figure_points.proofs.points.Goals as goal
 
 -- the facts known at these places
 abbrev After-check_room-room : Type 0
-After-check_room-room = Lts.After-check_room Reads.Pre Reads.Post
+After-check_room-room = Lts.After-check_room Tie.the-claims Reads.Pre Reads.Post Tie.handed_clauses
 
 -- the figure passed, the points counted are the figure's, and the room checked is what they need
 figure_passed_here : (c : goal.In-Passed) → figure_check c.args.figure ≡ Passed

@@ -23,14 +23,15 @@ use native.Mathlib.Omega.{arith}
 use Rattle.signed.proofs.Laws.{int}
 use Rattle.figure_points.proofs.put_points.Lts
 use Rattle.figure_points.proofs.put_points.Reads
+use Rattle.figure_points.proofs.put_points.Tie
 use Rattle.figure_points.proofs.put_points.Goals as goal
 
 -- the facts known at these places
 abbrev After-rectangle-rectangle : Type 0
-After-rectangle-rectangle = Lts.After-rectangle Reads.Pre Reads.Post goal.the-invariant-loop-dy goal.the-decreases-loop-dy
+After-rectangle-rectangle = Lts.After-rectangle Tie.the-claims Reads.Pre Reads.Post goal.the-invariant-loop-dy goal.the-decreases-loop-dy Tie.handed_clauses
 
 abbrev After-row : Type 0
-After-row = Lts.After-row Reads.Pre Reads.Post goal.the-invariant-loop-dy goal.the-decreases-loop-dy
+After-row = Lts.After-row Tie.the-claims Reads.Pre Reads.Post goal.the-invariant-loop-dy goal.the-decreases-loop-dy Tie.handed_clauses
 
 pub rectangle-rectangle-requires : goal.rectangle-rectangle-requires
 rectangle-rectangle-requires c = omega (arith, int)
@@ -133,21 +134,21 @@ run_length-requires c =
 
 pub put_run-at-requires : goal.put_run-at-requires
 put_run-at-requires c =
-    let early = c.before.before.before.before.before.before in
+    let early = c.before.before.before.before.before.before.before in
     let at_if1 = c.if-is_empty in
     let at_is_empty = c.is_empty in
-    let back_8 = c.before.before.before.before.before.before in
+    let back_8 = c.before.before.before.before.before.before.before in
     let at_loop_test = c.loop-dy-test in
     let at_loop = c.loop-dy in
-    let back_15 = c.before.before.before.before.before.before.before.before.before.before.before.before.before in
+    let back_15 = c.before.before.before.before.before.before.before.before.before.before.before.before.before.before in
     let at_rectangle = c.rectangle-rectangle in
     let a = c.args in
-    let inside = area c.before.before.before.before.before.before.before.before.before.before.before.before.before in
+    let inside = area c.before.before.before.before.before.before.before.before.before.before.before.before.before.before in
     let wide = inside.size.width in
-    let ends = row_ends c.before.before.before.before.before.before _ c.in-Run.is in
+    let ends = row_ends c.before.before.before.before.before.before.before _ c.in-Run.is in
     let near = start_is_near _ _ _ inside.at.x wide ends in
     let room = rows_left_room (row_of_shape a.shape) (to_z w32 (of_z w32 c.rectangle-rectangle.result.top_left.y))
-    c.rectangle-rectangle.result.size.height c.loop-dy.invariant c.loop-dy-test.true _ (row_is c.before.before.before.before.before.before ∙ c.in-Run.is)
+    c.rectangle-rectangle.result.size.height c.loop-dy.invariant c.loop-dy-test.true _ (row_is c.before.before.before.before.before.before.before ∙ c.in-Run.is)
     (sym c.is_empty.ensures ∙ c.if-is_empty.false) in
     let long = run_length_le _ _ _ inside.at.x wide ends in record { n_in_bounds = omega (arith, c.run_length.ensures); near = omega (arith, int); n_le_wide_side = omega (arith, c.run_length.ensures) }
 

@@ -7,14 +7,15 @@ use Rattle.sheet_call_numbers.specs.CallNumbers.{calls_of}
 use Rattle.host_calls.specs.Calls.{run_number, RunTold}
 use Rattle.host_calls.proofs.run_calls.Lts
 use Rattle.host_calls.proofs.run_calls.Reads
+use Rattle.host_calls.proofs.run_calls.Tie
 use Rattle.host_calls.proofs.run_calls.Goals as goal
 
 -- the facts known at these places
 abbrev Start : Type 0
-Start = Lts.Start Reads.Pre Reads.Post
+Start = Lts.Start Tie.the-claims Reads.Pre Reads.Post Tie.handed_clauses
 
 abbrev After-run_calls-ran : Type 0
-After-run_calls-ran = Lts.After-run_calls Reads.Pre Reads.Post
+After-run_calls-ran = Lts.After-run_calls Tie.the-claims Reads.Pre Reads.Post Tie.handed_clauses
 
 -- what the run says, and what it leaves
 says : (c : After-run_calls-ran)
@@ -40,17 +41,13 @@ leaves c =
 
 pub returns-in-Refused : goal.returns-in-Refused
 returns-in-Refused c =
-    let back_8 = c.before.before.before.before.before.before in record { value = c.number.ensures ∙ ap (λ (s : RunSays). run_number s)
-          (sym (ap (λ (a : RunAnswer). run_said a) c.in-Refused.is) ∙ says c.before.before.before.before.before.before); run_told = leaves c.before.before.before.before.before.before; background_value = refl }
+    let back_8 = c.before.before.before.before.before.before.before in record { value = c.number.ensures ∙ ap (λ (s : RunSays). run_number s)
+          (sym (ap (λ (a : RunAnswer). run_said a) c.in-Refused.is) ∙ says c.before.before.before.before.before.before.before); run_told = leaves c.before.before.before.before.before.before.before; background_value = refl }
 
 pub returns-in-NotCalls : goal.returns-in-NotCalls
 returns-in-NotCalls c = record { value = ap (λ (s : RunSays). run_number s) (sym (ap (λ (a : RunAnswer). run_said a) c.in-NotCalls.is) ∙ says
-      c.before.before.before.before.before); run_told = leaves c.before.before.before.before.before; background_value = refl }
-
-)
+      c.before.before.before.before.before.before); run_told = leaves c.before.before.before.before.before.before; background_value = refl }
 
 pub returns-in-Ran : goal.returns-in-Ran
 returns-in-Ran c = record { value = ap (λ (s : RunSays). run_number s) (sym (ap (λ (a : RunAnswer). run_said a) c.in-Ran.is) ∙ says
-      c.before.before.before.before.before); run_told = leaves c.before.before.before.before.before; background_value = refl }
-
-)
+      c.before.before.before.before.before.before); run_told = leaves c.before.before.before.before.before.before; background_value = refl }

@@ -11,11 +11,12 @@ use Rattle.host_answers.specs.HostAnswers.{no_record}
 use Rattle.host_answers.proofs.Telling.{tells_as, tells_refused, tells_refusal, tells_nothing}
 use Rattle.host_figures.proofs.confined_radii.Lts
 use Rattle.host_figures.proofs.confined_radii.Reads
+use Rattle.host_figures.proofs.confined_radii.Tie
 use Rattle.host_figures.proofs.confined_radii.Goals as goal
 
 -- the facts known at these places
 abbrev After-confined_radii : Type 0
-After-confined_radii = Lts.After-confined_radii Reads.Pre Reads.Post
+After-confined_radii = Lts.After-confined_radii Tie.the-claims Reads.Pre Reads.Post Tie.handed_clauses
 
 -- the numbers are a figure
 is_one : (c : goal.Else-not-is_figure) → is_figure c.args.figure.now ≡ true

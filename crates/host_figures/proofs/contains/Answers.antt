@@ -14,11 +14,12 @@ use Rattle.host_answers.proofs.Telling.{tells_as, tells_refused, tells_refusal}
 use borrow.Author.Rules.{rules}
 use Rattle.host_figures.proofs.contains.Lts
 use Rattle.host_figures.proofs.contains.Reads
+use Rattle.host_figures.proofs.contains.Tie
 use Rattle.host_figures.proofs.contains.Goals as goal
 
 -- the facts known at these places
 abbrev After-contains : Type 0
-After-contains = Lts.After-contains Reads.Pre Reads.Post
+After-contains = Lts.After-contains Tie.the-claims Reads.Pre Reads.Post Tie.handed_clauses
 
 -- the numbers are a figure
 is_one : (c : goal.Else-not-is_figure) → is_figure c.args.figure.now ≡ true

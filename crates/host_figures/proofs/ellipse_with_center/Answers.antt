@@ -10,11 +10,12 @@ use Rattle.host_answers.proofs.Telling.{tells_as, tells_refusal}
 use borrow.Author.Rules.{rules}
 use Rattle.host_figures.proofs.ellipse_with_center.Lts
 use Rattle.host_figures.proofs.ellipse_with_center.Reads
+use Rattle.host_figures.proofs.ellipse_with_center.Tie
 use Rattle.host_figures.proofs.ellipse_with_center.Goals as goal
 
 -- the facts known at these places
 abbrev After-ellipse_with_center : Type 0
-After-ellipse_with_center = Lts.After-ellipse_with_center Reads.Pre Reads.Post
+After-ellipse_with_center = Lts.After-ellipse_with_center Tie.the-claims Reads.Pre Reads.Post Tie.handed_clauses
 
 -- what the call says
 says : (c : After-ellipse_with_center)

@@ -16,11 +16,12 @@ use Rattle.host_answers.proofs.Telling.{tells_as, tells_refused, tells_refusal}
 use borrow.Author.Rules.{rules}
 use Rattle.host_figures.proofs.offset.Lts
 use Rattle.host_figures.proofs.offset.Reads
+use Rattle.host_figures.proofs.offset.Tie
 use Rattle.host_figures.proofs.offset.Goals as goal
 
 -- the facts known at these places
 abbrev After-offset : Type 0
-After-offset = Lts.After-offset Reads.Pre Reads.Post
+After-offset = Lts.After-offset Tie.the-claims Reads.Pre Reads.Post Tie.handed_clauses
 
 -- the numbers are a figure
 is_one : (c : goal.Else-not-is_figure) → is_figure c.args.figure.now ≡ true

@@ -16,11 +16,12 @@ use Rattle.host_answers.proofs.Telling.{tells_as, tells_refused, tells_refusal, 
 use borrow.Author.Rules.{rules}
 use Rattle.host_figures.proofs.row.Lts
 use Rattle.host_figures.proofs.row.Reads
+use Rattle.host_figures.proofs.row.Tie
 use Rattle.host_figures.proofs.row.Goals as goal
 
 -- the facts known at these places
 abbrev After-row : Type 0
-After-row = Lts.After-row Reads.Pre Reads.Post
+After-row = Lts.After-row Tie.the-claims Reads.Pre Reads.Post Tie.handed_clauses
 
 -- the numbers are a figure
 is_one : (c : goal.Else-not-is_figure) → is_figure c.args.figure.now ≡ true

@@ -8,14 +8,15 @@ use Rattle.host_answers.proofs.Telling.{tells_as, tells_refusal}
 use Rattle.host_netpbm.specs.Netpbm.{read_said, read_after}
 use Rattle.host_netpbm.proofs.read.Lts
 use Rattle.host_netpbm.proofs.read.Reads
+use Rattle.host_netpbm.proofs.read.Tie
 use Rattle.host_netpbm.proofs.read.Goals as goal
 
 -- the facts known at these places
 abbrev Start : Type 0
-Start = Lts.Start Reads.Pre Reads.Post
+Start = Lts.Start Tie.the-claims Reads.Pre Reads.Post Tie.handed_clauses
 
 abbrev After-read_beside : Type 0
-After-read_beside = Lts.After-read_beside Reads.Pre Reads.Post
+After-read_beside = Lts.After-read_beside Tie.the-claims Reads.Pre Reads.Post Tie.handed_clauses
 
 -- what the call says, and the canvas after it
 says : (c : After-read_beside)
@@ -33,11 +34,11 @@ left c =
 
 pub returns-in-Refused : goal.returns-in-Refused
 returns-in-Refused c =
-    let call = c.before.before.before.before in
-    let out = c.args.out.now in record { tells = tells_refusal out (sym (ap (λ (a : ReadAnswer). read_outcome a) c.in-Refused.is) ∙ says c.before.before.before.before)
-          c.number.ensures; canvas_after = left c.before.before.before.before }
+    let call = c.before.before.before.before.before in
+    let out = c.args.out.now in record { tells = tells_refusal out (sym (ap (λ (a : ReadAnswer). read_outcome a) c.in-Refused.is) ∙ says c.before.before.before.before.before)
+          c.number.ensures; canvas_after = left c.before.before.before.before.before }
 
 pub returns-in-Read : goal.returns-in-Read
 returns-in-Read c =
-    let call = c.before.before.before.before.before.before in record { tells = tells_as (sym (ap (λ (a : ReadAnswer). read_outcome a) c.in-Read.is) ∙ says c.before.before.before.before.before.before)
-          c.put_sides.ensures; canvas_after = left c.before.before.before.before.before.before }
+    let call = c.before.before.before.before.before.before.before in record { tells = tells_as (sym (ap (λ (a : ReadAnswer). read_outcome a) c.in-Read.is) ∙ says c.before.before.before.before.before.before.before)
+          c.put_sides.ensures; canvas_after = left c.before.before.before.before.before.before.before }

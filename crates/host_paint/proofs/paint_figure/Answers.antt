@@ -10,20 +10,27 @@ use Rattle.host_records.proofs.Records.{figure_length_lem, style_length_lem}
 use Rattle.host_answers.specs.HostAnswers.{outcome_number}
 use Rattle.host_paint.proofs.paint_figure.Lts
 use Rattle.host_paint.proofs.paint_figure.Reads
+use Rattle.host_paint.proofs.paint_figure.Tie
 use Rattle.host_paint.proofs.paint_figure.Goals as goal
 
 -- the facts known at these places
 abbrev Start : Type 0
-Start = Lts.Start Reads.Pre Reads.Post
+Start = Lts.Start Tie.the-claims Reads.Pre Reads.Post Tie.handed_clauses
+
+abbrev Else-not-is_figure : Type 0
+Else-not-is_figure = Lts.Else1 Tie.the-claims Reads.Pre Reads.Post Tie.handed_clauses
+
+abbrev Else-not-is_style : Type 0
+Else-not-is_style = Lts.Else2 Tie.the-claims Reads.Pre Reads.Post Tie.handed_clauses
 
 abbrev After-paint_figure : Type 0
-After-paint_figure = Lts.After-paint_figure Reads.Pre Reads.Post
+After-paint_figure = Lts.After-paint_figure Tie.the-claims Reads.Pre Reads.Post Tie.handed_clauses
 
 -- the numbers are a figure, and a style
-is_one : (c : goal.Else-not-is_figure) → is_figure c.args.figure.now ≡ true
+is_one : (c : Else-not-is_figure) → is_figure c.args.figure.now ≡ true
 is_one c = sym c.is_figure.ensures ∙ not-false _ c.if-not-is_figure.false
 
-is_styled : (c : goal.Else-not-is_style) → is_style c.args.style.now ≡ true
+is_styled : (c : Else-not-is_style) → is_style c.args.style.now ≡ true
 is_styled c = sym c.is_style.ensures ∙ not-false _ c.if-not-is_style.false
 
 -- what the call says, and the canvas after it
@@ -51,7 +58,7 @@ pub returns-then-not-is_figure : goal.returns-then-not-is_figure
 returns-then-not-is_figure c = rw (sym c.is_figure.ensures ∙ not-true _ c.if-not-is_figure.true) (record { value = refl; canvas_after = refl })
 
 pub returns-then-not-is_style : goal.returns-then-not-is_style
-returns-then-not-is_style c = rw (is_one c.before.before, sym c.is_style.ensures ∙ not-true _ c.if-not-is_style.true) (record { value = refl; canvas_after = refl })
+returns-then-not-is_style c = rw (is_one c.before.before.before, sym c.is_style.ensures ∙ not-true _ c.if-not-is_style.true) (record { value = refl; canvas_after = refl })
 
 pub figure_of-requires : goal.figure_of-requires
 figure_of-requires c = figure_length_lem c.args.figure.now (is_one c.before.before)
@@ -61,16 +68,16 @@ style_of-requires c = style_length_lem c.args.style.now (is_styled c.before)
 
 pub returns-in-Refused : goal.returns-in-Refused
 returns-in-Refused c =
-    let back_10 = c.before.before.before.before.before.before.before.before in
-    let back_12 = c.before.before.before.before.before.before.before.before.before.before in
-    rw (is_one c.before.before.before.before.before.before.before.before.before.before, is_styled c.before.before.before.before.before.before.before.before) (record { value = c.number.ensures ∙ ap (λ (o : Outcome). outcome_number o)
+    let back_10 = c.before.before.before.before.before.before.before.before.before in
+    let back_12 = c.before.before.before.before.before.before.before.before.before.before.before in
+    rw (is_one c.before.before.before.before.before.before.before.before.before.before.before, is_styled c.before.before.before.before.before.before.before.before.before) (record { value = c.number.ensures ∙ ap (λ (o : Outcome). outcome_number o)
           (sym (ap (λ (a : PaintAnswer). paint_outcome a) c.in-Refused.is) ∙ says
-          c.before.before.before.before); canvas_after = paints c.before.before.before.before })
+          c.before.before.before.before.before); canvas_after = paints c.before.before.before.before.before })
 
 pub returns-in-Painted : goal.returns-in-Painted
 returns-in-Painted c =
-    let back_8 = c.before.before.before.before.before.before.before in
-    let back_10 = c.before.before.before.before.before.before.before.before.before in
-    rw (is_one c.before.before.before.before.before.before.before.before.before, is_styled c.before.before.before.before.before.before.before) (record { value = ap (λ (o : Outcome). outcome_number o)
-          (sym (ap (λ (a : PaintAnswer). paint_outcome a) c.in-Painted.is) ∙ says c.before.before.before); canvas_after = paints
-          c.before.before.before })
+    let back_8 = c.before.before.before.before.before.before.before.before in
+    let back_10 = c.before.before.before.before.before.before.before.before.before.before in
+    rw (is_one c.before.before.before.before.before.before.before.before.before.before, is_styled c.before.before.before.before.before.before.before.before) (record { value = ap (λ (o : Outcome). outcome_number o)
+          (sym (ap (λ (a : PaintAnswer). paint_outcome a) c.in-Painted.is) ∙ says c.before.before.before.before); canvas_after = paints
+          c.before.before.before.before })

@@ -17,14 +17,15 @@ use Rattle.host_answers.proofs.Telling.{tells_as, tells_refused, tells_refusal}
 use Rattle.host_points.specs.Points.{points_room}
 use Rattle.host_points.proofs.points.Lts
 use Rattle.host_points.proofs.points.Reads
+use Rattle.host_points.proofs.points.Tie
 use Rattle.host_points.proofs.points.Goals as goal
 
 -- the facts known at these places
 abbrev After-or_else-checked : Type 0
-After-or_else-checked = Lts.After-or_else Reads.Pre Reads.Post
+After-or_else-checked = Lts.After-or_else Tie.the-claims Reads.Pre Reads.Post Tie.handed_clauses
 
 abbrev After-points : Type 0
-After-points = Lts.After-points Reads.Pre Reads.Post
+After-points = Lts.After-points Tie.the-claims Reads.Pre Reads.Post Tie.handed_clauses
 
 -- the numbers are a figure
 is_one : (c : goal.Else-not-is_figure) → is_figure c.args.figure.now ≡ true

@@ -11,14 +11,15 @@ use Rattle.host_records.specs.RecordNumbers.{kind_at, crate_box_kind, w3c_box_ki
 use Rattle.host_records.proofs.Walks.{read_back_lem}
 use Rattle.host_records.proofs.figure_of.Lts
 use Rattle.host_records.proofs.figure_of.Reads
+use Rattle.host_records.proofs.figure_of.Tie
 use Rattle.host_records.proofs.figure_of.Goals as goal
 
 -- the facts known at these places
 abbrev After-t5-1 : Type 0
-After-t5-1 = Lts.After-if12 Reads.Pre Reads.Post
+After-t5-1 = Lts.After-if12 Tie.the-claims Reads.Pre Reads.Post Tie.handed_clauses
 
 abbrev After-t5-2-1 : Type 0
-After-t5-2-1 = Lts.After-if22 Reads.Pre Reads.Post
+After-t5-2-1 = Lts.After-if22 Tie.the-claims Reads.Pre Reads.Post Tie.handed_clauses
 
 -- the tests of the kind are the definition's
 abbrev kind : goal.Start → ℤ

@@ -8,14 +8,15 @@ use Rattle.host_records.proofs.Walks.{read_back_lem}
 use Rattle.host_records.specs.RecordNumbers.{figure_length, kind_at, ellipse_kind, w3c_box_kind, number_at, within, is_figure}
 use Rattle.host_records.proofs.is_figure.Lts
 use Rattle.host_records.proofs.is_figure.Reads
+use Rattle.host_records.proofs.is_figure.Tie
 use Rattle.host_records.proofs.is_figure.Goals as goal
 
 -- the facts known at these places
 abbrev Start : Type 0
-Start = Lts.Start Reads.Pre Reads.Post
+Start = Lts.Start Tie.the-claims Reads.Pre Reads.Post Tie.handed_clauses
 
 abbrev After-is_within : Type 0
-After-is_within = Lts.After-is_within Reads.Pre Reads.Post
+After-is_within = Lts.After-is_within Tie.the-claims Reads.Pre Reads.Post Tie.handed_clauses
 
 -- the tests made are the definition's
 long : (c : goal.Else-numbers-ne-FIGURE_LENGTH) → eqb (length c.args.numbers.now) figure_length ≡ true

@@ -14,20 +14,21 @@ use native.Mathlib.Omega.{arith}
 use Rattle.signed.proofs.Laws.{int}
 use Rattle.host_records.proofs.is_style.Lts
 use Rattle.host_records.proofs.is_style.Reads
+use Rattle.host_records.proofs.is_style.Tie
 use Rattle.host_records.proofs.is_style.Goals as goal
 
 -- the facts known at these places
 abbrev Start : Type 0
-Start = Lts.Start Reads.Pre Reads.Post
+Start = Lts.Start Tie.the-claims Reads.Pre Reads.Post Tie.handed_clauses
 
 abbrev After-is_within : Type 0
-After-is_within = Lts.After-is_within Reads.Pre Reads.Post
+After-is_within = Lts.After-is_within Tie.the-claims Reads.Pre Reads.Post Tie.handed_clauses
 
 abbrev After-is_within-2 : Type 0
-After-is_within-2 = Lts.After-is_within2 Reads.Pre Reads.Post
+After-is_within-2 = Lts.After-is_within2 Tie.the-claims Reads.Pre Reads.Post Tie.handed_clauses
 
 abbrev After-t5-1 : Type 0
-After-t5-1 = Lts.After-if42 Reads.Pre Reads.Post
+After-t5-1 = Lts.After-if42 Tie.the-claims Reads.Pre Reads.Post Tie.handed_clauses
 
 -- the tests made are the definition's
 long : (c : goal.Else-numbers-ne-STYLE_LENGTH) → eqb (length c.args.numbers.now) style_length ≡ true

@@ -13,11 +13,12 @@ use Rattle.style.specs.declared.Paint.TheVariants.{Colour}
 use Rattle.host_records.specs.RecordNumbers.{paint_of}
 use Rattle.host_records.proofs.paint_of.Lts
 use Rattle.host_records.proofs.paint_of.Reads
+use Rattle.host_records.proofs.paint_of.Tie
 use Rattle.host_records.proofs.paint_of.Goals as goal
 
 -- the facts known at these places
 abbrev Start : Type 0
-Start = Lts.Start Reads.Pre Reads.Post
+Start = Lts.Start Tie.the-claims Reads.Pre Reads.Post Tie.handed_clauses
 
 fits : (c : Start) → SFits w32 c.args.v
 fits c = search rules

@@ -27,14 +27,15 @@ use native.Mathlib.Omega.{arith}
 use borrow.Author.Rules.{rules}
 use Rattle.host_sheet.proofs.add.Lts
 use Rattle.host_sheet.proofs.add.Reads
+use Rattle.host_sheet.proofs.add.Tie
 use Rattle.host_sheet.proofs.add.Goals as goal
 
 -- the facts known at these places
 abbrev After-add-made : Type 0
-After-add-made = Lts.After-add Reads.Pre Reads.Post
+After-add-made = Lts.After-add Tie.the-claims Reads.Pre Reads.Post Tie.handed_clauses
 
 abbrev In-Accepted : Type 0
-In-Accepted = Lts.After-enum_told Reads.Pre Reads.Post
+In-Accepted = Lts.Past-After-enum_told Tie.the-claims Reads.Pre Reads.Post Tie.handed_clauses
 
 -- the numbers are a sheet, a figure and a style
 is_one : (c : goal.Else-not-is_sheet) → is_sheet c.args.sheet.now ≡ true
@@ -144,12 +145,12 @@ bounds-places-place c = place c.before.before.before
 
 pub put_layer-requires : goal.put_layer-requires
 put_layer-requires c =
-    let early = c.before.before.before.before.before.before.before in
-    let back_13 = c.before.before.before.before.before.before.before.before.before.before.before.before in
-    let back_15 = c.before.before.before.before.before.before.before.before.before.before.before.before.before.before in
-    let back_17 = c.before.before.before.before.before.before.before.before.before.before.before.before.before.before.before.before in
+    let early = c.before.before.before.before.before.before.before.before in
+    let back_13 = c.before.before.before.before.before.before.before.before.before.before.before.before.before in
+    let back_15 = c.before.before.before.before.before.before.before.before.before.before.before.before.before.before.before in
+    let back_17 = c.before.before.before.before.before.before.before.before.before.before.before.before.before.before.before.before.before in
     let a = c.args in
-    let within = place c.before.before.before.before.before.before in record { numbers_len = (sheet_length_lem a.sheet.now (is_one back_17), within); figure_len = (figure_length_lem a.figure.now (is_a_figure back_15), style_length_lem a.style.now (is_a_style back_13)) }
+    let within = place c.before.before.before.before.before.before.before in record { numbers_len = (sheet_length_lem a.sheet.now (is_one back_17), within); figure_len = (figure_length_lem a.figure.now (is_a_figure back_15), style_length_lem a.style.now (is_a_style back_13)) }
 
 pub from_u32-requires : goal.from_u32-requires
 from_u32-requires c =

@@ -14,20 +14,24 @@ use Rattle.host_sheet.specs.Sheets.{paint_told, paint_numbers, paint_canvas}
 use Rattle.host_sheet.proofs.Accepted.{painted_numbers}
 use Rattle.host_sheet.proofs.paint.Lts
 use Rattle.host_sheet.proofs.paint.Reads
+use Rattle.host_sheet.proofs.paint.Tie
 use Rattle.host_sheet.proofs.paint.Goals as goal
 
 -- the facts known at these places
 abbrev Start : Type 0
-Start = Lts.Start Reads.Pre Reads.Post
+Start = Lts.Start Tie.the-claims Reads.Pre Reads.Post Tie.handed_clauses
+
+abbrev Else-not-is_sheet : Type 0
+Else-not-is_sheet = Lts.Else1 Tie.the-claims Reads.Pre Reads.Post Tie.handed_clauses
 
 abbrev After-check_paint-checked : Type 0
-After-check_paint-checked = Lts.After-check_paint Reads.Pre Reads.Post
+After-check_paint-checked = Lts.After-check_paint Tie.the-claims Reads.Pre Reads.Post Tie.handed_clauses
 
 abbrev In-Passed : Type 0
-In-Passed = Lts.After-enum_told Reads.Pre Reads.Post
+In-Passed = Lts.Past-After-enum_told Tie.the-claims Reads.Pre Reads.Post Tie.handed_clauses
 
 -- the numbers are a sheet
-is_one : (c : goal.Else-not-is_sheet) → is_sheet c.args.sheet.now ≡ true
+is_one : (c : Else-not-is_sheet) → is_sheet c.args.sheet.now ≡ true
 is_one c = sym c.is_sheet.ensures ∙ not-false _ c.if-not-is_sheet.false
 
 checked : (c : After-check_paint-checked)
@@ -51,11 +55,11 @@ check_paint-checked-requires c = sheet_length_lem c.args.sheet.now (is_one c.bef
 pub returns-in_default : goal.returns-in_default
 unfolding paint_told paint_numbers paint_canvas
 returns-in_default c =
-    let told = c.before.before in
-    let check = c.before.before.before in
+    let told = c.before.before.before in
+    let check = c.before.before.before.before in
     let a = c.args in
     let refused = sym (checked check) ∙ c.in_default.is in
-    rw (is_one c.before.before.before.before, refused) (record { value = c.number.ensures ∙ ap number (refusal_found c.refusal.ensures c.in_default.is); sheet_after = refl; canvas_after = sym (refused_canvas (sheet_of a.sheet.now) (sixteen a.sheet.now) a.canvas.now (call_paint a.layer) _ refused) })
+    rw (is_one c.before.before.before.before.before, refused) (record { value = c.number.ensures ∙ ap number (refusal_found c.refusal.ensures c.in_default.is); sheet_after = refl; canvas_after = sym (refused_canvas (sheet_of a.sheet.now) (sixteen a.sheet.now) a.canvas.now (call_paint a.layer) _ refused) })
 
 pub paint_next-requires : goal.paint_next-requires
 paint_next-requires c =
@@ -65,7 +69,7 @@ paint_next-requires c =
 pub returns : goal.returns
 unfolding paint_told paint_numbers paint_canvas
 returns c =
-    let told = c.before.before.before.before.before.before in
+    let told = c.before.before.before.before.before.before.before in
     let a = c.args in
     let painted = c.paint_next.ensures in
-    rw (is_one c.before.before.before.before.before.before.before.before, is_accepted_lem c.before.before.before.before.before.before) (record { value = refl; sheet_after = c.paint_next.ensures.numbers_after ∙ painted_numbers a.sheet.now a.layer a.canvas.now (is_accepted_lem told); canvas_after = c.paint_next.ensures.canvas_after })
+    rw (is_one c.before.before.before.before.before.before.before.before.before, is_accepted_lem c.before.before.before.before.before.before.before) (record { value = refl; sheet_after = c.paint_next.ensures.numbers_after ∙ painted_numbers a.sheet.now a.layer a.canvas.now (is_accepted_lem told); canvas_after = c.paint_next.ensures.canvas_after })

@@ -23,20 +23,24 @@ use Rattle.host_sheet.specs.Sheets.{remove_told, remove_numbers, remove_canvas}
 use Rattle.host_sheet.proofs.Accepted.{removed_within, removed_few}
 use Rattle.host_sheet.proofs.remove.Lts
 use Rattle.host_sheet.proofs.remove.Reads
+use Rattle.host_sheet.proofs.remove.Tie
 use Rattle.host_sheet.proofs.remove.Goals as goal
 
 -- the facts known at these places
 abbrev Start : Type 0
-Start = Lts.Start Reads.Pre Reads.Post
+Start = Lts.Start Tie.the-claims Reads.Pre Reads.Post Tie.handed_clauses
+
+abbrev Else-not-is_sheet : Type 0
+Else-not-is_sheet = Lts.Else1 Tie.the-claims Reads.Pre Reads.Post Tie.handed_clauses
 
 abbrev After-remove-made : Type 0
-After-remove-made = Lts.After-remove Reads.Pre Reads.Post
+After-remove-made = Lts.After-remove Tie.the-claims Reads.Pre Reads.Post Tie.handed_clauses
 
 abbrev In-Accepted : Type 0
-In-Accepted = Lts.After-enum_told Reads.Pre Reads.Post
+In-Accepted = Lts.Past-After-enum_told Tie.the-claims Reads.Pre Reads.Post Tie.handed_clauses
 
 -- the numbers are a sheet
-is_one : (c : goal.Else-not-is_sheet) → is_sheet c.args.sheet.now ≡ true
+is_one : (c : Else-not-is_sheet) → is_sheet c.args.sheet.now ≡ true
 is_one c = sym c.is_sheet.ensures ∙ not-false _ c.if-not-is_sheet.false
 
 -- what the call says, the sheet after it, and the canvas
@@ -120,30 +124,30 @@ sheet_of-before-requires c = sheet_length_lem c.args.sheet.now (is_one c.before)
 pub returns-in_default : goal.returns-in_default
 unfolding remove_told remove_numbers remove_canvas
 returns-in_default c =
-    let told = c.before in
-    let made = c.before.before.before.before in
+    let told = c.before.before in
+    let made = c.before.before.before.before.before in
     let refused = sym (says made) ∙ ap (λ (a : SheetAnswer). said a) c.in_default.is in
-    rw (is_one c.before.before.before.before.before.before.before, refused) (record { value = c.number_of.ensures ∙ ap (λ (a : SheetAnswer). answer_number (said a)) c.in_default.is; sheet_after = refl; canvas_after = painted c.before.before.before.before; background_value = refl })
+    rw (is_one c.before.before.before.before.before.before.before.before, refused) (record { value = c.number_of.ensures ∙ ap (λ (a : SheetAnswer). answer_number (said a)) c.in_default.is; sheet_after = refl; canvas_after = painted c.before.before.before.before.before; background_value = refl })
 
 pub remove_place-requires : goal.remove_place-requires
-remove_place-requires c = (long c.before.before, place c.before.before)
+remove_place-requires c = (long c.before.before.before, place c.before.before.before)
 
 pub from_u32-requires : goal.from_u32-requires
 from_u32-requires c =
-    let small = small_counts c.before.before.before.before in
+    let small = small_counts c.before.before.before.before.before in
     omega arith
 
 pub bounds-sheet-2 : goal.bounds-sheet-2
 bounds-sheet-2 c =
     let kept = c.sheet-1.given in
-    let all = long c.before.before.before.before.before in
+    let all = long c.before.before.before.before.before.before in
     omega arith
 
 -- accepted
 pub returns : goal.returns
 unfolding remove_told remove_numbers remove_canvas
 returns c =
-    let told = c.before.before.before.before.before in
-    let made = c.before.before.before.before.before.before.before.before in
-    rw (is_one c.before.before.before.before.before.before.before.before.before.before.before, is_accepted_lem c.before.before.before.before.before) (record { value = refl; sheet_after = ap₂ (λ (l : List ℤ) (z : ℤ). set l count_at z) c.remove_place.ensures
-            (to_z-of_z c.from_u32.ensures.fits ∙ c.from_u32.ensures.is ∙ ap (λ (s : Sheet). pos s.count) (carried told)); canvas_after = painted c.before.before.before.before.before.before.before.before; background_value = refl })
+    let told = c.before.before.before.before.before.before in
+    let made = c.before.before.before.before.before.before.before.before.before in
+    rw (is_one c.before.before.before.before.before.before.before.before.before.before.before.before, is_accepted_lem c.before.before.before.before.before.before) (record { value = refl; sheet_after = ap₂ (λ (l : List ℤ) (z : ℤ). set l count_at z) c.remove_place.ensures
+            (to_z-of_z c.from_u32.ensures.fits ∙ c.from_u32.ensures.is ∙ ap (λ (s : Sheet). pos s.count) (carried told)); canvas_after = painted c.before.before.before.before.before.before.before.before.before; background_value = refl })

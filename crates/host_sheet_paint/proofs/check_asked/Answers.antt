@@ -6,11 +6,12 @@ use Rattle.canvas_size.specs.CanvasSize.{canvas_length_check}
 use Rattle.host_sheet_paint.specs.RecordPaint.{asked_check}
 use Rattle.host_sheet_paint.proofs.check_asked.Lts
 use Rattle.host_sheet_paint.proofs.check_asked.Reads
+use Rattle.host_sheet_paint.proofs.check_asked.Tie
 use Rattle.host_sheet_paint.proofs.check_asked.Goals as goal
 
 -- the facts known at these places
 abbrev In-Passed : Type 0
-In-Passed = Lts.After-enum_told Reads.Pre Reads.Post
+In-Passed = Lts.Past-After-enum_told Tie.the-claims Reads.Pre Reads.Post Tie.handed_clauses
 
 -- the canvas has its length
 size : (c : In-Passed)

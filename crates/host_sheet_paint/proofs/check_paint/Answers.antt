@@ -30,17 +30,18 @@ use Rattle.host_sheet_paint.proofs.Answers.{tested_broken, tested_kept, answer_b
 use borrow.Author.Rules.{rules}
 use Rattle.host_sheet_paint.proofs.check_paint.Lts
 use Rattle.host_sheet_paint.proofs.check_paint.Reads
+use Rattle.host_sheet_paint.proofs.check_paint.Tie
 use Rattle.host_sheet_paint.proofs.check_paint.Goals as goal
 
 -- the facts known at these places
 abbrev After-check : Type 0
-After-check = Lts.After-check Reads.Pre Reads.Post
+After-check = Lts.After-check Tie.the-claims Reads.Pre Reads.Post Tie.handed_clauses
 
 abbrev After-is_within : Type 0
-After-is_within = Lts.After-is_within Reads.Pre Reads.Post
+After-is_within = Lts.After-is_within Tie.the-claims Reads.Pre Reads.Post Tie.handed_clauses
 
 abbrev After-test_places : Type 0
-After-test_places = Lts.After-test_places Reads.Pre Reads.Post
+After-test_places = Lts.After-test_places Tie.the-claims Reads.Pre Reads.Post Tie.handed_clauses
 
 abbrev sheet : goal.Start → Sheet
 sheet c = sheet_of c.args.numbers.now

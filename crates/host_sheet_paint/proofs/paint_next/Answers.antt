@@ -26,14 +26,15 @@ use Rattle.host_sheet_record.proofs.Parts.{sixteen}
 use Rattle.host_sheet_record.proofs.ReadBack.{layer_in_place}
 use Rattle.host_sheet_paint.proofs.paint_next.Lts
 use Rattle.host_sheet_paint.proofs.paint_next.Reads
+use Rattle.host_sheet_paint.proofs.paint_next.Tie
 use Rattle.host_sheet_paint.proofs.paint_next.Goals as goal
 
 -- the facts known at these places
 abbrev Start : Type 0
-Start = Lts.Start Reads.Pre Reads.Post
+Start = Lts.Start Tie.the-claims Reads.Pre Reads.Post Tie.handed_clauses
 
 abbrev After-layer_at-chosen : Type 0
-After-layer_at-chosen = Lts.After-layer_at Reads.Pre Reads.Post
+After-layer_at-chosen = Lts.After-layer_at Tie.the-claims Reads.Pre Reads.Post Tie.handed_clauses
 
 abbrev sheet : Start → Sheet
 sheet c = sheet_of c.args.numbers.now
@@ -74,7 +75,7 @@ within c =
     e.args.layer (told e).within)
 
 pub layer_at-chosen-requires : goal.layer_at-chosen-requires
-layer_at-chosen-requires c = (c.requires.numbers_len, place c.before)
+layer_at-chosen-requires c = (c.requires.numbers_len, place c.before.before)
 
 pub row_at-requires : goal.row_at-requires
 row_at-requires c =
@@ -94,8 +95,8 @@ add-requires c =
 
 pub bounds-numbers-place : goal.bounds-numbers-place
 bounds-numbers-place c =
-    let e = c.before.before.before.before.before.before.before.before.before.before.before in
-    let within = place c.before.before.before.before.before.before.before.before.before.before.before in
+    let e = c.before.before.before.before.before.before.before.before.before.before.before.before in
+    let within = place c.before.before.before.before.before.before.before.before.before.before.before.before in
     let long = c.requires.numbers_len in
     omega arith
 
@@ -108,8 +109,8 @@ written canvas W H l = paint_row drawing W H (styled_figure l.figure l.style) l.
 
 pub returns : goal.returns
 returns c =
-    let read = c.before.before.before.before.before.before.before.before.before.before in
-    let e = entry c.before.before.before.before.before.before.before.before.before in
+    let read = c.before.before.before.before.before.before.before.before.before.before.before in
+    let e = entry c.before.before.before.before.before.before.before.before.before.before in
     let a = e.args in
     let layer = c.layer_at-chosen.result in
     let made = c.size_of-size.result in
@@ -121,5 +122,5 @@ returns c =
           ∙ ap (λ (z : ℤ). paint_by (λ _. c.row_at.result) c.layer_at-chosen.result.style c.size_of-size.result.width c.size_of-size.result.height z a.canvas.now) held
           ∙ paint_by_found c.layer_at-chosen.result.figure c.layer_at-chosen.result.style c.size_of-size.result.width c.size_of-size.result.height a.canvas.now c.row_at.result c.layer_at-chosen.result.next_row
           (c.row_at.ensures ∙ ap (styled_row c.layer_at-chosen.result.figure c.layer_at-chosen.result.style) held)
-          ∙ (λ k. written a.canvas.now (c.size_of-size.ensures.0 k) (c.size_of-size.ensures.1 k) (chosen_is c.before.before.before.before.before.before.before.before.before k))
+          ∙ (λ k. written a.canvas.now (c.size_of-size.ensures.0 k) (c.size_of-size.ensures.1 k) (chosen_is c.before.before.before.before.before.before.before.before.before.before k))
           ∙ sym (painted_canvas (sheet e) (sixteen a.numbers.now) a.canvas.now a.layer e.pre.1) }

@@ -25,16 +25,12 @@ returns-then-not-has_rows c = record { value = rw (
         ∙ not-true _ c.if-not-has_rows.true,
   ); upper_bound = omega arith }
 
-)
-
 pub returns-else-not-has_rows : goal.returns-else-not-has_rows
 returns-else-not-has_rows c = record { value = rw (
     c.if-ellipse.true,
     sym c.has_rows.ensures
         ∙ not-false _ c.if-not-has_rows.false,
   ); upper_bound = omega arith }
-
-)
 
 pub returns-else-ellipse : goal.returns-else-ellipse
 returns-else-ellipse c = record { value = rw c.if-ellipse.false; upper_bound = omega arith }

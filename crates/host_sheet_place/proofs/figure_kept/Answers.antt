@@ -11,11 +11,12 @@ use Rattle.host_records.proofs.Walks.{read_back}
 use Rattle.host_sheet_place.specs.PlaceRules.{rectangle_kept, figure_kept}
 use Rattle.host_sheet_place.proofs.figure_kept.Lts
 use Rattle.host_sheet_place.proofs.figure_kept.Reads
+use Rattle.host_sheet_place.proofs.figure_kept.Tie
 use Rattle.host_sheet_place.proofs.figure_kept.Goals as goal
 
 -- the facts known at these places
 abbrev After-t5-1 : Type 0
-After-t5-1 = Lts.After-if22 Reads.Pre Reads.Post
+After-t5-1 = Lts.After-if22 Tie.the-claims Reads.Pre Reads.Post Tie.handed_clauses
 
 rectangle : (c : After-t5-1) → rectangle_kept c.args.numbers.now ≡ true
 rectangle c = sym c.rectangle_kept.ensures ∙ not-false _ c.if-not-rectangle_kept.false

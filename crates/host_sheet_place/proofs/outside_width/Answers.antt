@@ -12,11 +12,12 @@ use Rattle.signed.specs.Signed.{floor0}
 use Rattle.host_records.specs.RecordNumbers.{center_alignment, outside_alignment, alignment_of}
 use Rattle.host_sheet_place.proofs.outside_width.Lts
 use Rattle.host_sheet_place.proofs.outside_width.Reads
+use Rattle.host_sheet_place.proofs.outside_width.Tie
 use Rattle.host_sheet_place.proofs.outside_width.Goals as goal
 
 -- the facts known at these places
 abbrev Start : Type 0
-Start = Lts.Start Reads.Pre Reads.Post
+Start = Lts.Start Tie.the-claims Reads.Pre Reads.Post Tie.handed_clauses
 
 -- the tests of the number as it is held
 held : (c : Start) (b : ℤ) {t : Bool} → lt_z (to_z w32 (of_z w32 c.args.alignment)) b ≡ t

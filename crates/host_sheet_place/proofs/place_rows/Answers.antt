@@ -16,11 +16,12 @@ use Rattle.host_sheet_place.specs.PlaceRules.{figure_kept, style_kept}
 use Rattle.host_sheet_place.proofs.Rules.{place_beyond_limits, place_above, place_below, place_among}
 use Rattle.host_sheet_place.proofs.place_rows.Lts
 use Rattle.host_sheet_place.proofs.place_rows.Reads
+use Rattle.host_sheet_place.proofs.place_rows.Tie
 use Rattle.host_sheet_place.proofs.place_rows.Goals as goal
 
 -- the facts known at these places
 abbrev After-rows_within-rows : Type 0
-After-rows_within-rows = Lts.After-rows_within Reads.Pre Reads.Post
+After-rows_within-rows = Lts.After-rows_within Tie.the-claims Reads.Pre Reads.Post Tie.handed_clauses
 
 -- what the tests of the limits say
 limits : (c : goal.Else-not-style_kept)

@@ -17,14 +17,15 @@ use Rattle.host_sheet_record.proofs.Parts.{place_part, place_part_length}
 use native.Mathlib.Omega.{arith}
 use Rattle.host_sheet_record.proofs.holds_records.Lts
 use Rattle.host_sheet_record.proofs.holds_records.Reads
+use Rattle.host_sheet_record.proofs.holds_records.Tie
 use Rattle.host_sheet_record.proofs.holds_records.Goals as goal
 
 -- the facts known at these places
 abbrev After-none_negative : Type 0
-After-none_negative = Lts.After-none_negative Reads.Pre Reads.Post goal.the-invariant-loop-j goal.the-decreases-loop-j
+After-none_negative = Lts.After-none_negative Tie.the-claims Reads.Pre Reads.Post goal.the-invariant-loop-j goal.the-decreases-loop-j Tie.handed_clauses
 
 abbrev After-is_layer : Type 0
-After-is_layer = Lts.After-is_layer Reads.Pre Reads.Post goal.the-invariant-loop-j goal.the-decreases-loop-j
+After-is_layer = Lts.After-is_layer Tie.the-claims Reads.Pre Reads.Post goal.the-invariant-loop-j goal.the-decreases-loop-j Tie.handed_clauses
 
 -- a place's test
 abbrev test : List ℤ → ℕ → Bool

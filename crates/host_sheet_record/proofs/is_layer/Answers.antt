@@ -5,11 +5,12 @@ use lib.ListN.{take}
 use Rattle.host_records.specs.RecordNumbers.{figure_length, is_figure}
 use Rattle.host_sheet_record.proofs.is_layer.Lts
 use Rattle.host_sheet_record.proofs.is_layer.Reads
+use Rattle.host_sheet_record.proofs.is_layer.Tie
 use Rattle.host_sheet_record.proofs.is_layer.Goals as goal
 
 -- the facts known at these places
 abbrev After-is_figure : Type 0
-After-is_figure = Lts.After-is_figure Reads.Pre Reads.Post
+After-is_figure = Lts.After-is_figure Tie.the-claims Reads.Pre Reads.Post Tie.handed_clauses
 
 figure : (c : After-is_figure) → is_figure (take figure_length c.args.numbers.now) ≡ c.is_figure.result
 figure c = sym c.is_figure.ensures

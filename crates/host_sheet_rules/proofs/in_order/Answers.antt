@@ -12,11 +12,12 @@ use Rattle.host_sheet_rules.proofs.Painted.{none_past_next, none_before_end}
 use borrow.Author.Rules.{rules}
 use Rattle.host_sheet_rules.proofs.in_order.Lts
 use Rattle.host_sheet_rules.proofs.in_order.Reads
+use Rattle.host_sheet_rules.proofs.in_order.Tie
 use Rattle.host_sheet_rules.proofs.in_order.Goals as goal
 
 -- the facts known at these places
 abbrev Start : Type 0
-Start = Lts.Start Reads.Pre Reads.Post
+Start = Lts.Start Tie.the-claims Reads.Pre Reads.Post Tie.handed_clauses
 
 -- what the numbers fit
 earlier_fits : (c : Start) → RowsFit c.args.earlier

@@ -12,11 +12,12 @@ use Rattle.host_sheet_rules.specs.RecordRules.{rows_at, rows_from}
 use Rattle.host_sheet_rules.proofs.Painted.{overtake_by_painted}
 use Rattle.host_sheet_rules.proofs.none_overtakes.Lts
 use Rattle.host_sheet_rules.proofs.none_overtakes.Reads
+use Rattle.host_sheet_rules.proofs.none_overtakes.Tie
 use Rattle.host_sheet_rules.proofs.none_overtakes.Goals as goal
 
 -- the facts known at these places
 abbrev After-is_overtaken : Type 0
-After-is_overtaken = Lts.After-is_overtaken Reads.Pre Reads.Post goal.the-invariant-loop-j goal.the-decreases-loop-j
+After-is_overtaken = Lts.After-is_overtaken Tie.the-claims Reads.Pre Reads.Post goal.the-invariant-loop-j goal.the-decreases-loop-j Tie.handed_clauses
 
 abbrev left : After-is_overtaken → ℕ → Bool
 left c j = no_rows_overtake c.args.earlier (rows_from c.args.numbers.now j (c.args.count - j))

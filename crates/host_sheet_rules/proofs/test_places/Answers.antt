@@ -25,17 +25,18 @@ use Rattle.sheet_layers.proofs.LayerRules.{found_kept}
 use Rattle.host_sheet_rules.proofs.Walk.{WalkedTo, walked_none, walked_all, broken_here, overtaken_here, one_more_lem}
 use Rattle.host_sheet_rules.proofs.test_places.Lts
 use Rattle.host_sheet_rules.proofs.test_places.Reads
+use Rattle.host_sheet_rules.proofs.test_places.Tie
 use Rattle.host_sheet_rules.proofs.test_places.Goals as goal
 
 -- the facts known at these places
 abbrev At-loop-i : Type 0
-At-loop-i = Lts.At-loop Reads.Pre Reads.Post goal.the-invariant-loop-i goal.the-decreases-loop-i
+At-loop-i = Lts.At-loop Tie.the-claims Reads.Pre Reads.Post goal.the-invariant-loop-i goal.the-decreases-loop-i Tie.handed_clauses
 
 abbrev After-place_rows : Type 0
-After-place_rows = Lts.After-place_rows Reads.Pre Reads.Post goal.the-invariant-loop-i goal.the-decreases-loop-i
+After-place_rows = Lts.After-place_rows Tie.the-claims Reads.Pre Reads.Post goal.the-invariant-loop-i goal.the-decreases-loop-i Tie.handed_clauses
 
 abbrev After-in_order : Type 0
-After-in_order = Lts.After-in_order Reads.Pre Reads.Post goal.the-invariant-loop-i goal.the-decreases-loop-i
+After-in_order = Lts.After-in_order Tie.the-claims Reads.Pre Reads.Post goal.the-invariant-loop-i goal.the-decreases-loop-i Tie.handed_clauses
 
 -- the row as it is held
 held_row : (c : goal.Start) → to_z w32 (of_z w32 c.args.y) ≡ c.args.y
@@ -88,7 +89,6 @@ loop-i-init c = (
   omega arith,
   walked_none c.args.numbers.now c.args.count c.args.layer
       (to_z w32 (of_z w32 c.args.y)) c.none-painted.result,
-
 )
 
 pub overflow_sub-place : goal.overflow_sub-place

@@ -12,11 +12,12 @@ use Rattle.host_answers.specs.HostAnswers.{no_record}
 use Rattle.host_answers.proofs.Telling.{tells_as, tells_refused, tells_refusal}
 use Rattle.host_styled.proofs.styled_bounding_box.Lts
 use Rattle.host_styled.proofs.styled_bounding_box.Reads
+use Rattle.host_styled.proofs.styled_bounding_box.Tie
 use Rattle.host_styled.proofs.styled_bounding_box.Goals as goal
 
 -- the facts known at these places
 abbrev After-styled_bounding_box : Type 0
-After-styled_bounding_box = Lts.After-styled_bounding_box Reads.Pre Reads.Post
+After-styled_bounding_box = Lts.After-styled_bounding_box Tie.the-claims Reads.Pre Reads.Post Tie.handed_clauses
 
 -- the numbers are a figure, and a style
 is_one : (c : goal.Else-not-is_figure) → is_figure c.args.figure.now ≡ true

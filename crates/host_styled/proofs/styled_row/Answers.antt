@@ -15,11 +15,12 @@ use Rattle.host_answers.proofs.Telling.{tells_as, tells_refused, tells_refusal, 
 use borrow.Author.Rules.{rules}
 use Rattle.host_styled.proofs.styled_row.Lts
 use Rattle.host_styled.proofs.styled_row.Reads
+use Rattle.host_styled.proofs.styled_row.Tie
 use Rattle.host_styled.proofs.styled_row.Goals as goal
 
 -- the facts known at these places
 abbrev After-styled_row : Type 0
-After-styled_row = Lts.After-styled_row Reads.Pre Reads.Post
+After-styled_row = Lts.After-styled_row Tie.the-claims Reads.Pre Reads.Post Tie.handed_clauses
 
 -- the numbers are a figure, and a style
 is_one : (c : goal.Else-not-is_figure) → is_figure c.args.figure.now ≡ true

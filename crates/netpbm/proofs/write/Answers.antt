@@ -15,14 +15,15 @@ use Rattle.netpbm_raster.proofs.Rows.{raster_length_fits}
 use native.Mathlib.Omega.{arith}
 use Rattle.netpbm.proofs.write.Lts
 use Rattle.netpbm.proofs.write.Reads
+use Rattle.netpbm.proofs.write.Tie
 use Rattle.netpbm.proofs.write.Goals as goal
 
 -- the facts known at these places
 abbrev Start : Type 0
-Start = Lts.Start Reads.Pre Reads.Post
+Start = Lts.Start Tie.the-claims Reads.Pre Reads.Post Tie.handed_clauses
 
 abbrev After-or_else-checked : Type 0
-After-or_else-checked = Lts.After-or_else2 Reads.Pre Reads.Post
+After-or_else-checked = Lts.After-or_else2 Tie.the-claims Reads.Pre Reads.Post Tie.handed_clauses
 
 -- from the last check back to the entry
 abbrev entry : After-or_else-checked → Start
@@ -45,7 +46,7 @@ checked c =
 
 pub overflow_add-header_length : goal.overflow_add-header_length
 overflow_add-header_length c =
-    let entry = c.before.before.before.before.before.before in
+    let entry = c.before.before.before.before.before.before.before in
     let a = c.args in
     let canvas_small = c.well-formed.1.1.1.0.1 in
     omega (
@@ -61,13 +62,13 @@ returns-in_default c =
 
 pub put_picture-requires : goal.put_picture-requires
 put_picture-requires c =
-    let check = c.before.before in
+    let check = c.before.before.before in
     let a = c.args in
     let passed = sym (checked check) ∙ c.in-Passed.is in record { canvas_len = write_passed_length a.format a.width a.height a.canvas.now a.file.now passed; canvas_in_bounds = write_passed_room a.format a.width a.height a.canvas.now a.file.now passed }
 
 pub returns : goal.returns
 returns c =
-    let check = c.before.before.before.before.before in
+    let check = c.before.before.before.before.before.before in
     let written = c.put_picture.ensures in
     rw (sym (checked check) ∙ c.in-Passed.is)
     (record { result_value = ap (λ (n : ℕ). answered (pos n ∷ [])) (c.put_picture.ensures.place ∙ omega arith); file_after = c.put_picture.ensures.list })

@@ -6,26 +6,27 @@ use Rattle.netpbm_text.proofs.Written.{wrote_then}
 use Rattle.netpbm_header.proofs.Header.{length_opening, length_header}
 use Rattle.netpbm_header.proofs.put_header.Lts
 use Rattle.netpbm_header.proofs.put_header.Reads
+use Rattle.netpbm_header.proofs.put_header.Tie
 use Rattle.netpbm_header.proofs.put_header.Goals as goal
 
 -- the facts known at these places
 abbrev Start : Type 0
-Start = Lts.Start Reads.Pre Reads.Post
+Start = Lts.Start Tie.the-claims Reads.Pre Reads.Post Tie.handed_clauses
 
 abbrev After-put_magic-width_at : Type 0
-After-put_magic-width_at = Lts.After-put_magic Reads.Pre Reads.Post
+After-put_magic-width_at = Lts.After-put_magic Tie.the-claims Reads.Pre Reads.Post Tie.handed_clauses
 
 abbrev After-put_number-space_at : Type 0
-After-put_number-space_at = Lts.After-put_number Reads.Pre Reads.Post
+After-put_number-space_at = Lts.After-put_number Tie.the-claims Reads.Pre Reads.Post Tie.handed_clauses
 
 abbrev After-put-height_at : Type 0
-After-put-height_at = Lts.After-put Reads.Pre Reads.Post
+After-put-height_at = Lts.After-put Tie.the-claims Reads.Pre Reads.Post Tie.handed_clauses
 
 abbrev After-put_number-ending_at : Type 0
-After-put_number-ending_at = Lts.After-put_number2 Reads.Pre Reads.Post
+After-put_number-ending_at = Lts.After-put_number2 Tie.the-claims Reads.Pre Reads.Post Tie.handed_clauses
 
 abbrev After-put_ending : Type 0
-After-put_ending = Lts.After-put_ending Reads.Pre Reads.Post
+After-put_ending = Lts.After-put_ending Tie.the-claims Reads.Pre Reads.Post Tie.handed_clauses
 
 -- from each write back to the one before it, and from the first to the entry
 abbrev entry : After-put_magic-width_at → Start
@@ -71,8 +72,8 @@ put_ending-requires c =
 pub returns : goal.returns
 unfolding header
 returns c =
-    let ending = c.before.before in
-    let height = height_put c.before.before in
+    let ending = c.before.before.before in
+    let height = height_put c.before.before.before in
     let space = space_put height in
     let width = width_put space in
     let magic = magic_put width in

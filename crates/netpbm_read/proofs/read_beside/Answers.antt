@@ -14,14 +14,15 @@ use Rattle.netpbm_read.specs.Read.{read_check, sides_of, canvas_of}
 use Rattle.netpbm_read.proofs.Reading.{check_made, check_capped, header_kept, read_passed_length, read_passed_bytes}
 use Rattle.netpbm_read.proofs.read_beside.Lts
 use Rattle.netpbm_read.proofs.read_beside.Reads
+use Rattle.netpbm_read.proofs.read_beside.Tie
 use Rattle.netpbm_read.proofs.read_beside.Goals as goal
 
 -- the facts known at these places
 abbrev Start : Type 0
-Start = Lts.Start Reads.Pre Reads.Post
+Start = Lts.Start Tie.the-claims Reads.Pre Reads.Post Tie.handed_clauses
 
 abbrev After-check_read-checked : Type 0
-After-check_read-checked = Lts.After-check_read Reads.Pre Reads.Post
+After-check_read-checked = Lts.After-check_read Tie.the-claims Reads.Pre Reads.Post Tie.handed_clauses
 
 abbrev header_of : After-check_read-checked → Header
 header_of c = c.in-Headed.header
@@ -82,18 +83,18 @@ returns-in_default-checked c =
 
 pub read_headed-requires : goal.read_headed-requires
 read_headed-requires c =
-    let check = c.before.before in
+    let check = c.before.before.before in
     let a = c.args in
-    let header = header_of c.before.before in
+    let header = header_of c.before.before.before in
     let passed = sym (checked check) ∙ c.in-Passed.is in
-    let bytes = drop header.raster a.file.now in record { raster_in_bounds = within c.before.before; canvas_len = read_passed_length header.format header.width header.height (length a.canvas.now) bytes a.room passed; canvas_in_bounds = read_passed_bytes header.format header.width header.height (length a.canvas.now) bytes a.room passed }
+    let bytes = drop header.raster a.file.now in record { raster_in_bounds = within c.before.before.before; canvas_len = read_passed_length header.format header.width header.height (length a.canvas.now) bytes a.room passed; canvas_in_bounds = read_passed_bytes header.format header.width header.height (length a.canvas.now) bytes a.room passed }
 
 pub returns : goal.returns
 returns c =
-    let check = c.before.before.before.before.before in
+    let check = c.before.before.before.before.before.before in
     let a = c.args in
     let passed = sym (made check) ∙ c.in-Passed.is in
-    let whole = seen c.before.before.before.before.before ∙ header_kept (file_header a.file.now) (length a.canvas.now) a.room passed in
+    let whole = seen c.before.before.before.before.before.before ∙ header_kept (file_header a.file.now) (length a.canvas.now) a.room passed in
     let read = c.read_headed.ensures in
     rw passed
     (record { result_value = c.read_headed.ensures.result_value ∙ ap (λ (h : ReadHeader). answered (sides_of h)) whole; canvas_after = c.read_headed.ensures.canvas_after ∙ ap (λ (h : ReadHeader). canvas_of h) whole })

@@ -9,17 +9,18 @@ use Rattle.paint.proofs.Passed.{PaintPassed, paint_passed}
 use Rattle.paint.proofs.Painted.{whole_is_painted}
 use Rattle.paint.proofs.paint_figure.Lts
 use Rattle.paint.proofs.paint_figure.Reads
+use Rattle.paint.proofs.paint_figure.Tie
 use Rattle.paint.proofs.paint_figure.Goals as goal
 
 -- the facts known at these places
 abbrev Start : Type 0
-Start = Lts.Start Reads.Pre Reads.Post
+Start = Lts.Start Tie.the-claims Reads.Pre Reads.Post Tie.handed_clauses
 
 abbrev After-or_else-checked : Type 0
-After-or_else-checked = Lts.After-or_else2 Reads.Pre Reads.Post
+After-or_else-checked = Lts.After-or_else2 Tie.the-claims Reads.Pre Reads.Post Tie.handed_clauses
 
 abbrev In-Passed : Type 0
-In-Passed = Lts.After-enum_told Reads.Pre Reads.Post
+In-Passed = Lts.Past-After-enum_told Tie.the-claims Reads.Pre Reads.Post Tie.handed_clauses
 
 -- the check made is the definition's
 checked : (c : After-or_else-checked) → c.or_else-checked.result ≡ paint_check c.args.figure c.args.style
@@ -53,6 +54,6 @@ paint_whole-requires c =
 pub returns : goal.returns
 returns c =
     let a = c.args in
-    let p = passed c.before.before.before.before in
+    let p = passed c.before.before.before.before.before in
     rw (sym (checked c.before.before.before.before.before.before) ∙ c.in-Passed.is) (record { result_value = refl; canvas_after = c.paint_whole.ensures ∙ whole_is_painted a.figure a.style a.width a.height a.canvas.now
           p.size })

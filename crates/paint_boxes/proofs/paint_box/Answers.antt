@@ -11,14 +11,15 @@ use Rattle.paint_rows.specs.Rows.{rows_by}
 use Rattle.paint_boxes.specs.Whole.{WholeSymmetric}
 use Rattle.paint_boxes.proofs.paint_box.Lts
 use Rattle.paint_boxes.proofs.paint_box.Reads
+use Rattle.paint_boxes.proofs.paint_box.Tie
 use Rattle.paint_boxes.proofs.paint_box.Goals as goal
 
 -- the facts known at these places
 abbrev Start : Type 0
-Start = Lts.Start Reads.Pre Reads.Post
+Start = Lts.Start Tie.the-claims Reads.Pre Reads.Post Tie.handed_clauses
 
 abbrev In-Symmetric : Type 0
-In-Symmetric = Lts.After-known_told Reads.Pre Reads.Post
+In-Symmetric = Lts.Past-After-known_told Tie.the-claims Reads.Pre Reads.Post Tie.handed_clauses
 
 -- row by row
 pub paint_box_rows-requires : goal.paint_box_rows-requires
@@ -28,7 +29,7 @@ paint_box_rows-requires c =
 
 pub returns-in_default : goal.returns-in_default
 returns-in_default c =
-    let entry = c.before.before.before.before.before.before.before in
+    let entry = c.before.before.before.before.before.before.before.before in
     let a = c.args in
     c.paint_box_rows.ensures
     ∙ ap (λ (z : ℤ). rows_by (box_styled_row (stroke_box a.b) (fill_box a.b)) a.style a.size.width a.size.height z
@@ -51,10 +52,10 @@ paint_symmetric_box-requires c =
 
 pub returns : goal.returns
 returns c =
-    let at = c.before.before.before.before in
-    let entry = entry_of c.before.before.before.before in
+    let at = c.before.before.before.before.before in
+    let entry = entry_of c.before.before.before.before.before in
     let a = entry.args in
-    let is = whole c.before.before.before.before in
+    let is = whole c.before.before.before.before.before in
     let stroke = sym is.0.0 in
     let fill = sym is.0.1 in
     let y_is = sym (to_z-of_z entry.pre.1.1.1.0.fits) ∙ is.1 in

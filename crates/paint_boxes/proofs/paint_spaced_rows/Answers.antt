@@ -17,11 +17,12 @@ use Rattle.paint_boxes.specs.Spaced.{spaced_by}
 use Rattle.paint_boxes.proofs.Turns.{SpacedLeft, first_near, spaced_turn, spaced_end}
 use Rattle.paint_boxes.proofs.paint_spaced_rows.Lts
 use Rattle.paint_boxes.proofs.paint_spaced_rows.Reads
+use Rattle.paint_boxes.proofs.paint_spaced_rows.Tie
 use Rattle.paint_boxes.proofs.paint_spaced_rows.Goals as goal
 
 -- the facts known at these places
 abbrev In-loop-left : Type 0
-In-loop-left = Lts.In-loop Reads.Pre Reads.Post goal.the-invariant-loop-left goal.the-decreases-loop-left
+In-loop-left = Lts.In-loop Tie.the-claims Reads.Pre Reads.Post goal.the-invariant-loop-left goal.the-decreases-loop-left Tie.handed_clauses
 
 -- the row of this turn is a row of a figure
 here_near : (c : In-loop-left) → Near wide_painted (to_z w32 c.loop-left.row-y)
@@ -43,7 +44,7 @@ from_u32-requires c =
 
 pub add-row_y-requires : goal.add-row_y-requires
 add-row_y-requires c =
-    let near = here_near c.before.before.before.before.before in
+    let near = here_near c.before.before.before.before.before.before in
     let high = near.above in
     let low = near.below in
     let small = c.requires.near.1 in
@@ -58,7 +59,7 @@ loop-left-smaller c = omega arith
 
 pub loop-left-preserved : goal.loop-left-preserved
 loop-left-preserved c =
-    let test = c.before.before.before.before.before.before in
+    let test = c.before.before.before.before.before.before.before in
     let loop = c.loop-left in
     let a = c.args in
     let call = c.paint_row_on in

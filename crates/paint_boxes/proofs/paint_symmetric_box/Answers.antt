@@ -20,22 +20,26 @@ use Rattle.paint_boxes.specs.Spaced.{spaced_by, SpacedNear}
 use Rattle.paint_boxes.proofs.Turns.{row_near, step_small, turn_further, rows_near, turn_pair, turn_rest}
 use Rattle.paint_boxes.proofs.paint_symmetric_box.Lts
 use Rattle.paint_boxes.proofs.paint_symmetric_box.Reads
+use Rattle.paint_boxes.proofs.paint_symmetric_box.Tie
 use Rattle.paint_boxes.proofs.paint_symmetric_box.Goals as goal
 
 -- the facts known at these places
 abbrev Start : Type 0
-Start = Lts.Start Reads.Pre Reads.Post goal.the-invariant-loop-dy goal.the-decreases-loop-dy
+Start = Lts.Start Tie.the-claims Reads.Pre Reads.Post goal.the-invariant-loop-dy goal.the-decreases-loop-dy Tie.handed_clauses
 
-abbrev first : goal.After-add-row_y → ℤ
+abbrev After-add-row_y : Type 0
+After-add-row_y = Lts.After-add Tie.the-claims Reads.Pre Reads.Post goal.the-invariant-loop-dy goal.the-decreases-loop-dy Tie.handed_clauses
+
+abbrev first : After-add-row_y → ℤ
 first c = c.args.b.area.top_left.y
 
-abbrev done : goal.After-add-row_y → ℕ
+abbrev done : After-add-row_y → ℕ
 done c = c.loop-dy.dy
 
-upper : (c : goal.After-add-row_y) → done c + c.args.b.corner_rows < c.args.b.area.size.height
+upper : (c : After-add-row_y) → done c + c.args.b.corner_rows < c.args.b.area.size.height
 upper c = let more = c.loop-dy-test.true in omega (arith, c.loop-dy-test.true)
 
-row_is : (c : goal.After-add-row_y) → c.add-row_y.result ≡ first c +ℤ pos (done c)
+row_is : (c : After-add-row_y) → c.add-row_y.result ≡ first c +ℤ pos (done c)
 row_is c =
     let fits = c.requires.ready_symmetric.area.at.y.fits in
     let sum = c.add-row_y.ensures.is in
@@ -66,21 +70,21 @@ add-row_y-requires c =
     omega (arith, int, low, c.loop-dy-test.true)
 
 pub row-found-requires : goal.row-found-requires
-row-found-requires c = record { ready_symmetric = c.requires.ready_symmetric; corner_rows_bound = upper c }
+row-found-requires c = record { ready_symmetric = c.requires.ready_symmetric; corner_rows_bound = upper c.before }
 
 pub turn_at-turn-requires : goal.turn_at-turn-requires
 turn_at-turn-requires c = (c.requires.ready_symmetric.half, c.loop-dy-test.true)
 
 pub paint_spaced_rows-requires : goal.paint_spaced_rows-requires
 paint_spaced_rows-requires c =
-    let at = c.before.before.before in
+    let at = c.before.before.before.before in
     let b = c.args.b in
     let ready = c.requires.ready_symmetric in
     let turn = c.turn_at-turn in
     let more = c.loop-dy-test.true in
     let near = ready.area.at.y in
     let low = ready.area.size.height in
-    let y_is = to_z-of_z c.add-row_y.ensures.fits ∙ row_is c.before.before.before in record { canvas_len = c.loop-dy.invariant.size; width_le_wide_side = c.requires.width_le_wide_side; near = (
+    let y_is = to_z-of_z c.add-row_y.ensures.fits ∙ row_is c.before.before.before.before in record { canvas_len = c.loop-dy.invariant.size; width_le_wide_side = c.requires.width_le_wide_side; near = (
           subst (Near wide_painted) (sym y_is) (row_near (first at) (done at) near (omega (arith, low, c.loop-dy-test.true))),
           step_small (first at) b.area.size.height b.corner_rows (done at) near low ready.half c.loop-dy-test.true c.turn_at-turn.result
               c.turn_at-turn.ensures,
@@ -91,7 +95,7 @@ paint_spaced_rows-requires c =
 
 pub loop-dy-smaller : goal.loop-dy-smaller
 loop-dy-smaller c =
-    let at = c.before.before.before.before.before.before.before in
+    let at = c.before.before.before.before.before.before.before.before in
     let b = c.args.b in
     let ready = c.requires.ready_symmetric in
     let turn = c.turn_at-turn in
@@ -102,7 +106,7 @@ loop-dy-smaller c =
 
 pub loop-dy-preserved : goal.loop-dy-preserved
 loop-dy-preserved c =
-    let at = c.before.before.before.before.before.before.before in
+    let at = c.before.before.before.before.before.before.before.before in
     let a = c.args in
     let b = a.b in
     let ready = c.requires.ready_symmetric in
@@ -116,7 +120,7 @@ loop-dy-preserved c =
     let is =
     c.paint_spaced_rows.ensures
     ∙ ap (λ (z : ℤ). spaced_by c.row-found.result.row a.style a.size.width a.size.height z c.turn_at-turn.result.step
-    c.turn_at-turn.result.count c.loop-dy.canvas) (to_z-of_z c.add-row_y.ensures.fits ∙ row_is c.before.before.before.before.before.before.before) in
+    c.turn_at-turn.result.count c.loop-dy.canvas) (to_z-of_z c.add-row_y.ensures.fits ∙ row_is c.before.before.before.before.before.before.before.before) in
     by_order (done at) b.corner_rows
     (λ pair.
     turn_pair row_at a.style a.size.width a.size.height (first at) b.area.size.height b.corner_rows

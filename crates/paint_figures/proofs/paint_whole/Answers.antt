@@ -12,14 +12,15 @@ use Rattle.paint_rows.specs.Rows.{rows_by}
 use Rattle.paint_figures.proofs.OnCanvas.{visible_rows_whole, lacking_whole}
 use Rattle.paint_figures.proofs.paint_whole.Lts
 use Rattle.paint_figures.proofs.paint_whole.Reads
+use Rattle.paint_figures.proofs.paint_whole.Tie
 use Rattle.paint_figures.proofs.paint_whole.Goals as goal
 
 -- the facts known at these places
 abbrev Start : Type 0
-Start = Lts.Start Reads.Pre Reads.Post
+Start = Lts.Start Tie.the-claims Reads.Pre Reads.Post Tie.handed_clauses
 
 abbrev After-new : Type 0
-After-new = Lts.After-new Reads.Pre Reads.Post
+After-new = Lts.After-new Tie.the-claims Reads.Pre Reads.Post Tie.handed_clauses
 
 -- the rows of the shape made ready, whichever it is, are the figure's
 rows_of : (c : After-new) (shape : StyledShape) → c.new.result ≡ shape
@@ -51,7 +52,7 @@ new-requires c = record { bounded_shape = c.stroke_shape-stroke.ensures.1; bound
 
 pub paint_ellipse-requires : goal.paint_ellipse-requires
 paint_ellipse-requires c =
-    let made = c.before.before.before in
+    let made = c.before.before.before.before in
     let pre = c.requires in
     let seen = c.visible-seen.ensures.near in
     let near = c.visible-seen.ensures.near.0 in
@@ -59,7 +60,7 @@ paint_ellipse-requires c =
 
 pub paint_box-requires : goal.paint_box-requires
 paint_box-requires c =
-    let made = c.before.before.before in
+    let made = c.before.before.before.before in
     let pre = c.requires in
     let seen = c.visible-seen.ensures.near in
     let near = c.visible-seen.ensures.near.0 in
@@ -67,7 +68,7 @@ paint_box-requires c =
 
 pub returns-in-Ellipse : goal.returns-in-Ellipse
 returns-in-Ellipse c =
-    let made = c.before.before.before.before.before.before in
+    let made = c.before.before.before.before.before.before.before in
     let a = c.args in
     let seen = c.visible-seen in
     let known = c.in-Ellipse.given in
@@ -75,12 +76,12 @@ returns-in-Ellipse c =
     c.paint_ellipse.ensures
     ∙ ap (λ (z : ℤ). rows_by (row_of shape) a.style a.size.width a.size.height z c.visible-seen.result.count a.canvas.now)
     (to_z-of_z c.visible-seen.ensures.near.0.fits)
-    ∙ visible_rows_whole (row_of shape) a.figure a.style a.size.width a.size.height (rows_of c.before.before.before.before.before.before shape known.1)
+    ∙ visible_rows_whole (row_of shape) a.figure a.style a.size.width a.size.height (rows_of c.before.before.before.before.before.before.before shape known.1)
     c.shape_rows.result (rows_are made) a.canvas.now c.visible-seen.result c.visible-seen.ensures.value
 
 pub returns-in-RoundedBox : goal.returns-in-RoundedBox
 returns-in-RoundedBox c =
-    let made = c.before.before.before.before.before.before in
+    let made = c.before.before.before.before.before.before.before in
     let a = c.args in
     let seen = c.visible-seen in
     let known = c.in-RoundedBox.given in
@@ -88,13 +89,13 @@ returns-in-RoundedBox c =
     c.paint_box.ensures
     ∙ ap (λ (z : ℤ). rows_by (row_of shape) a.style a.size.width a.size.height z c.visible-seen.result.count a.canvas.now)
     (to_z-of_z c.visible-seen.ensures.near.0.fits)
-    ∙ visible_rows_whole (row_of shape) a.figure a.style a.size.width a.size.height (rows_of c.before.before.before.before.before.before shape known.1)
+    ∙ visible_rows_whole (row_of shape) a.figure a.style a.size.width a.size.height (rows_of c.before.before.before.before.before.before.before shape known.1)
     c.shape_rows.result (rows_are made) a.canvas.now c.visible-seen.result c.visible-seen.ensures.value
 
 pub returns-in-Neither : goal.returns-in-Neither
 returns-in-Neither c =
-    let made = c.before in
+    let made = c.before.before in
     let a = c.args in
     lacking_whole (row_of styled.Neither) a.figure a.style a.size.width a.size.height
-    (rows_of c.before styled.Neither c.in-Neither.is) c.shape_rows.result (rows_are made)
+    (rows_of c.before.before styled.Neither c.in-Neither.is) c.shape_rows.result (rows_are made)
     a.canvas.now (λ _. refl)

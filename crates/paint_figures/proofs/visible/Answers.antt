@@ -11,17 +11,24 @@ use Rattle.figure.specs.Bounds.{wide_area_position}
 use Rattle.paint_figures.specs.Rows.{rows_above}
 use Rattle.paint_figures.proofs.visible.Lts
 use Rattle.paint_figures.proofs.visible.Reads
+use Rattle.paint_figures.proofs.visible.Tie
 use Rattle.paint_figures.proofs.visible.Goals as goal
 
 -- the facts known at these places
 abbrev Start : Type 0
-Start = Lts.Start Reads.Pre Reads.Post
+Start = Lts.Start Tie.the-claims Reads.Pre Reads.Post Tie.handed_clauses
+
+abbrev After-least-above : Type 0
+After-least-above = Lts.After-least Tie.the-claims Reads.Pre Reads.Post Tie.handed_clauses
+
+abbrev After-add-first : Type 0
+After-add-first = Lts.After-add Tie.the-claims Reads.Pre Reads.Post Tie.handed_clauses
 
 abbrev After-floor0-room : Type 0
-After-floor0-room = Lts.After-floor02 Reads.Pre Reads.Post
+After-floor0-room = Lts.After-floor02 Tie.the-claims Reads.Pre Reads.Post Tie.handed_clauses
 
 -- how many rows lie above, and the first that does not
-above_is : (c : goal.After-least-above) → c.least-above.result ≡ rows_above c.args.rows
+above_is : (c : After-least-above) → c.least-above.result ≡ rows_above c.args.rows
 above_is c =
     let near = c.requires.0 in
     c.least-above.ensures
@@ -30,7 +37,7 @@ above_is c =
     ∙ ap (λ (z : ℤ). floor0 z) (to_z-of_z c.sub.ensures.fits ∙ c.sub.ensures.is ∙ ap
     (λ (z : ℤ). pos 0 -ℤ z) (to_z-of_z near.fits)))
 
-first_is : (c : goal.After-add-first) → c.add-first.result ≡ c.args.rows.first +ℤ pos (rows_above c.args.rows)
+first_is : (c : After-add-first) → c.add-first.result ≡ c.args.rows.first +ℤ pos (rows_above c.args.rows)
 first_is c =
     let near = c.requires.0 in
     c.add-first.ensures.is
@@ -38,7 +45,7 @@ first_is c =
     (to_z-of_z c.from_u32.ensures.fits ∙ c.from_u32.ensures.is ∙ ap pos
     (above_is c.before.before.before))
 
-first_near : (c : goal.After-add-first) → Near wide_area_position c.add-first.result
+first_near : (c : After-add-first) → Near wide_area_position c.add-first.result
 first_near c =
     let a = c.args in
     let near = c.requires.0 in

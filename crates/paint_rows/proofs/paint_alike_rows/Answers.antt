@@ -17,14 +17,15 @@ use Rattle.paint_rows.specs.Rows.{rows_by}
 use Rattle.paint_rows.proofs.InTurn.{rows_start, rows_turn, rows_end}
 use Rattle.paint_rows.proofs.paint_alike_rows.Lts
 use Rattle.paint_rows.proofs.paint_alike_rows.Reads
+use Rattle.paint_rows.proofs.paint_alike_rows.Tie
 use Rattle.paint_rows.proofs.paint_alike_rows.Goals as goal
 
 -- the facts known at these places
 abbrev Start : Type 0
-Start = Lts.Start Reads.Pre Reads.Post goal.the-invariant-loop-dy goal.the-decreases-loop-dy
+Start = Lts.Start Tie.the-claims Reads.Pre Reads.Post goal.the-invariant-loop-dy goal.the-decreases-loop-dy Tie.handed_clauses
 
 abbrev After-add-row_y : Type 0
-After-add-row_y = Lts.After-add Reads.Pre Reads.Post goal.the-invariant-loop-dy goal.the-decreases-loop-dy
+After-add-row_y = Lts.After-add Tie.the-claims Reads.Pre Reads.Post goal.the-invariant-loop-dy goal.the-decreases-loop-dy Tie.handed_clauses
 
 row_is : (c : After-add-row_y) → c.add-row_y.result ≡ to_z w32 (of_z w32 c.args.y) +ℤ pos
     c.loop-dy.dy
@@ -71,7 +72,7 @@ pub loop-dy-preserved : goal.loop-dy-preserved
 loop-dy-preserved c =
     let at_loop_test = c.loop-dy-test in
     let at_loop = c.loop-dy in
-    let at = c.before.before.before.before in
+    let at = c.before.before.before.before.before in
     let a = c.args in
     let call = c.paint_row_on in
     let before = c.loop-dy.canvas in
@@ -79,7 +80,7 @@ loop-dy-preserved c =
     rows_turn _ _ _ _ _ _ _ c.loop-dy.dy before c.paint_row_on.new.canvas c.loop-dy-test.true same
     (c.paint_row_on.ensures
     ∙ ap (λ (z : ℤ). paint_by (λ _. a.row) a.style a.size.width a.size.height z before)
-    (to_z-of_z c.add-row_y.ensures.fits ∙ row_is c.before.before.before.before))
+    (to_z-of_z c.add-row_y.ensures.fits ∙ row_is c.before.before.before.before.before))
     c.loop-dy.invariant
 
 pub shape_of-canvas : goal.shape_of-canvas

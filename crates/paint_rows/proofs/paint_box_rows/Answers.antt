@@ -19,14 +19,15 @@ use Rattle.paint_rows.specs.Rows.{wide_painted, rows_by}
 use Rattle.paint_rows.proofs.InTurn.{painted_near, rows_by_alike, rows_start, rows_turns, rows_end}
 use Rattle.paint_rows.proofs.paint_box_rows.Lts
 use Rattle.paint_rows.proofs.paint_box_rows.Reads
+use Rattle.paint_rows.proofs.paint_box_rows.Tie
 use Rattle.paint_rows.proofs.paint_box_rows.Goals as goal
 
 -- the facts known at these places
 abbrev Start : Type 0
-Start = Lts.Start Reads.Pre Reads.Post goal.the-invariant-loop-dy goal.the-decreases-loop-dy
+Start = Lts.Start Tie.the-claims Reads.Pre Reads.Post goal.the-invariant-loop-dy goal.the-decreases-loop-dy Tie.handed_clauses
 
 abbrev After-least-alike : Type 0
-After-least-alike = Lts.After-least Reads.Pre Reads.Post goal.the-invariant-loop-dy goal.the-decreases-loop-dy
+After-least-alike = Lts.After-least Tie.the-claims Reads.Pre Reads.Post goal.the-invariant-loop-dy goal.the-decreases-loop-dy Tie.handed_clauses
 
 -- the row of this turn
 row_is : (c : goal.After-add-row_y) → c.add-row_y.result ≡ to_z w32 (of_z w32 c.args.y) +ℤ pos
@@ -95,13 +96,13 @@ overflow_add-dy c =
 
 pub loop-dy-smaller : goal.loop-dy-smaller
 loop-dy-smaller c =
-    let n = turn_rows c.before.before.before.before.before in
+    let n = turn_rows c.before.before.before.before.before.before in
     omega (arith, n.0, n.1)
 
 pub loop-dy-preserved : goal.loop-dy-preserved
 loop-dy-preserved c =
     let at_loop_test = c.loop-dy-test in
-    let at = c.before.before.before.before.before.before.before.before in
+    let at = c.before.before.before.before.before.before.before.before.before in
     let a = c.args in
     let call = c.paint_alike_rows in
     let before = c.loop-dy.canvas in
@@ -111,7 +112,7 @@ loop-dy-preserved c =
     let row = c.row-found.result.row in
     let row_at = box_styled_row (stroke_box a.b) (fill_box a.b) in
     let y = to_z w32 (of_z w32 a.y) +ℤ pos c.loop-dy.dy in
-    let y_is = to_z-of_z c.add-row_y.ensures.fits ∙ row_is c.before.before.before.before.before.before.before.before in
+    let y_is = to_z-of_z c.add-row_y.ensures.fits ∙ row_is c.before.before.before.before.before.before.before.before.before in
     let same : length c.paint_alike_rows.new.canvas ≡ length c.loop-dy.canvas = search rules in
     let row_found = c.row-found.ensures ∙ ap row_at y_is in
     let counted = c.least-alike.ensures in

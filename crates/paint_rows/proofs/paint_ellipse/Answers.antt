@@ -21,11 +21,12 @@ use Rattle.paint_rows.proofs.InTurn.{painted_near}
 use Rattle.paint_rows.proofs.Mirror.{row_mirrored_from, between_start, between_turn, between_end}
 use Rattle.paint_rows.proofs.paint_ellipse.Lts
 use Rattle.paint_rows.proofs.paint_ellipse.Reads
+use Rattle.paint_rows.proofs.paint_ellipse.Tie
 use Rattle.paint_rows.proofs.paint_ellipse.Goals as goal
 
 -- the facts known at these places
 abbrev Start : Type 0
-Start = Lts.Start Reads.Pre Reads.Post goal.the-invariant-loop-dy goal.the-decreases-loop-dy
+Start = Lts.Start Tie.the-claims Reads.Pre Reads.Post goal.the-invariant-loop-dy goal.the-decreases-loop-dy Tie.handed_clauses
 
 abbrev first : goal.After-add-mirrored_y → ℤ
 first c = to_z w32 (of_z w32 c.args.y)
@@ -133,15 +134,15 @@ loop-dy-smaller c = omega (arith, int)
 
 pub loop-dy-preserved : goal.loop-dy-preserved
 loop-dy-preserved c =
-    let at = c.before.before.before.before.before.before in
+    let at = c.before.before.before.before.before.before.before in
     let a = c.args in
     let call = c.paint_twice in
     let loop = c.loop-dy in
     let pairs = c.mirrored_pairs-pairs in
     let row = c.row-found.result.row in
     let row_at = ellipse_styled_row a.ellipse.area a.ellipse.sides in
-    let row_y = to_z-of_z c.add-row_y.ensures.fits ∙ row_is c.before.before.before.before.before.before in
-    let mirrored_y = to_z-of_z c.add-mirrored_y.ensures.fits ∙ mirror_is c.before.before.before.before.before.before in
+    let row_y = to_z-of_z c.add-row_y.ensures.fits ∙ row_is c.before.before.before.before.before.before.before in
+    let mirrored_y = to_z-of_z c.add-mirrored_y.ensures.fits ∙ mirror_is c.before.before.before.before.before.before.before in
     let same : length c.paint_twice.new.canvas ≡ length c.loop-dy.canvas = search rules in
     between_turn row_at _ _ _ _ _ _ _ (done at) c.loop-dy.canvas c.loop-dy-test.true c.mirrored_pairs-pairs.ensures.half
     c.loop-dy.invariant c.row-found.result.row c.paint_twice.new.canvas same

@@ -11,14 +11,15 @@ use Rattle.paint_rows.specs.Rows.{twice_by}
 use Rattle.paint_rows.proofs.InTurn.{painted_near}
 use Rattle.paint_rows.proofs.paint_twice.Lts
 use Rattle.paint_rows.proofs.paint_twice.Reads
+use Rattle.paint_rows.proofs.paint_twice.Tie
 use Rattle.paint_rows.proofs.paint_twice.Goals as goal
 
 -- the facts known at these places
 abbrev Start : Type 0
-Start = Lts.Start Reads.Pre Reads.Post
+Start = Lts.Start Tie.the-claims Reads.Pre Reads.Post Tie.handed_clauses
 
 abbrev After-paint_row_on : Type 0
-After-paint_row_on = Lts.After-paint_row_on Reads.Pre Reads.Post
+After-paint_row_on = Lts.After-paint_row_on Tie.the-claims Reads.Pre Reads.Post Tie.handed_clauses
 
 -- ---- after the first time
 abbrev entry : After-paint_row_on → Start
@@ -40,9 +41,9 @@ paint_row_on-requires c =
 
 pub returns-then-not-twice : goal.returns-then-not-twice
 returns-then-not-twice c =
-    let after = c.before.before.before in
+    let after = c.before.before.before.before in
     let a = c.args in
-    once_is c.before.before.before
+    once_is c.before.before.before.before
     ∙ ap (λ (t : Bool). twice_by a.row a.style a.size.width a.size.height a.y a.other t a.canvas.now)
     (sym (not-true a.twice c.if-not-twice.true))
 
@@ -56,7 +57,7 @@ paint_row_on-requires-2 c =
 pub returns : goal.returns
 returns c =
     let at_if1 = c.if-not-twice in
-    let after = c.before.before.before.before.before.before.before in
+    let after = c.before.before.before.before.before.before.before.before in
     let a = c.args in
     c.paint_row_on-2.ensures
     ∙ ap (λ (z : ℤ). paint_by (λ _. a.row) a.style a.size.width a.size.height z c.paint_row_on.new.canvas)

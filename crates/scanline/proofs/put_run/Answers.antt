@@ -13,7 +13,6 @@ use Rattle.scanline.specs.Points.{run_points, entries}
 use Rattle.scanline.proofs.Listing.{still_column, run_points_none, run_points_all}
 use native.Mathlib.Omega.{arith}
 use Rattle.signed.proofs.Laws.{int}
-use Rattle.scanline.proofs.put_run.Invariants.{)}
 use Rattle.scanline.proofs.put_run.Goals as goal
 
 pub loop-k-init : goal.loop-k-init
@@ -26,6 +25,7 @@ loop-k-init c = (
         (run_points_all (to_z w32 (of_z w32 c.args.y)) (to_z w32 (of_z w32 c.args.start)) c.args.n);
     long = refl;
   },
+)
 
 pub from_u32-requires : goal.from_u32-requires
 from_u32-requires c = omega (arith, int)

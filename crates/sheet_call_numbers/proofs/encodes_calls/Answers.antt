@@ -12,11 +12,12 @@ use Rattle.host_records.proofs.Walks.{all_from_here, all_from_past}
 use Rattle.sheet_call_numbers.proofs.encodes_calls.Invariants.{numbers}
 use Rattle.sheet_call_numbers.proofs.encodes_calls.Lts
 use Rattle.sheet_call_numbers.proofs.encodes_calls.Reads
+use Rattle.sheet_call_numbers.proofs.encodes_calls.Tie
 use Rattle.sheet_call_numbers.proofs.encodes_calls.Goals as goal
 
 -- the facts known at these places
 abbrev After-is_call : Type 0
-After-is_call = Lts.After-is_call Reads.Pre Reads.Post goal.the-invariant-loop-j goal.the-decreases-loop-j
+After-is_call = Lts.After-is_call Tie.the-claims Reads.Pre Reads.Post goal.the-invariant-loop-j goal.the-decreases-loop-j Tie.handed_clauses
 
 -- the length is a multiple of a call's
 encodes : (c : goal.Else-numbers-ne0) → encodes_calls c.args.numbers.now ≡ are_calls c.args.numbers.now 0

@@ -12,17 +12,18 @@ use Rattle.host_records.proofs.Walks.{read_back}
 use Rattle.sheet_call_numbers.specs.CallNumbers.{call_kind_at, call_layer_at, call_figure_at, add_kind, paint_kind, remove_kind, is_call}
 use Rattle.sheet_call_numbers.proofs.is_call.Lts
 use Rattle.sheet_call_numbers.proofs.is_call.Reads
+use Rattle.sheet_call_numbers.proofs.is_call.Tie
 use Rattle.sheet_call_numbers.proofs.is_call.Goals as goal
 
 -- the facts known at these places
 abbrev After-is_within : Type 0
-After-is_within = Lts.After-is_within Reads.Pre Reads.Post
+After-is_within = Lts.After-is_within Tie.the-claims Reads.Pre Reads.Post Tie.handed_clauses
 
 abbrev After-t4-1 : Type 0
-After-t4-1 = Lts.After-if22 Reads.Pre Reads.Post
+After-t4-1 = Lts.After-if22 Tie.the-claims Reads.Pre Reads.Post Tie.handed_clauses
 
 abbrev After-is_figure : Type 0
-After-is_figure = Lts.After-is_figure Reads.Pre Reads.Post
+After-is_figure = Lts.After-is_figure Tie.the-claims Reads.Pre Reads.Post Tie.handed_clauses
 
 kind : (c : After-is_within) → within add_kind remove_kind (number_at c.args.numbers.now call_kind_at)
     ≡ c.is_within.result

@@ -15,23 +15,27 @@ use Rattle.host_records.proofs.Walks.{read_back}
 use Rattle.sheet_call_numbers.specs.CallNumbers.{call_kind_at, call_layer_at, paint_kind, remove_kind, call_of}
 use Rattle.sheet_calls.proofs.make_call.Lts
 use Rattle.sheet_calls.proofs.make_call.Reads
+use Rattle.sheet_calls.proofs.make_call.Tie
 use Rattle.sheet_calls.proofs.make_call.Goals as goal
 
 -- the facts known at these places
 abbrev Start : Type 0
-Start = Lts.Start Reads.Pre Reads.Post
+Start = Lts.Start Tie.the-claims Reads.Pre Reads.Post Tie.handed_clauses
 
 abbrev After-t6-1 : Type 0
-After-t6-1 = Lts.After-if12 Reads.Pre Reads.Post
+After-t6-1 = Lts.After-if12 Tie.the-claims Reads.Pre Reads.Post Tie.handed_clauses
 
 abbrev After-floor0 : Type 0
-After-floor0 = Lts.After-floor0 Reads.Pre Reads.Post
+After-floor0 = Lts.After-floor0 Tie.the-claims Reads.Pre Reads.Post Tie.handed_clauses
 
 abbrev After-t6-2-1 : Type 0
-After-t6-2-1 = Lts.After-if22 Reads.Pre Reads.Post
+After-t6-2-1 = Lts.After-if22 Tie.the-claims Reads.Pre Reads.Post Tie.handed_clauses
 
 abbrev After-floor0-then-numbers-ge-PAINT : Type 0
-After-floor0-then-numbers-ge-PAINT = Lts.After-floor02 Reads.Pre Reads.Post
+After-floor0-then-numbers-ge-PAINT = Lts.After-floor02 Tie.the-claims Reads.Pre Reads.Post Tie.handed_clauses
+
+abbrev After-style_of : Type 0
+After-style_of = Lts.After-style_of Tie.the-claims Reads.Pre Reads.Post Tie.handed_clauses
 
 abbrev start_if12 : After-t6-1 → Start
 start_if12 c = c.before.before.before
@@ -76,7 +80,7 @@ paints c =
     rw (not_removed c.before.before.before, paints_by_kind c.before.before.before c.if-numbers-ge-PAINT.true)
     (ap call_paint (sym layer))
 
-adds : (c : goal.After-style_of)
+adds : (c : After-style_of)
     → call_of c.args.background.now c.args.numbers.now
     ≡ call_add (styled_figure c.figure_of.result c.style_of.result)
 unfolding call_of
@@ -99,7 +103,7 @@ returns-then-numbers-ge-PAINT c =
 
 pub returns : goal.returns
 returns c =
-    let start = c.before.before.before.before.before.before.before.before.before.before.before in
+    let start = c.before.before.before.before.before.before.before.before.before.before.before.before in
     let item = styled_figure c.figure_of.result c.style_of.result in
     let any = add_takes_no_canvas c.args.sheet c.args.canvas.now item in
     rw (adds c.before)

@@ -16,14 +16,18 @@ use Rattle.sheet_calls.specs.SheetCalls.{refused_by, lent_check}
 use Rattle.sheet_calls.proofs.Runs.{run_from_lem, run_refused, run_not_calls, run_accepted}
 use Rattle.sheet_calls.proofs.run_calls.Lts
 use Rattle.sheet_calls.proofs.run_calls.Reads
+use Rattle.sheet_calls.proofs.run_calls.Tie
 use Rattle.sheet_calls.proofs.run_calls.Goals as goal
 
 -- the facts known at these places
 abbrev Start : Type 0
-Start = Lts.Start Reads.Pre Reads.Post
+Start = Lts.Start Tie.the-claims Reads.Pre Reads.Post Tie.handed_clauses
 
 abbrev After-or_else-checked : Type 0
-After-or_else-checked = Lts.After-or_else2 Reads.Pre Reads.Post
+After-or_else-checked = Lts.After-or_else2 Tie.the-claims Reads.Pre Reads.Post Tie.handed_clauses
+
+abbrev In-Passed : Type 0
+In-Passed = Lts.Past-After-enum_told Tie.the-claims Reads.Pre Reads.Post Tie.handed_clauses
 
 -- the check made is the definition's
 abbrev start : After-or_else-checked → Start
@@ -40,13 +44,13 @@ checked c =
     ∙ ap₂ first_of c.check.ensures c.check_length.ensures)
     c.check_room.ensures
 
-passed : (c : goal.In-Passed)
+passed : (c : In-Passed)
     → lent_check c.args.width c.args.height c.args.calls.now (length c.args.canvas.now)
     (length c.args.answers.now)
     ≡ Passed
 passed c = sym (checked c.before.before) ∙ c.in-Passed.is
 
-sizes_passed : (c : goal.In-Passed)
+sizes_passed : (c : In-Passed)
     → first_of (canvas_size_check c.args.width c.args.height)
     (canvas_length_check c.args.width c.args.height (length c.args.canvas.now))
     ≡ Passed
@@ -55,7 +59,7 @@ sizes_passed c =
     passed_first (first_of (canvas_size_check a.width a.height) (canvas_length_check a.width a.height (length a.canvas.now)))
     (room_check (call_count a.calls.now) (length a.answers.now)) (passed c)
 
-room_passed : (c : goal.In-Passed) → call_count c.args.calls.now ≤ length c.args.answers.now
+room_passed : (c : In-Passed) → call_count c.args.calls.now ≤ length c.args.answers.now
 room_passed c =
     let a = c.args in
     passed_above (length a.answers.now) (call_count a.calls.now) BufferLength
@@ -65,7 +69,7 @@ room_passed c =
 -- 6, 8 or 13
 pub returns-in_default : goal.returns-in_default
 returns-in_default c =
-    let check = c.before.before in
+    let check = c.before.before.before in
     let a = c.args in
     let told = c.in_default.is in record { answer_value = ap (λ (r : Refusal). refused_by (number r)) (refusal_found c.refusal.ensures c.in_default.is)
           ∙ sym (run_refused a.width a.height a.calls.now (length a.canvas.now) (length a.answers.now) _
@@ -74,7 +78,7 @@ returns-in_default c =
 -- no list of calls
 pub returns-then-not-encodes_calls : goal.returns-then-not-encodes_calls
 returns-then-not-encodes_calls c =
-    let told = c.before.before in
+    let told = c.before.before.before in
     let a = c.args in
     let none = sym c.encodes_calls.ensures ∙ not-true _ c.if-not-encodes_calls.true in record { answer_value = sym (run_not_calls a.width a.height a.calls.now (length a.canvas.now) (length a.answers.now) (passed told) none); run_leaves = record {
           sheet = c.open-opened.ensures.sheet_value;
@@ -83,16 +87,16 @@ returns-then-not-encodes_calls c =
         }; background_value = refl }
 
 pub make_calls-made-requires : goal.make_calls-made-requires
-make_calls-made-requires c = record { count_in_bounds = omega arith; count_in_bounds_2 = room_passed c.before.before.before.before }
+make_calls-made-requires c = record { count_in_bounds = omega arith; count_in_bounds_2 = room_passed c.before.before.before.before.before }
 
 pub returns : goal.returns
 returns c =
-    let made = c.before.before.before.before in
-    let told = c.before.before.before.before.before.before.before.before.before in
+    let made = c.before.before.before.before.before in
+    let told = c.before.before.before.before.before.before.before.before.before.before in
     let a = c.args in
     let calls = sym c.encodes_calls.ensures ∙ not-false _
     c.if-not-encodes_calls.false in
-    let opened = c.before.before.before.before.before.before.before.before.before.before.before.before.before.before.before.before in
+    let opened = c.before.before.before.before.before.before.before.before.before.before.before.before.before.before.before.before.before in
     let size = passed_first (canvas_size_check a.width a.height) (canvas_length_check a.width a.height (length a.canvas.now))
     (sizes_passed told) in
     let long = passed_next (canvas_size_check a.width a.height) (canvas_length_check a.width a.height (length a.canvas.now))

@@ -26,17 +26,18 @@ use Rattle.sheet_checks.proofs.Places.{kept_few, kept_layer}
 use Rattle.sheet_checks.proofs.Answers.{paint_broken, paint_length, paint_no_layer, paint_finished, paint_owed, paint_free, rows_at, rows_before}
 use Rattle.sheet_checks.proofs.asked_row.Lts
 use Rattle.sheet_checks.proofs.asked_row.Reads
+use Rattle.sheet_checks.proofs.asked_row.Tie
 use Rattle.sheet_checks.proofs.asked_row.Goals as goal
 
 -- the facts known at these places
 abbrev In-Passed : Type 0
-In-Passed = Lts.After-enum_told Reads.Pre Reads.Post
+In-Passed = Lts.Past-After-enum_told Tie.the-claims Reads.Pre Reads.Post Tie.handed_clauses
 
 abbrev After-own-1 : Type 0
-After-own-1 = Lts.After-own Reads.Pre Reads.Post
+After-own-1 = Lts.After-own Tie.the-claims Reads.Pre Reads.Post Tie.handed_clauses
 
 abbrev After-some_owes : Type 0
-After-some_owes = Lts.After-some_owes Reads.Pre Reads.Post
+After-some_owes = Lts.After-some_owes Tie.the-claims Reads.Pre Reads.Post Tie.handed_clauses
 
 sixteen : (c : goal.Start) → length c.args.places ≡ 16
 sixteen c = omega arith

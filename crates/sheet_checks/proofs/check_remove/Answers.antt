@@ -10,14 +10,15 @@ use Rattle.canvas_size.specs.CanvasSize.{canvas_length_check}
 use Rattle.sheet_checks.specs.Asked.{remove_check}
 use Rattle.sheet_checks.proofs.check_remove.Lts
 use Rattle.sheet_checks.proofs.check_remove.Reads
+use Rattle.sheet_checks.proofs.check_remove.Tie
 use Rattle.sheet_checks.proofs.check_remove.Goals as goal
 
 -- the facts known at these places
 abbrev Start : Type 0
-Start = Lts.Start Reads.Pre Reads.Post
+Start = Lts.Start Tie.the-claims Reads.Pre Reads.Post Tie.handed_clauses
 
 abbrev After-or_else-lent : Type 0
-After-or_else-lent = Lts.After-or_else Reads.Pre Reads.Post
+After-or_else-lent = Lts.After-or_else Tie.the-claims Reads.Pre Reads.Post Tie.handed_clauses
 
 abbrev kept : After-or_else-lent → goal.Else-not-kept
 kept c = c.before.before.before

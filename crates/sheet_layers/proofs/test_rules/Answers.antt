@@ -9,11 +9,12 @@ use Rattle.sheet_layers.proofs.RowTests.{no_rows}
 use Rattle.sheet_layers.proofs.LayerRules.{not_kept, FoundFrom, found_none, broken_here, found_here, found_all}
 use Rattle.sheet_layers.proofs.test_rules.Lts
 use Rattle.sheet_layers.proofs.test_rules.Reads
+use Rattle.sheet_layers.proofs.test_rules.Tie
 use Rattle.sheet_layers.proofs.test_rules.Goals as goal
 
 -- the facts known at these places
 abbrev After-rows : Type 0
-After-rows = Lts.After-rows Reads.Pre Reads.Post goal.the-invariant-loop-i goal.the-decreases-loop-i
+After-rows = Lts.After-rows Tie.the-claims Reads.Pre Reads.Post goal.the-invariant-loop-i goal.the-decreases-loop-i Tie.handed_clauses
 
 -- the place reached is one of the first
 step : (c : After-rows) → c.loop-i.i - 1 + 1 ≡ c.loop-i.i

@@ -16,11 +16,12 @@ use Rattle.sheet_remove.specs.Removal.{laid_over}
 use Rattle.sheet_remove.proofs.Restored.{row_held, laid_over_none, laid_over_one, painted, painted_length}
 use Rattle.sheet_remove.proofs.lay_over.Lts
 use Rattle.sheet_remove.proofs.lay_over.Reads
+use Rattle.sheet_remove.proofs.lay_over.Tie
 use Rattle.sheet_remove.proofs.lay_over.Goals as goal
 
 -- the facts known at these places
 abbrev Start : Type 0
-Start = Lts.Start Reads.Pre Reads.Post goal.the-invariant-loop-j goal.the-decreases-loop-j
+Start = Lts.Start Tie.the-claims Reads.Pre Reads.Post goal.the-invariant-loop-j goal.the-decreases-loop-j Tie.handed_clauses
 
 sixteen : (c : Start) → length c.args.layers ≡ 16
 sixteen c = omega arith
@@ -82,7 +83,7 @@ loop-j-smaller c = omega arith
 
 pub loop-j-preserved : goal.loop-j-preserved
 loop-j-preserved c =
-    let at = c.before.before.before.before.before in
+    let at = c.before.before.before.before.before.before in
     let walk = c.loop-j in
     let a = c.args in
     let W = a.size.width in
@@ -97,7 +98,7 @@ loop-j-preserved c =
       ap (laid_over W H a.from a.to rest) done
           ∙ sym (laid_over_one W H a.from a.to (layer at) rest c.loop-j.canvas size)
           ∙ ap (λ (l : List Layer). laid_over W H a.from a.to (map layer_of l) c.loop-j.canvas)
-          (sym (place_here a.t3 a.end c.loop-j.j blank_layer (left at) (omega (arith, sixteen c.before.before.before.before.before.before.before.before.before.before.before.before.before.before.before))))
+          (sym (place_here a.t3 a.end c.loop-j.j blank_layer (left at) (omega (arith, sixteen c.before.before.before.before.before.before.before.before.before.before.before.before.before.before.before.before))))
           ∙ c.loop-j.invariant.0,
       ap length done ∙ painted_length W H a.from a.to (layer at) rest c.loop-j.canvas size ∙ sym c.requires.canvas_len,
     )

@@ -55,7 +55,7 @@ loop-y-smaller c = omega arith
 
 pub loop-y-preserved : goal.loop-y-preserved
 loop-y-preserved c =
-    let start = c.before.before.before.before.before.before.before.before.before in
+    let start = c.before.before.before.before.before.before.before.before.before.before in
     let walk = c.loop-y in
     let a = c.args in
     let W = a.size.width in

@@ -20,17 +20,18 @@ use Rattle.sheet_remove.specs.Removal.{laid_over}
 use Rattle.sheet_remove.proofs.Restored.{row_held, laid_over_length, restored_by_layers}
 use Rattle.sheet_remove.proofs.restore.Lts
 use Rattle.sheet_remove.proofs.restore.Reads
+use Rattle.sheet_remove.proofs.restore.Tie
 use Rattle.sheet_remove.proofs.restore.Goals as goal
 
 -- the facts known at these places
 abbrev Start : Type 0
-Start = Lts.Start Reads.Pre Reads.Post
+Start = Lts.Start Tie.the-claims Reads.Pre Reads.Post Tie.handed_clauses
 
 abbrev After-least-to : Type 0
-After-least-to = Lts.After-least2 Reads.Pre Reads.Post
+After-least-to = Lts.After-least2 Tie.the-claims Reads.Pre Reads.Post Tie.handed_clauses
 
 abbrev After-copy_bytes : Type 0
-After-copy_bytes = Lts.After-copy_bytes Reads.Pre Reads.Post
+After-copy_bytes = Lts.After-copy_bytes Tie.the-claims Reads.Pre Reads.Post Tie.handed_clauses
 
 abbrev layer : After-least-to → Layer
 layer c = get_or c.args.layers c.args.place blank_layer
@@ -95,7 +96,7 @@ copied_long c =
 
 pub overflow_mul-width : goal.overflow_mul-width
 overflow_mul-width c =
-    let at = c.before.before in
+    let at = c.before.before.before in
     let a = c.args in
     let wide = c.requires.width_le_max_canvas_side.0 in
     let high = c.requires.width_le_max_canvas_side.1 in
@@ -104,7 +105,7 @@ overflow_mul-width c =
 
 pub overflow_mul-width-2 : goal.overflow_mul-width-2
 overflow_mul-width-2 c =
-    let at = c.before.before in
+    let at = c.before.before.before in
     let a = c.args in
     let wide = c.requires.width_le_max_canvas_side.0 in
     let high = c.requires.width_le_max_canvas_side.1 in
@@ -113,24 +114,24 @@ overflow_mul-width-2 c =
 
 pub copy_bytes-requires : goal.copy_bytes-requires
 copy_bytes-requires c =
-    let at = c.before.before in
+    let at = c.before.before.before in
     let a = c.args in
     let pre = c.requires in record { background_len = pre.1.0 ∙ sym pre.0; to_in_bounds = omega (arith, pre.0, row_within a.size.width a.size.height _ _ (to_is at)) }
 
 pub lay_over-requires : goal.lay_over-requires
 lay_over-requires c =
-    let at = c.before.before.before.before.before.before in
+    let at = c.before.before.before.before.before.before.before in
     let a = c.args in
     let pre = c.requires in
     let limits = pre.1.1.0 in
     let high = limits.1 in
     let places = pre.1.1.1 in
     let before = places.0 in
-    let few = places.1 in record { canvas_len = copied_long c.before.before.before; width_le_max_canvas_side = (limits.0, omega (arith, to_is c.before.before.before.before.before.before)); end_le_max_layers = (omega arith, ready_fewer a.layers a.t5 a.count a.place (omega arith) places.2) }
+    let few = places.1 in record { canvas_len = copied_long c.before.before.before.before; width_le_max_canvas_side = (limits.0, omega (arith, to_is c.before.before.before.before.before.before.before)); end_le_max_layers = (omega arith, ready_fewer a.layers a.t5 a.count a.place (omega arith) places.2) }
 
 pub lay_over-requires-2 : goal.lay_over-requires-2
 lay_over-requires-2 c =
-    let at = c.before.before.before.before.before.before.before.before.before.before in
+    let at = c.before.before.before.before.before.before.before.before.before.before.before in
     let a = c.args in
     let pre = c.requires in
     let limits = pre.1.1.0 in
@@ -138,11 +139,11 @@ lay_over-requires-2 c =
     let places = pre.1.1.1 in
     let few = places.1 in record { canvas_len = ap length c.lay_over.ensures
           ∙ laid_over_length a.size.width a.size.height _ _ (earlier_of at) _
-          (copied_long c.before.before.before.before.before.before.before); width_le_max_canvas_side = (limits.0, omega (arith, to_is c.before.before.before.before.before.before.before.before.before.before)); end_le_max_layers = (few, places.2) }
+          (copied_long c.before.before.before.before.before.before.before); width_le_max_canvas_side = (limits.0, omega (arith, to_is c.before.before.before.before.before.before.before.before.before.before.before)); end_le_max_layers = (few, places.2) }
 
 pub returns : goal.returns
 returns c =
-    let at = c.before.before.before.before.before.before.before.before.before.before.before.before.before in
+    let at = c.before.before.before.before.before.before.before.before.before.before.before.before.before.before in
     let a = c.args in
     let pre = c.requires in
     let W = a.size.width in

@@ -7,11 +7,12 @@ use Rattle.styled_straight.specs.StraightRow.{Told}
 use Rattle.styled.specs.Styled.{styled_row}
 use Rattle.styled.proofs.row_at.Lts
 use Rattle.styled.proofs.row_at.Reads
+use Rattle.styled.proofs.row_at.Tie
 use Rattle.styled.proofs.row_at.Goals as goal
 
 -- the facts known at these places
 abbrev After-straight_row_of : Type 0
-After-straight_row_of = Lts.After-straight_row_of Reads.Pre Reads.Post
+After-straight_row_of = Lts.After-straight_row_of Tie.the-claims Reads.Pre Reads.Post Tie.handed_clauses
 
 -- by both areas
 pub returns-in_default : goal.returns-in_default

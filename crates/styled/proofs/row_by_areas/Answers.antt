@@ -20,11 +20,12 @@ use Rattle.style.proofs.StrokeWidths.{outside_within_stroke, inside_within_strok
 use Rattle.styled.specs.Styled.{styled_row}
 use Rattle.styled.proofs.row_by_areas.Lts
 use Rattle.styled.proofs.row_by_areas.Reads
+use Rattle.styled.proofs.row_by_areas.Tie
 use Rattle.styled.proofs.row_by_areas.Goals as goal
 
 -- the facts known at these places
 abbrev After-sub-inward : Type 0
-After-sub-inward = Lts.After-sub Reads.Pre Reads.Post
+After-sub-inward = Lts.After-sub Tie.the-claims Reads.Pre Reads.Post Tie.handed_clauses
 
 -- ---- the two offsets
 abbrev start : After-sub-inward → goal.Start

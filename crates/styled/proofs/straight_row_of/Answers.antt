@@ -13,11 +13,12 @@ use Rattle.styled_straight.specs.StraightRow.{Told}
 use Rattle.styled.proofs.Told.{IsBox, own_box, figure_told}
 use Rattle.styled.proofs.straight_row_of.Lts
 use Rattle.styled.proofs.straight_row_of.Reads
+use Rattle.styled.proofs.straight_row_of.Tie
 use Rattle.styled.proofs.straight_row_of.Goals as goal
 
 -- the facts known at these places
 abbrev After-inside_stroke_width-inside : Type 0
-After-inside_stroke_width-inside = Lts.After-inside_stroke_width Reads.Pre Reads.Post
+After-inside_stroke_width-inside = Lts.After-inside_stroke_width Tie.the-claims Reads.Pre Reads.Post Tie.handed_clauses
 
 -- the stroke's widths are within bounds
 widths : (c : After-inside_stroke_width-inside)

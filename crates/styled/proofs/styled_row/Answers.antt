@@ -17,14 +17,15 @@ use Rattle.styled.specs.Styled.{styled_row}
 use Rattle.styled.specs.Calls.{styled_row_values}
 use Rattle.styled.proofs.styled_row.Lts
 use Rattle.styled.proofs.styled_row.Reads
+use Rattle.styled.proofs.styled_row.Tie
 use Rattle.styled.proofs.styled_row.Goals as goal
 
 -- the facts known at these places
 abbrev After-or_else-checked : Type 0
-After-or_else-checked = Lts.After-or_else2 Reads.Pre Reads.Post
+After-or_else-checked = Lts.After-or_else2 Tie.the-claims Reads.Pre Reads.Post Tie.handed_clauses
 
 abbrev After-row_at : Type 0
-After-row_at = Lts.After-row_at Reads.Pre Reads.Post
+After-row_at = Lts.After-row_at Tie.the-claims Reads.Pre Reads.Post Tie.handed_clauses
 
 -- the check made is the definition's
 checked : (c : After-or_else-checked)

@@ -14,11 +14,12 @@ use Rattle.shape.proofs.Runs.{start_is_near, end_is_near}
 use Rattle.styled_row.specs.StyledRow.{box_styled_row}
 use Rattle.styled_row.proofs.box_row.Lts
 use Rattle.styled_row.proofs.box_row.Reads
+use Rattle.styled_row.proofs.box_row.Tie
 use Rattle.styled_row.proofs.box_row.Goals as goal
 
 -- the facts known at these places
 abbrev After-row : Type 0
-After-row = Lts.After-row Reads.Pre Reads.Post
+After-row = Lts.After-row Tie.the-claims Reads.Pre Reads.Post Tie.handed_clauses
 
 -- the stroke area's row is the definition's
 row_is : (c : After-row) (told : Row) → c.row.result ≡ told → told ≡ confined_box_row c.args.area c.args.y

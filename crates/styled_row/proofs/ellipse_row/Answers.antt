@@ -26,23 +26,30 @@ use Rattle.ellipse_styled.proofs.Rows.{styled_out, styled_found}
 use Rattle.styled_row.proofs.EllipseRow.{start_fits, difference_fits, rows_there, run_first}
 use Rattle.styled_row.proofs.ellipse_row.Lts
 use Rattle.styled_row.proofs.ellipse_row.Reads
+use Rattle.styled_row.proofs.ellipse_row.Tie
 use Rattle.styled_row.proofs.ellipse_row.Goals as goal
 
 -- the facts known at these places
 abbrev Start : Type 0
-Start = Lts.Start Reads.Pre Reads.Post
+Start = Lts.Start Tie.the-claims Reads.Pre Reads.Post Tie.handed_clauses
+
+abbrev In-At : Type 0
+In-At = Lts.Past-After-known_told Tie.the-claims Reads.Pre Reads.Post Tie.handed_clauses
 
 abbrev After-row : Type 0
-After-row = Lts.After-row Reads.Pre Reads.Post
+After-row = Lts.After-row Tie.the-claims Reads.Pre Reads.Post Tie.handed_clauses
 
 abbrev In-Run : Type 0
-In-Run = Lts.After-known_told2 Reads.Pre Reads.Post
+In-Run = Lts.Past-After-known_told2 Tie.the-claims Reads.Pre Reads.Post Tie.handed_clauses
+
+abbrev After-floor0-s : Type 0
+After-floor0-s = Lts.After-floor0 Tie.the-claims Reads.Pre Reads.Post Tie.handed_clauses
 
 -- ---- where the asked row stands
-abbrev start : goal.In-At → Start
+abbrev start : In-At → Start
 start c = c.before.before.before.before.before
 
-row_place : (c : goal.In-At)
+row_place : (c : In-At)
     → Placed c.args.area.top_left.y c.args.area.size.height c.args.y (At c.in-At.dy)
 row_place c =
     let at_place_of = c.place_of in
@@ -73,10 +80,10 @@ run_start_fits c =
     let area = c.requires.bounded in
     start_fits _ _ _ area.at.x area.size.width (run_ends c).start_from (run_ends c).start_to
 
-abbrev told : goal.After-floor0-s → In-Run
+abbrev told : After-floor0-s → In-Run
 told c = c.before.before.before.before
 
-place_is : (c : goal.After-floor0-s) → c.floor0-s.result ≡ floor0
+place_is : (c : After-floor0-s) → c.floor0-s.result ≡ floor0
     (c.in-Run.run'.start -ℤ (entry c.before.before.before.before).args.area.top_left.x)
 place_is c =
     let sum = c.sub.ensures in
@@ -84,7 +91,7 @@ place_is c =
     ∙ ap floor0 (to_z-of_z c.sub.ensures.fits ∙ c.sub.ensures.is ∙
     (λ i. to_z-of_z (run_start_fits c.before.before.before.before) i -ℤ to_z-of_z (entry c.before.before.before.before).requires.0.at.x.fits i))
 
-first_is : (c : goal.After-floor0-s)
+first_is : (c : After-floor0-s)
     → first_inside (entry c.before.before.before.before).args.area.size.width (entry c.before.before.before.before).args.area.size.height
     (found c.before.before.before.before).before.before.dy.given.0.0 ≡ At c.floor0-s.result
 first_is c =
@@ -112,21 +119,21 @@ returns-in_default-row c =
 
 pub sub-requires : goal.sub-requires
 sub-requires c =
-    let at = c.before.before in
+    let at = c.before.before.before in
     let area = c.requires.bounded in
     rw (to_z-of_z (run_start_fits at), to_z-of_z area.at.x.fits)
     (difference_fits _ _ _ area.at.x area.size.width (run_ends at).start_from (run_ends at).start_to)
 
 pub gap-distance-requires : goal.gap-distance-requires
-gap-distance-requires c = ((row_place (found c.before.before.before.before).before).1, (entry c.before.before.before.before).requires.0.size.height)
+gap-distance-requires c = ((row_place (found c.before.before.before.before.before).before).1, (entry c.before.before.before.before.before).requires.0.size.height)
 
 pub ellipse_runs-requires : goal.ellipse_runs-requires
 ellipse_runs-requires c =
-    let after = c.before.before in
-    let area = (entry c.before.before.before.before.before.before).requires.0 in
+    let after = c.before.before.before in
+    let area = (entry c.before.before.before.before.before.before.before).requires.0 in
     let half = first_inside_half _ _ _ _ (first_is after) in
     let near = area.at.x in
-    let tall = area.size.height in record { near = rw (to_z-of_z near.fits) near; width_le_wide_side = (area.size.width, omega arith, omega arith); size_up_to = (entry c.before.before.before.before.before.before).requires.1.0 }
+    let tall = area.size.height in record { near = rw (to_z-of_z near.fits) near; width_le_wide_side = (area.size.width, omega arith, omega arith); size_up_to = (entry c.before.before.before.before.before.before.before).requires.1.0 }
 
 pub returns : goal.returns
 returns c =

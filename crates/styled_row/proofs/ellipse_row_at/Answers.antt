@@ -10,11 +10,12 @@ use Rattle.figure.specs.Bounds.{AreaRectangle}
 use Rattle.figure.proofs.Within.{own_area, area_bounded, offset_area}
 use Rattle.styled_row.proofs.ellipse_row_at.Lts
 use Rattle.styled_row.proofs.ellipse_row_at.Reads
+use Rattle.styled_row.proofs.ellipse_row_at.Tie
 use Rattle.styled_row.proofs.ellipse_row_at.Goals as goal
 
 -- the facts known at these places
 abbrev After-offset-inner : Type 0
-After-offset-inner = Lts.After-offset2 Reads.Pre Reads.Post
+After-offset-inner = Lts.After-offset2 Tie.the-claims Reads.Pre Reads.Post Tie.handed_clauses
 
 -- the two areas' rectangles
 area_is : (c : goal.After-offset-area)

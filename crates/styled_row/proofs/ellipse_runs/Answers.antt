@@ -13,11 +13,12 @@ use Rattle.ellipse_search.specs.Search.{column_inside}
 use Rattle.ellipse_styled.specs.Relative.{runs_from}
 use Rattle.styled_row.proofs.ellipse_runs.Lts
 use Rattle.styled_row.proofs.ellipse_runs.Reads
+use Rattle.styled_row.proofs.ellipse_runs.Tie
 use Rattle.styled_row.proofs.ellipse_runs.Goals as goal
 
 -- the facts known at these places
 abbrev After-first_inside : Type 0
-After-first_inside = Lts.After-first_inside Reads.Pre Reads.Post
+After-first_inside = Lts.After-first_inside Tie.the-claims Reads.Pre Reads.Post Tie.handed_clauses
 
 -- the place found is the definition's
 abbrev entry : After-first_inside → goal.Start

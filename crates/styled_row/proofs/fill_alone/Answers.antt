@@ -15,14 +15,15 @@ use Rattle.box_fill.specs.Relative.{row_fill}
 use Rattle.box_fill.proofs.Rows.{fill_off_rows, fill_relative}
 use Rattle.styled_row.proofs.fill_alone.Lts
 use Rattle.styled_row.proofs.fill_alone.Reads
+use Rattle.styled_row.proofs.fill_alone.Tie
 use Rattle.styled_row.proofs.fill_alone.Goals as goal
 
 -- the facts known at these places
 abbrev Start : Type 0
-Start = Lts.Start Reads.Pre Reads.Post
+Start = Lts.Start Tie.the-claims Reads.Pre Reads.Post Tie.handed_clauses
 
 abbrev After-place_of : Type 0
-After-place_of = Lts.After-place_of Reads.Pre Reads.Post
+After-place_of = Lts.After-place_of Tie.the-claims Reads.Pre Reads.Post Tie.handed_clauses
 
 row_place : (c : After-place_of) (told : Place) → c.place_of.result ≡ told
     → Placed (top (plain_box c.args.b)) (height (plain_box c.args.b)) c.args.y told
@@ -30,7 +31,7 @@ row_place c told is = placed_told _ _ _ c.requires.bounded_box.at.y.fits c.requi
 
 pub place_of-requires : goal.place_of-requires
 place_of-requires c =
-    let start = c.before.before.before.before in
+    let start = c.before.before.before.before.before in
     let tall = c.requires.bounded_box.size.height in
     let first = c.requires.bounded_box.at.y in record { near = rw (to_z-of_z first.fits) first; n_le_wide_side = omega arith; near_2 = rw (to_z-of_z c.requires.near.fits) c.requires.near }
 
@@ -45,10 +46,10 @@ returns-in_default c =
 
 pub row_fill-found-requires : goal.row_fill-found-requires
 row_fill-found-requires c =
-    let after = c.before.before.before.before in
+    let after = c.before.before.before.before.before in
     let dy = c.in-At.given in
     let made = c.new.ensures in
-    let first = c.requires.bounded_box.at.x in record { near = rw (to_z-of_z first.fits) first; ready_box = c.new.ensures.2; dy_lt_height = subst (λ (s : Size). dy.0.0 < s.height) (sym c.new.ensures.0) (row_place c.before.before.before.before (At dy.0.0) dy.1).1; near_run = c.requires.near_run }
+    let first = c.requires.bounded_box.at.x in record { near = rw (to_z-of_z first.fits) first; ready_box = c.new.ensures.2; dy_lt_height = subst (λ (s : Size). dy.0.0 < s.height) (sym c.new.ensures.0) (row_place c.before.before.before.before.before (At dy.0.0) dy.1).1; near_run = c.requires.near_run }
 
 pub returns : goal.returns
 returns c =

@@ -26,17 +26,21 @@ use Rattle.styled_straight.specs.StraightRow.{Reach}
 use Rattle.styled_straight.proofs.Straight.{whole_run, straight_row_is}
 use Rattle.styled_straight.proofs.row_past.Lts
 use Rattle.styled_straight.proofs.row_past.Reads
+use Rattle.styled_straight.proofs.row_past.Tie
 use Rattle.styled_straight.proofs.row_past.Goals as goal
 
 -- the facts known at these places
 abbrev Start : Type 0
-Start = Lts.Start Reads.Pre Reads.Post
+Start = Lts.Start Tie.the-claims Reads.Pre Reads.Post Tie.handed_clauses
 
 abbrev In-At : Type 0
-In-At = Lts.After-known_told Reads.Pre Reads.Post
+In-At = Lts.Past-After-known_told Tie.the-claims Reads.Pre Reads.Post Tie.handed_clauses
+
+abbrev In-At-place_of : Type 0
+In-At-place_of = Lts.Past-After-known_told2 Tie.the-claims Reads.Pre Reads.Post Tie.handed_clauses
 
 abbrev After-run_between-run : Type 0
-After-run_between-run = Lts.After-run_between Reads.Pre Reads.Post
+After-run_between-run = Lts.After-run_between Tie.the-claims Reads.Pre Reads.Post Tie.handed_clauses
 
 -- where the row stands in each area
 abbrev start : In-At → Start
@@ -48,10 +52,10 @@ row_place c =
     placed_told _ _ _ c.requires.area_rectangle.at.y.fits c.requires.near.fits c.place_of.ensures
     c.in-At.is
 
-abbrev outer : goal.In-At-place_of → In-At
+abbrev outer : In-At-place_of → In-At
 outer c = c.before.before.before.before.before
 
-inner_place : (c : goal.In-At-place_of)
+inner_place : (c : In-At-place_of)
     → Placed (start c.before.before.before.before.before).args.inner.top_left.y (start c.before.before.before.before.before).args.inner.size.height (start c.before.before.before.before.before).args.y
     (At c.in-At-place_of.inner_dy)
 inner_place c =
@@ -59,7 +63,7 @@ inner_place c =
     c.place_of-2.ensures c.in-At-place_of.is
 
 -- the stroke area's run
-abbrev placed : After-run_between-run → goal.In-At-place_of
+abbrev placed : After-run_between-run → In-At-place_of
 placed c = c.before.before.before.before.before.before
 
 run_is : (c : After-run_between-run) → c.run_between-run.result ≡ whole_run (start (outer c.before.before.before.before.before.before)).args.area
@@ -84,24 +88,24 @@ place_of-requires c =
 
 pub place_of-requires-2 : goal.place_of-requires-2
 place_of-requires-2 c =
-    let entry = start c.before.before.before in
+    let entry = start c.before.before.before.before in
     let inner = area_bounded _ entry.pre.1.0 in
     let near = entry.pre.1.1 in record { near = rw (to_z-of_z inner.at.y.fits) inner.at.y; n_le_wide_side = inner.size.height; near_2 = rw (to_z-of_z near.fits) near }
 
 pub is_past-requires : goal.is_past-requires
-is_past-requires c = (row_place c.before.before.before.before.before).1
+is_past-requires c = (row_place c.before.before.before.before.before.before).1
 
 pub is_past-requires-2 : goal.is_past-requires-2
 is_past-requires-2 c = (inner_place c.before.before).1
 
 pub run_between-run-requires : goal.run_between-run-requires
 run_between-run-requires c =
-    let area = area_bounded _ (start c.before.before.before.before.before.before.before.before.before.before).requires.0 in record { near = rw (to_z-of_z area.at.x.fits) area.at.x; width_le_wide_side = area.size.width; left_le_width = (omega arith, omega arith) }
+    let area = area_bounded _ (start c.before.before.before.before.before.before.before.before.before.before.before).requires.0 in record { near = rw (to_z-of_z area.at.x.fits) area.at.x; width_le_wide_side = area.size.width; left_le_width = (omega arith, omega arith) }
 
 pub filled_between-requires : goal.filled_between-requires
 filled_between-requires c =
-    let after = c.before in
-    let entry = start (outer c.before.before.before.before.before.before.before) in
+    let after = c.before.before in
+    let entry = start (outer c.before.before.before.before.before.before.before.before) in
     let area = entry.pre.0 in
     let inner = area_bounded _ entry.pre.1.0 in
     let a = entry.args.area in

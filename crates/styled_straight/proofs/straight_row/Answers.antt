@@ -18,11 +18,12 @@ use Rattle.styled_straight.specs.StraightRow.{box_with, Reach, Told}
 use Rattle.styled_straight.proofs.Straight.{reach_within, reach_outward, reach_inward}
 use Rattle.styled_straight.proofs.straight_row.Lts
 use Rattle.styled_straight.proofs.straight_row.Reads
+use Rattle.styled_straight.proofs.straight_row.Tie
 use Rattle.styled_straight.proofs.straight_row.Goals as goal
 
 -- the facts known at these places
 abbrev Start : Type 0
-Start = Lts.Start Reads.Pre Reads.Post
+Start = Lts.Start Tie.the-claims Reads.Pre Reads.Post Tie.handed_clauses
 
 -- the two areas' rectangles
 abbrev start : goal.After-offset-area → Start

@@ -7,5 +7,4 @@ unfolding on_row
 returns c = (
   rw (c.left_after.ensures, c.times-product.ensures.0, c.distance_square.ensures.0),
   c.requires.small_weights.x_weight,
-
 )

@@ -17,17 +17,21 @@ use Rattle.ellipse_styled.specs.Relative.{runs_from}
 use Rattle.ellipse_styled.proofs.Rows.{styled_out, styled_lacking, styled_none, styled_found, first_inside_found}
 use Rattle.ellipse_styled.proofs.StyledEllipse.row.Lts
 use Rattle.ellipse_styled.proofs.StyledEllipse.row.Reads
+use Rattle.ellipse_styled.proofs.StyledEllipse.row.Tie
 use Rattle.ellipse_styled.proofs.StyledEllipse.row.Goals as goal
 
 -- the facts known at these places
 abbrev Start : Type 0
-Start = Lts.Start Reads.Pre Reads.Post
+Start = Lts.Start Tie.the-claims Reads.Pre Reads.Post Tie.handed_clauses
 
 abbrev In-At : Type 0
-In-At = Lts.After-known_told Reads.Pre Reads.Post
+In-At = Lts.Past-After-known_told Tie.the-claims Reads.Pre Reads.Post Tie.handed_clauses
+
+abbrev Else-not-self : Type 0
+Else-not-self = Lts.Else1 Tie.the-claims Reads.Pre Reads.Post Tie.handed_clauses
 
 abbrev After-scan_inside : Type 0
-After-scan_inside = Lts.After-scan_inside Reads.Pre Reads.Post
+After-scan_inside = Lts.After-scan_inside Tie.the-claims Reads.Pre Reads.Post Tie.handed_clauses
 
 -- where the asked row stands, that there are rows, and where the stroke starts
 row_place : (c : In-At) →
@@ -38,7 +42,7 @@ row_place c =
     let entry = c.before.before.before.before.before.before in
     placed_told _ _ _ c.requires.ready_ellipse.area.at.y.fits c.requires.near.fits c.place_of.ensures c.in-At.is
 
-rows_there : (c : goal.Else-not-self) → first_row_inside c.args.self.area.size.width c.args.self.area.size.height
+rows_there : (c : Else-not-self) → first_row_inside c.args.self.area.size.width c.args.self.area.size.height
     ≡ true
 rows_there c =
     sym c.requires.ready_ellipse.rows ∙ not-false _ c.if-not-self.false
@@ -73,7 +77,7 @@ gap-distance-requires c =
 
 pub scan_inside-requires : goal.scan_inside-requires
 scan_inside-requires c =
-    let entry = c.before.before.before.before.before.before.before.before.before.before in
+    let entry = c.before.before.before.before.before.before.before.before.before.before.before in
     let wide = first_row_wide _ _ (rows_there c.before.before) in
     let tall = c.requires.ready_ellipse.area.size.height in record { small_weights = c.requires.ready_ellipse.stroke_weights; width_nonzero = (wide, c.requires.ready_ellipse.area.size.width, omega arith); from_bound = (omega arith, c.requires.ready_ellipse.area.size.width) }
 
@@ -86,8 +90,8 @@ returns-in_default-scan_inside c =
 
 pub runs_at-found-requires : goal.runs_at-found-requires
 runs_at-found-requires c =
-    let entry = asked c.before.before.before in
-    let half = first_inside_half _ _ _ _ (stroke_start c.before.before.before ∙ c.in-At-scan_inside.is) in
+    let entry = asked c.before.before.before.before in
+    let half = first_inside_half _ _ _ _ (stroke_start c.before.before.before.before ∙ c.in-At-scan_inside.is) in
     let tall = entry.pre.0.area.size.height in
     let near = entry.pre.0.area.at.x in record { near = rw (to_z-of_z near.fits) near; width_le_wide_side = (entry.pre.0.area.size.width, omega arith, omega arith); small_weights = entry.pre.0.fill_weights }
 

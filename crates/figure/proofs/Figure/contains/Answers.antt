@@ -13,11 +13,12 @@ use Rattle.figure.proofs.Within.{figure_passed, own_figure_bounded, point_wider}
 use native.Mathlib.Omega.{arith}
 use Rattle.figure.proofs.Figure.contains.Lts
 use Rattle.figure.proofs.Figure.contains.Reads
+use Rattle.figure.proofs.Figure.contains.Tie
 use Rattle.figure.proofs.Figure.contains.Goals as goal
 
 -- the facts known at these places
 abbrev After-or_else-checked : Type 0
-After-or_else-checked = Lts.After-or_else Reads.Pre Reads.Post
+After-or_else-checked = Lts.After-or_else Tie.the-claims Reads.Pre Reads.Post Tie.handed_clauses
 
 -- the check made is the definition's
 checked : (c : After-or_else-checked) → c.or_else-checked.result ≡ or_else (figure_check c.args.self)

@@ -14,14 +14,15 @@ use native.Mathlib.Omega.{arith}
 use Rattle.signed.proofs.Laws.{int}
 use Rattle.figure.proofs.Figure.row.Lts
 use Rattle.figure.proofs.Figure.row.Reads
+use Rattle.figure.proofs.Figure.row.Tie
 use Rattle.figure.proofs.Figure.row.Goals as goal
 
 -- the facts known at these places
 abbrev After-or_else-checked : Type 0
-After-or_else-checked = Lts.After-or_else Reads.Pre Reads.Post
+After-or_else-checked = Lts.After-or_else Tie.the-claims Reads.Pre Reads.Post Tie.handed_clauses
 
 abbrev After-row : Type 0
-After-row = Lts.After-row Reads.Pre Reads.Post
+After-row = Lts.After-row Tie.the-claims Reads.Pre Reads.Post Tie.handed_clauses
 
 -- the check made is the definition's
 checked : (c : After-or_else-checked) → c.or_else-checked.result ≡ or_else (figure_check c.args.self)

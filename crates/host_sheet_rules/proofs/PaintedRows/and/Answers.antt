@@ -9,11 +9,12 @@ use Rattle.sheet_layers.proofs.RowTests.{RowsFit, le_held}
 use Rattle.host_sheet_rules.specs.RecordRules.{also_painted}
 use Rattle.host_sheet_rules.proofs.PaintedRows.and.Lts
 use Rattle.host_sheet_rules.proofs.PaintedRows.and.Reads
+use Rattle.host_sheet_rules.proofs.PaintedRows.and.Tie
 use Rattle.host_sheet_rules.proofs.PaintedRows.and.Goals as goal
 
 -- the facts known at these places
 abbrev Start : Type 0
-Start = Lts.Start Reads.Pre Reads.Post
+Start = Lts.Start Tie.the-claims Reads.Pre Reads.Post Tie.handed_clauses
 
 -- what the numbers fit
 rows_fit : (c : Start) → RowsFit c.args.rows

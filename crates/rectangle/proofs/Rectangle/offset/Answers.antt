@@ -14,11 +14,12 @@ use native.Mathlib.Omega.{arith}
 use Rattle.signed.proofs.Laws.{int}
 use Rattle.rectangle.proofs.Rectangle.offset.Lts
 use Rattle.rectangle.proofs.Rectangle.offset.Reads
+use Rattle.rectangle.proofs.Rectangle.offset.Tie
 use Rattle.rectangle.proofs.Rectangle.offset.Goals as goal
 
 -- the facts known at these places
 abbrev After-or_else-checked : Type 0
-After-or_else-checked = Lts.After-or_else Reads.Pre Reads.Post
+After-or_else-checked = Lts.After-or_else Tie.the-claims Reads.Pre Reads.Post Tie.handed_clauses
 
 -- the check made is the definition's
 checked : (c : After-or_else-checked) → c.or_else-checked.result ≡ or_else (rectangle_check c.args.self)

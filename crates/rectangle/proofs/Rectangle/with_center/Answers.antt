@@ -11,11 +11,12 @@ use Rattle.rectangle.proofs.Checks.{with_center_refused}
 use native.Mathlib.Omega.{arith}
 use Rattle.rectangle.proofs.Rectangle.with_center.Lts
 use Rattle.rectangle.proofs.Rectangle.with_center.Reads
+use Rattle.rectangle.proofs.Rectangle.with_center.Tie
 use Rattle.rectangle.proofs.Rectangle.with_center.Goals as goal
 
 -- the facts known at these places
 abbrev After-or_else-checked : Type 0
-After-or_else-checked = Lts.After-or_else Reads.Pre Reads.Post
+After-or_else-checked = Lts.After-or_else Tie.the-claims Reads.Pre Reads.Post Tie.handed_clauses
 
 -- the check made
 checked : (c : After-or_else-checked) → c.or_else-checked.result ≡ or_else (size_check c.args.size)

@@ -12,11 +12,12 @@ use native.Mathlib.Omega.{arith}
 use Rattle.signed.proofs.Laws.{int}
 use Rattle.rounded_rectangle.proofs.ConfinedBox.contains.Lts
 use Rattle.rounded_rectangle.proofs.ConfinedBox.contains.Reads
+use Rattle.rounded_rectangle.proofs.ConfinedBox.contains.Tie
 use Rattle.rounded_rectangle.proofs.ConfinedBox.contains.Goals as goal
 
 -- the facts known at these places
 abbrev Start : Type 0
-Start = Lts.Start Reads.Pre Reads.Post
+Start = Lts.Start Tie.the-claims Reads.Pre Reads.Post Tie.handed_clauses
 
 -- where the asked column and row stand
 column_place : (c : goal.After-corners-1) →
@@ -39,7 +40,7 @@ row_place c =
 
 pub place_of-requires : goal.place_of-requires
 place_of-requires c =
-    let entry = c.before.before.before.before.before in
+    let entry = c.before.before.before.before.before.before in
     let wide = c.requires.bounded_box.size.width in record { near = omega (arith, int); n_le_wide_side = omega arith; near_2 = omega (arith, int) }
 
 pub returns-in_default : goal.returns-in_default
@@ -50,7 +51,7 @@ returns-in_default c =
 
 pub place_of-requires-2 : goal.place_of-requires-2
 place_of-requires-2 c =
-    let entry = c.before.before.before.before.before.before.before.before.before in
+    let entry = c.before.before.before.before.before.before.before.before.before.before in
     let tall = c.requires.bounded_box.size.height in record { near = omega (arith, int); n_le_wide_side = omega arith; near_2 = omega (arith, int) }
 
 pub returns-in_default-place_of : goal.returns-in_default-place_of

@@ -14,14 +14,18 @@ use native.Mathlib.Omega.{arith}
 use Rattle.signed.proofs.Laws.{int}
 use Rattle.rounded_rectangle.proofs.ConfinedBox.row.Lts
 use Rattle.rounded_rectangle.proofs.ConfinedBox.row.Reads
+use Rattle.rounded_rectangle.proofs.ConfinedBox.row.Tie
 use Rattle.rounded_rectangle.proofs.ConfinedBox.row.Goals as goal
 
 -- the facts known at these places
 abbrev Start : Type 0
-Start = Lts.Start Reads.Pre Reads.Post
+Start = Lts.Start Tie.the-claims Reads.Pre Reads.Post Tie.handed_clauses
+
+abbrev After-corners-1 : Type 0
+After-corners-1 = Lts.After-corners Tie.the-claims Reads.Pre Reads.Post Tie.handed_clauses
 
 -- where the asked row stands
-row_place : (c : goal.After-corners-1) →
+row_place : (c : After-corners-1) →
     Placed c.args.self.rectangle.top_left.y c.args.self.rectangle.size.height
     c.args.y (At c.in-At.dy)
 row_place c =
@@ -45,7 +49,7 @@ insets-insets-requires c = record { ready_box = c.new.ensures.2; dy_lt_height = 
 
 pub run_between-requires : goal.run_between-requires
 run_between-requires c =
-    let entry = c.before.before.before.before.before.before.before.before.before.before in
+    let entry = c.before.before.before.before.before.before.before.before.before.before.before in
     let near = c.requires.bounded_box.at.x in
     let wide = c.requires.bounded_box.size.width in
     let is = c.new.ensures.0 in record { near = rw (to_z-of_z near.fits) near; width_le_wide_side = omega arith; left_le_width = (

@@ -18,5 +18,4 @@ returns c = (
   insets_by_fields c.side_inset.ensures.0 c.side_inset-2.ensures.0,
   c.side_inset.ensures.1,
   c.side_inset-2.ensures.1,
-
 )

@@ -15,11 +15,12 @@ use native.Mathlib.Omega.{arith}
 use Rattle.signed.proofs.Laws.{int}
 use Rattle.shape.proofs.box_rules.offset_w3c_box.Lts
 use Rattle.shape.proofs.box_rules.offset_w3c_box.Reads
+use Rattle.shape.proofs.box_rules.offset_w3c_box.Tie
 use Rattle.shape.proofs.box_rules.offset_w3c_box.Goals as goal
 
 -- the facts known at these places
 abbrev After-plain-once : Type 0
-After-plain-once = Lts.After-plain Reads.Pre Reads.Post
+After-plain-once = Lts.After-plain Tie.the-claims Reads.Pre Reads.Post Tie.handed_clauses
 
 pub confined_w3c-requires : goal.confined_w3c-requires
 confined_w3c-requires c = own_box_bounded _ c.requires.own_box

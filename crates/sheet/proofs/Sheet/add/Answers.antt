@@ -21,14 +21,15 @@ use Rattle.sheet.specs.Sheet.{sheet_answer, with_layer, carried_out_sheet}
 use Rattle.sheet.proofs.Records.{refused_record, added_record}
 use Rattle.sheet.proofs.Sheet.add.Lts
 use Rattle.sheet.proofs.Sheet.add.Reads
+use Rattle.sheet.proofs.Sheet.add.Tie
 use Rattle.sheet.proofs.Sheet.add.Goals as goal
 
 -- the facts known at these places
 abbrev Start : Type 0
-Start = Lts.Start Reads.Pre Reads.Post
+Start = Lts.Start Tie.the-claims Reads.Pre Reads.Post Tie.handed_clauses
 
 abbrev After-or_else-checked : Type 0
-After-or_else-checked = Lts.After-or_else Reads.Pre Reads.Post
+After-or_else-checked = Lts.After-or_else Tie.the-claims Reads.Pre Reads.Post Tie.handed_clauses
 
 sixteen : (c : Start) → length c.args.self.layers ≡ 16
 sixteen c = sixteen_places c.args.self.layers c.well-formed.0.1.1.1.1.1.0.1.0.1

@@ -27,14 +27,18 @@ use Rattle.sheet_checks.proofs.Answers.{PaintAccepted, painted_accepted}
 use Rattle.sheet.proofs.Records.{refused_record, refused_canvas, painted_record, painted_canvas}
 use Rattle.sheet.proofs.Sheet.paint.Lts
 use Rattle.sheet.proofs.Sheet.paint.Reads
+use Rattle.sheet.proofs.Sheet.paint.Tie
 use Rattle.sheet.proofs.Sheet.paint.Goals as goal
 
 -- the facts known at these places
 abbrev Start : Type 0
-Start = Lts.Start Reads.Pre Reads.Post
+Start = Lts.Start Tie.the-claims Reads.Pre Reads.Post Tie.handed_clauses
 
 abbrev After-asked_row-asked : Type 0
-After-asked_row-asked = Lts.After-asked_row Reads.Pre Reads.Post
+After-asked_row-asked = Lts.After-asked_row Tie.the-claims Reads.Pre Reads.Post Tie.handed_clauses
+
+abbrev In-Row : Type 0
+In-Row = Lts.Past-After-known_told Tie.the-claims Reads.Pre Reads.Post Tie.handed_clauses
 
 sixteen : (c : Start) → length c.args.self.layers ≡ 16
 sixteen c = sixteen_places c.args.self.layers c.well-formed.0.1.1.1.1.1.0.1.0.1
@@ -45,63 +49,63 @@ checked : (c : After-asked_row-asked)
     (call_paint c.args.layer)
 checked c = c.asked_row-asked.ensures.by_index c.args.canvas.now refl
 
-abbrev sheet : goal.In-Row → Sheet
+abbrev sheet : In-Row → Sheet
 sheet c = c.args.self
 
-abbrev layer : goal.In-Row → Layer
+abbrev layer : In-Row → Layer
 layer c = get_or (sheet c).layers c.args.layer blank_layer
 
-passed : (c : goal.In-Row) → sheet_answer (sheet c) c.args.canvas.now (call_paint c.args.layer) ≡ Passed
+passed : (c : In-Row) → sheet_answer (sheet c) c.args.canvas.now (call_paint c.args.layer) ≡ Passed
 passed c = sym (checked c.before.before) ∙ ap asked_answer c.in-Row.is
 
-told : (c : goal.In-Row) → PaintAccepted (sheet c).width (sheet c).height (sheet c).count (sheet c).layers (sixteen c.before.before.before.before)
+told : (c : In-Row) → PaintAccepted (sheet c).width (sheet c).height (sheet c).count (sheet c).layers (sixteen c.before.before.before.before)
     c.args.layer c.args.canvas.now
 told c =
     painted_accepted (sheet c).width (sheet c).height (sheet c).count (sheet c).layers (sixteen c.before.before.before.before) c.args.layer
     c.args.canvas.now (passed c)
 
-within : (c : goal.In-Row) → LayerWithin (layer c)
+within : (c : In-Row) → LayerWithin (layer c)
 within c =
     kept_layer (sheet c).width (sheet c).height (sheet c).count (sheet c).layers (sixteen c.before.before.before.before) (told c).rules
     c.args.layer (told c).within
 
-has_place : (c : goal.In-Row) → c.args.layer < 16
+has_place : (c : In-Row) → c.args.layer < 16
 has_place c =
     let few = kept_few (sheet c).width (sheet c).height (sheet c).count (sheet c).layers (sixteen c.before.before.before.before) (told c).rules in
     omega (arith, (told c).within)
 
-narrow : (c : goal.In-Row) → (sheet c).width ≤ wide_side
+narrow : (c : In-Row) → (sheet c).width ≤ wide_side
 narrow c =
     omega (arith, kept_width (sheet c).width (sheet c).height (sheet c).count (sheet c).layers (sixteen c.before.before.before.before) (told c).rules)
 
 -- the sheet with another next row for the layer, and the canvas with the layer's row at y
-abbrev put : goal.In-Row → ℤ → Sheet
+abbrev put : In-Row → ℤ → Sheet
 put c z =
     with_layer (sheet c) (sheet c).count c.args.layer
     (record { figure = (layer c).figure; style = (layer c).style; next_row = z })
 
-abbrev written : goal.In-Row → ℤ → List ℕ
+abbrev written : In-Row → ℤ → List ℕ
 written c y =
     paint_row drawing (sheet c).width (sheet c).height (styled_figure (layer c).figure (layer c).style) y c.args.canvas.now
 
 -- the row found is the layer's next row, as 32 bits hold it
-row_is : (c : goal.In-Row) → c.in-Row.row ≡ (layer c).next_row
+row_is : (c : In-Row) → c.in-Row.row ≡ (layer c).next_row
 row_is c = subst (NextRow (sheet c).layers c.args.layer) c.in-Row.is c.asked_row-asked.ensures.next_row
 
-row_held : (c : goal.In-Row) → to_z w32 (of_z w32 c.in-Row.row) ≡ (layer c).next_row
+row_held : (c : In-Row) → to_z w32 (of_z w32 c.in-Row.row) ≡ (layer c).next_row
 row_held c = to_z-of_z (subst (SFits w32) (sym (row_is c)) (within c).next.ranges) ∙ row_is c
 
 -- refused
 pub returns-in_default : goal.returns-in_default
 returns-in_default c =
-    let start = c.before.before.before.before.before in
+    let start = c.before.before.before.before.before.before in
     let a = c.args in
     let call = call_paint a.layer in
     let told = c.in_default.is in
     let says = sym (checked c.before.before.before) ∙ ap asked_answer c.in_default.is in record { answer_value = ap Refused (c.refusal.ensures ∙ ap asked_refusal c.in_default.is) ∙ sym says; sheet_value = sym (refused_record a.self (sixteen start) a.canvas.now call _ says); canvas_after = sym (refused_canvas a.self (sixteen start) a.canvas.now call _ says) }
 
 pub bounds-places-place : goal.bounds-places-place
-bounds-places-place c = has_place c
+bounds-places-place c = has_place c.before
 
 pub paint_row-requires : goal.paint_row-requires
 paint_row-requires c =
@@ -110,18 +114,18 @@ paint_row-requires c =
 
 pub add-requires : goal.add-requires
 add-requires c =
-    let at = c.before.before.before.before.before.before in
+    let at = c.before.before.before.before.before.before.before in
     let next = (within at).next in
     rw (row_held at) (omega (arith, int))
 
 pub bounds-sheet-place : goal.bounds-sheet-place
-bounds-sheet-place c = has_place c.before.before.before.before.before.before.before
+bounds-sheet-place c = has_place c.before.before.before.before.before.before.before.before
 
 pub returns : goal.returns
 unfolding carried_out_sheet
 returns c =
-    let at = c.before.before.before.before.before.before.before in
+    let at = c.before.before.before.before.before.before.before.before in
     let a = c.args in
-    let next = row_held c.before.before.before.before.before.before.before in
-    let moved = to_z-of_z c.add.ensures.fits ∙ c.add.ensures.is ∙ ap (λ (z : ℤ). z +ℤ pos 1) next in record { answer_value = sym (passed at); sheet_value = ap (put at) moved ∙ sym (painted_record a.self (sixteen c.before.before.before.before.before.before.before.before.before.before.before) a.canvas.now a.layer (passed at)); canvas_after = ◌∙◌ {b = written c.before.before.before.before.before.before.before (to_z w32 (of_z w32 c.in-Row.row))} c.paint_row.ensures
-            (ap (written at) next ∙ sym (painted_canvas a.self (sixteen c.before.before.before.before.before.before.before.before.before.before.before) a.canvas.now a.layer (passed at))) }
+    let next = row_held c.before.before.before.before.before.before.before.before in
+    let moved = to_z-of_z c.add.ensures.fits ∙ c.add.ensures.is ∙ ap (λ (z : ℤ). z +ℤ pos 1) next in record { answer_value = sym (passed at); sheet_value = ap (put at) moved ∙ sym (painted_record a.self (sixteen c.before.before.before.before.before.before.before.before.before.before.before.before) a.canvas.now a.layer (passed at)); canvas_after = ◌∙◌ {b = written c.before.before.before.before.before.before.before.before (to_z w32 (of_z w32 c.in-Row.row))} c.paint_row.ensures
+            (ap (written at) next ∙ sym (painted_canvas a.self (sixteen c.before.before.before.before.before.before.before.before.before.before.before.before) a.canvas.now a.layer (passed at))) }

@@ -25,17 +25,18 @@ use Rattle.sheet_layers.proofs.LayerRules.{Ready}
 use Rattle.sheet.proofs.Records.{refused_record, refused_canvas, removed_record, removed_canvas}
 use Rattle.sheet.proofs.Sheet.remove.Lts
 use Rattle.sheet.proofs.Sheet.remove.Reads
+use Rattle.sheet.proofs.Sheet.remove.Tie
 use Rattle.sheet.proofs.Sheet.remove.Goals as goal
 
 -- the facts known at these places
 abbrev Start : Type 0
-Start = Lts.Start Reads.Pre Reads.Post
+Start = Lts.Start Tie.the-claims Reads.Pre Reads.Post Tie.handed_clauses
 
 abbrev After-check_remove-checked : Type 0
-After-check_remove-checked = Lts.After-check_remove Reads.Pre Reads.Post
+After-check_remove-checked = Lts.After-check_remove Tie.the-claims Reads.Pre Reads.Post Tie.handed_clauses
 
 abbrev In-Passed : Type 0
-In-Passed = Lts.After-enum_told Reads.Pre Reads.Post
+In-Passed = Lts.Past-After-enum_told Tie.the-claims Reads.Pre Reads.Post Tie.handed_clauses
 
 sixteen : (c : Start) → length c.args.self.layers ≡ 16
 sixteen c = sixteen_places c.args.self.layers c.well-formed.0.1.1.1.1.1.0.1.0.1
@@ -92,7 +93,7 @@ ready c =
 -- refused
 pub returns-in_default : goal.returns-in_default
 returns-in_default c =
-    let start = c.before.before.before.before.before.before.before in
+    let start = c.before.before.before.before.before.before.before.before in
     let a = c.args in
     let call = call_remove a.layer a.background.now in
     let found = c.in_default.is in
@@ -100,27 +101,27 @@ returns-in_default c =
 
 pub restore-requires : goal.restore-requires
 restore-requires c =
-    let here = c.before.before in
-    let s = sheet c.before.before.before in
-    let accepted = told c.before.before in
-    let long = sixteen (entry c.before.before.before) in record { canvas_len = accepted.size; background_len = accepted.long; width_le_max_canvas_side = (
+    let here = c.before.before.before in
+    let s = sheet c.before.before.before.before in
+    let accepted = told c.before.before.before in
+    let long = sixteen (entry c.before.before.before.before) in record { canvas_len = accepted.size; background_len = accepted.long; width_le_max_canvas_side = (
             kept_width s.width s.height s.count s.layers long accepted.rules,
             kept_height s.width s.height s.count s.layers long accepted.rules,
-          ); place_lt_count = (accepted.within, few c.before.before, ready c.before.before) }
+          ); place_lt_count = (accepted.within, few c.before.before.before, ready c.before.before.before) }
 
 pub overflow_sub-result : goal.overflow_sub-result
 overflow_sub-result c = let within = (told c.before.before.before.before.before).within in omega arith
 
 pub without-requires : goal.without-requires
 without-requires c =
-    let here = c.before.before.before.before.before in
-    omega (arith, (told here).within, few c.before.before.before.before.before)
+    let here = c.before.before.before.before.before.before in
+    omega (arith, (told here).within, few c.before.before.before.before.before.before)
 
 pub returns : goal.returns
 unfolding carried_out_sheet
 returns c =
-    let here = c.before.before.before.before.before.before in
-    let start = entry c.before.before.before.before.before.before.before in
+    let here = c.before.before.before.before.before.before.before in
+    let start = entry c.before.before.before.before.before.before.before.before in
     let a = start.args in
     let s = a.self in
     let own = layer_of (get_or s.layers a.layer blank_layer) in record { answer_value = sym (passed here); sheet_value = ap (λ (l : List Layer). record { width = s.width; height = s.height; count = s.count - 1; layers = l }) c.without.ensures

@@ -19,14 +19,15 @@ use Rattle.sheet_layers.proofs.LayerRules.{broken_by_check, broken_above, broken
 use Rattle.sheet_layers.proofs.RowTests.{lt_held, rows_by_fields}
 use Rattle.sheet_layers.proofs.Layer.rows.Lts
 use Rattle.sheet_layers.proofs.Layer.rows.Reads
+use Rattle.sheet_layers.proofs.Layer.rows.Tie
 use Rattle.sheet_layers.proofs.Layer.rows.Goals as goal
 
 -- the facts known at these places
 abbrev Start : Type 0
-Start = Lts.Start Reads.Pre Reads.Post
+Start = Lts.Start Tie.the-claims Reads.Pre Reads.Post Tie.handed_clauses
 
 abbrev After-add-end : Type 0
-After-add-end = Lts.After-add Reads.Pre Reads.Post
+After-add-end = Lts.After-add Tie.the-claims Reads.Pre Reads.Post Tie.handed_clauses
 
 -- within limits
 passed : (c : goal.In-Passed)

@@ -9,11 +9,12 @@ use Rattle.sheet_layers.specs.LayerRows.{rows_in_order}
 use Rattle.sheet_layers.proofs.RowTests.{order_here, order_past}
 use Rattle.sheet_layers.proofs.rows.in_order.Lts
 use Rattle.sheet_layers.proofs.rows.in_order.Reads
+use Rattle.sheet_layers.proofs.rows.in_order.Tie
 use Rattle.sheet_layers.proofs.rows.in_order.Goals as goal
 
 -- the facts known at these places
 abbrev After-none_overtakes : Type 0
-After-none_overtakes = Lts.After-none_overtakes Reads.Pre Reads.Post goal.the-invariant-loop-i goal.the-decreases-loop-i
+After-none_overtakes = Lts.After-none_overtakes Tie.the-claims Reads.Pre Reads.Post goal.the-invariant-loop-i goal.the-decreases-loop-i Tie.handed_clauses
 
 enough : (c : goal.Start) → c.args.count ≤ length c.args.rows
 enough c = omega arith

@@ -11,14 +11,15 @@ use Rattle.sheet_layers.specs.LayerRows.{no_rows_overtake}
 use Rattle.sheet_layers.proofs.RowTests.{le_held, RowsFit, none_owed, overtake_here, overtake_past}
 use Rattle.sheet_layers.proofs.rows.none_overtakes.Lts
 use Rattle.sheet_layers.proofs.rows.none_overtakes.Reads
+use Rattle.sheet_layers.proofs.rows.none_overtakes.Tie
 use Rattle.sheet_layers.proofs.rows.none_overtakes.Goals as goal
 
 -- the facts known at these places
 abbrev Start : Type 0
-Start = Lts.Start Reads.Pre Reads.Post goal.the-invariant-loop-i goal.the-decreases-loop-i
+Start = Lts.Start Tie.the-claims Reads.Pre Reads.Post goal.the-invariant-loop-i goal.the-decreases-loop-i Tie.handed_clauses
 
 abbrev After-is_overtaken : Type 0
-After-is_overtaken = Lts.After-is_overtaken Reads.Pre Reads.Post goal.the-invariant-loop-i goal.the-decreases-loop-i
+After-is_overtaken = Lts.After-is_overtaken Tie.the-claims Reads.Pre Reads.Post goal.the-invariant-loop-i goal.the-decreases-loop-i Tie.handed_clauses
 
 enough : (c : Start) → c.args.count ≤ length c.args.rows
 enough c = omega arith
@@ -61,7 +62,7 @@ pub returns-then-is_overtaken : goal.returns-then-is_overtaken
 returns-then-is_overtaken c = sym (sym c.loop-i.invariant.1 ∙ step c.before ∙ rw c.if-is_overtaken.true)
 
 pub loop-i-preserved : goal.loop-i-preserved
-loop-i-preserved c = (omega arith, sym (step c.before ∙ rw c.if-is_overtaken.false) ∙ c.loop-i.invariant.1)
+loop-i-preserved c = (omega arith, sym (step c.before.before ∙ rw c.if-is_overtaken.false) ∙ c.loop-i.invariant.1)
 
 pub returns : goal.returns
 returns c =

@@ -12,11 +12,12 @@ use Rattle.sheet_layers.specs.LayerRows.{some_rows_owe}
 use Rattle.sheet_layers.proofs.RowTests.{owe_here, owe_past}
 use Rattle.sheet_layers.proofs.rows.some_owes.Lts
 use Rattle.sheet_layers.proofs.rows.some_owes.Reads
+use Rattle.sheet_layers.proofs.rows.some_owes.Tie
 use Rattle.sheet_layers.proofs.rows.some_owes.Goals as goal
 
 -- the facts known at these places
 abbrev After-owes : Type 0
-After-owes = Lts.After-owes Reads.Pre Reads.Post goal.the-invariant-loop-i goal.the-decreases-loop-i
+After-owes = Lts.After-owes Tie.the-claims Reads.Pre Reads.Post goal.the-invariant-loop-i goal.the-decreases-loop-i Tie.handed_clauses
 
 -- the row as it is held
 held_row : (c : goal.Start) {t : Bool} → some_rows_owe (take c.args.layers c.args.rows) (to_z w32 (of_z w32 c.args.y))

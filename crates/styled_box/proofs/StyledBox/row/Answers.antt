@@ -23,17 +23,18 @@ use Rattle.styled_row.specs.StyledRow.{box_styled_row}
 use Rattle.styled_box.specs.ReadyBox.{stroke_box, fill_box}
 use Rattle.styled_box.proofs.StyledBox.row.Lts
 use Rattle.styled_box.proofs.StyledBox.row.Reads
+use Rattle.styled_box.proofs.StyledBox.row.Tie
 use Rattle.styled_box.proofs.StyledBox.row.Goals as goal
 
 -- the facts known at these places
 abbrev Start : Type 0
-Start = Lts.Start Reads.Pre Reads.Post
+Start = Lts.Start Tie.the-claims Reads.Pre Reads.Post Tie.handed_clauses
 
 abbrev In-At : Type 0
-In-At = Lts.After-known_told Reads.Pre Reads.Post
+In-At = Lts.Past-After-known_told Tie.the-claims Reads.Pre Reads.Post Tie.handed_clauses
 
 abbrev After-run_between-run : Type 0
-After-run_between-run = Lts.After-run_between Reads.Pre Reads.Post
+After-run_between-run = Lts.After-run_between Tie.the-claims Reads.Pre Reads.Post Tie.handed_clauses
 
 -- where the asked row stands
 row_place : (c : In-At) →

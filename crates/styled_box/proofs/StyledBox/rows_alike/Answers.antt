@@ -15,17 +15,18 @@ use Rattle.styled_box.specs.ReadyBox.{stroke_box, fill_box, Alike}
 use Rattle.styled_box.proofs.Straight.{rows_straight, one_alike}
 use Rattle.styled_box.proofs.StyledBox.rows_alike.Lts
 use Rattle.styled_box.proofs.StyledBox.rows_alike.Reads
+use Rattle.styled_box.proofs.StyledBox.rows_alike.Tie
 use Rattle.styled_box.proofs.StyledBox.rows_alike.Goals as goal
 
 -- the facts known at these places
 abbrev Start : Type 0
-Start = Lts.Start Reads.Pre Reads.Post
+Start = Lts.Start Tie.the-claims Reads.Pre Reads.Post Tie.handed_clauses
 
 abbrev In-At : Type 0
-In-At = Lts.After-known_told Reads.Pre Reads.Post
+In-At = Lts.Past-After-known_told Tie.the-claims Reads.Pre Reads.Post Tie.handed_clauses
 
 abbrev In-At-place_of : Type 0
-In-At-place_of = Lts.After-known_told2 Reads.Pre Reads.Post
+In-At-place_of = Lts.Past-After-known_told2 Tie.the-claims Reads.Pre Reads.Post Tie.handed_clauses
 
 -- where the row stands in each area
 abbrev start : In-At → Start

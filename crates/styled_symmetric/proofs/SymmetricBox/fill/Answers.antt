@@ -8,14 +8,15 @@ use Rattle.box_mirrored_fill.specs.MirroredFill.{fill_between}
 use Rattle.styled_symmetric.proofs.Rows.{fill_lacking, between, fill_found}
 use Rattle.styled_symmetric.proofs.SymmetricBox.fill.Lts
 use Rattle.styled_symmetric.proofs.SymmetricBox.fill.Reads
+use Rattle.styled_symmetric.proofs.SymmetricBox.fill.Tie
 use Rattle.styled_symmetric.proofs.SymmetricBox.fill.Goals as goal
 
 -- the facts known at these places
 abbrev Start : Type 0
-Start = Lts.Start Reads.Pre Reads.Post
+Start = Lts.Start Tie.the-claims Reads.Pre Reads.Post Tie.handed_clauses
 
 abbrev After-corner_left_out-k : Type 0
-After-corner_left_out-k = Lts.After-corner_left_out Reads.Pre Reads.Post
+After-corner_left_out-k = Lts.After-corner_left_out Tie.the-claims Reads.Pre Reads.Post Tie.handed_clauses
 
 -- above the fill area's rows
 pub returns-then-dy-border : goal.returns-then-dy-border
@@ -34,8 +35,8 @@ entry c = c.before.before.before
 
 pub filled_between-requires : goal.filled_between-requires
 filled_between-requires c =
-    let after = c.before.before.before.before in
-    let start = entry c.before.before.before.before in
+    let after = c.before.before.before.before.before in
+    let start = entry c.before.before.before.before.before in
     let a = start.args in
     let ready = start.pre.0 in
     let left = ready.inner_at.x in

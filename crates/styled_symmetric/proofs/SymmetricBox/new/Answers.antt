@@ -12,11 +12,12 @@ use Rattle.scanline.proofs.Placed.{placed_told}
 use Rattle.figure.proofs.Within.{area_bounded}
 use Rattle.styled_symmetric.proofs.SymmetricBox.new.Lts
 use Rattle.styled_symmetric.proofs.SymmetricBox.new.Reads
+use Rattle.styled_symmetric.proofs.SymmetricBox.new.Tie
 use Rattle.styled_symmetric.proofs.SymmetricBox.new.Goals as goal
 
 -- the facts known at these places
 abbrev Start : Type 0
-Start = Lts.Start Reads.Pre Reads.Post
+Start = Lts.Start Tie.the-claims Reads.Pre Reads.Post Tie.handed_clauses
 
 border_is : (c : goal.In-At)
     → Placed c.args.b.area.top_left.y c.args.b.area.size.height

@@ -24,11 +24,12 @@ use Rattle.styled_row.specs.StyledRow.{box_styled_row}
 use Rattle.styled_symmetric.specs.SymmetricBox.{four_corners, symmetric_stroke, symmetric_fill}
 use Rattle.styled_symmetric.proofs.SymmetricBox.row.Lts
 use Rattle.styled_symmetric.proofs.SymmetricBox.row.Reads
+use Rattle.styled_symmetric.proofs.SymmetricBox.row.Tie
 use Rattle.styled_symmetric.proofs.SymmetricBox.row.Goals as goal
 
 -- the facts known at these places
 abbrev Start : Type 0
-Start = Lts.Start Reads.Pre Reads.Post
+Start = Lts.Start Tie.the-claims Reads.Pre Reads.Post Tie.handed_clauses
 
 -- ---- the stroke area's run, by its insets; it keeps to the area's columns, and is the row of the definition
 abbrev entry : goal.After-run_between-run → Start

@@ -5,5 +5,5 @@ use Rattle.corner.proofs.edge.Edges.tightest.Goals as goal
 
 pub returns : goal.returns
 returns c =
-    let two = c.tighter.ensures.value in
-    let three = c.tighter.ensures.value ∙ ap₂ tighter c.tighter.ensures.value refl in record { value = c.tighter-2.ensures.value ∙ ap₂ tighter three refl; bounded_edge = c.tighter-2.ensures.bounded_edge_3 }
+    let two = c.tighter-upper.ensures.value in
+    let three = c.tighter.ensures.value ∙ ap₂ tighter c.tighter-upper.ensures.value refl in record { value = c.tighter-2.ensures.value ∙ ap₂ tighter three refl; bounded_edge = c.tighter-2.ensures.bounded_edge_3 }
