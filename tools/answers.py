@@ -278,8 +278,17 @@ def tokens_env(fn, body, env, funs):
     pos = 0
     text = body
     result = []
-    for m in pat.finditer(text):
+    scan = 0
+    while True:
+        m = pat.search(text, scan)
+        if not m:
+            break
+        scan = m.end() if m.end() > m.start() else m.end() + 1
         if m.start() < pos:
+            scan = m.start() + 1
+            continue
+        if m[1] and m[1] not in funs:
+            scan = m.start() + 1
             continue
         f, arg, befores, var, path = m[1], m[2], m[3], m[4], m[5] or ""
         fields = re.findall(r"\.(«[^»]*»|[\w'⁰-⁹₀-₉-]+)", path)
@@ -298,7 +307,9 @@ def tokens_env(fn, body, env, funs):
                 rep = r
         elif var and var in env and (fields or True):
             e = env[var]
-            if e["kind"] == "place":
+            if e["kind"] == "requires":
+                rep = fn.resolve(e["base"], e["place"], ["requires"] + fields) if fields else None
+            elif e["kind"] == "place":
                 rep = fn.resolve_from(e["base"], e["cur"], e["place"], fields)
             else:
                 r = fn.step(e["base"], e["at"], e["p"], e["rest"] + fields)
@@ -335,6 +346,9 @@ def tokens_env(fn, body, env, funs):
             txt_final = rep[1]
             if whole_let and lm[1] in env:
                 del env[lm[1]]
+            if whole_let and txt_final.endswith(".requires"):
+                root = txt_final[: -len(".requires")]
+                env[lm[1]] = {"kind": "requires", "base": root, "place": 0}
         result.append(text[pos:m.start()])
         result.append(txt_final)
         pos = m.end()
@@ -531,6 +545,14 @@ def turn(crate, folder, path, d, muts):
         e = {v: {"kind": "place", "place": i, "base": v, "cur": fn.deepest(i) if last else i} for v, i in env.items()}
         fn.views = {v: not last and fn.typed[i] for v, i in env.items()}
         t = tokens_env(fn, t, e, funs)
+        # names of places that nothing uses now
+        while True:
+            for m in re.finditer(r"let (\w[\w'-]*) = \w[\w'-]*(?:\.before)+ in\s*", t):
+                if not used(m[1], t[m.end():]):
+                    t = t[: m.start()] + t[m.end():]
+                    break
+            else:
+                break
         for a, b in renames.items():
             t = re.sub(r"(?<![\w'.-])" + re.escape(a) + r"(?![\w'-])", b, t)
         t = re.sub(r"(?<=[ (])(\w[\w'-]*) κs", r"\1", t) if False else t
@@ -583,6 +605,9 @@ def turn(crate, folder, path, d, muts):
             if a == "_":
                 continue
             body = re.sub(r"(?<![\w'.₀«-])" + re.escape(a) + r"(?![\w'₀-])", table[a], body)
+        # a signed number stands for itself in today's invariants
+        body = re.sub(r"\(to_z w(?:8|16|32|64) (l\.[\w.]+)\)", r"\1", body)
+        body = re.sub(r"(?<![\w'-])to_z w(?:8|16|32|64) (l\.[\w.]+)", r"\1", body)
         unf = re.match(r"(?s)^((?:unfolding[^\n]*\n)?)", x["body"])[1]
         name = f"{m[1]}-{pair[1]}"
         com = "\n".join(x["comment"]).strip("\n")

@@ -47,7 +47,6 @@ loop-k-preserved c =
 
 pub returns : goal.returns
 returns c =
-    let entry = c.before.before.before in
     let test = contained_from_right (radii c.args.b) c.args.b.size c.args.dy in (
       find_here test _ (c.args.to + 1) (omega arith) (ap test (omega arith) ∙ c.requires.to_value) ∙ c.loop-k.invariant.1,
       omega arith,

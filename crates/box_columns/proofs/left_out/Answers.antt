@@ -10,7 +10,6 @@ returns-then-n-eq0 c = left_out_none _ _ _ c.if-n-eq0.true
 
 pub first_inside-requires : goal.first_inside-requires
 first_inside-requires c =
-    let entry = c.before in
     let r = c.args.corner.radius in
     let few = covered_le r c.args.e in
     let wide = c.requires.ready.small.width in

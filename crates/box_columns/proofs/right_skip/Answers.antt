@@ -14,7 +14,6 @@ returns-then-by_top_right-gt0 c =
 -- by the bottom-right corner
 pub returns : goal.returns
 returns c =
-    let early = c.before.before.before.before.before.before.before.before in
     let a = c.args in
     let entry = a in
     bottom_right_skips (radii entry.b) entry.b.size entry.dy _ _ (omega arith) (omega arith) (omega arith)

@@ -80,51 +80,44 @@ first_is c = sym c.in-At.is ∙ answer_is c.before
 -- none is contained
 pub returns-in_default : goal.returns-in_default
 returns-in_default c =
-    let after = c.before.before in
     let run = c.requires.near_run in
     range_by_fields (to_z-of_z run.start.fits) (to_z-of_z run.end.fits)
-    ∙ fill_none (looked after) (sym c.in_default.is ∙ answer_is c.before.before)
+    ∙ fill_none (looked c.before.before) (sym c.in_default.is ∙ answer_is c.before.before)
 
 pub overflow_sub-size-2 : goal.overflow_sub-size-2
 overflow_sub-size-2 c =
-    let found = c.before.before.before.before in
-    let l = first_in (looked c.before.before.before.before.before) _ (first_is found) in
+    let l = first_in (looked c.before.before.before.before.before) _ (first_is c.before.before.before.before) in
     omega arith
 
 pub overflow_sub-size-3 : goal.overflow_sub-size-3
 overflow_sub-size-3 c =
-    let found = c.before.before.before.before in
-    let l = first_in (looked c.before.before.before.before.before) _ (first_is found) in
+    let l = first_in (looked c.before.before.before.before.before) _ (first_is c.before.before.before.before) in
     omega arith
 
 pub last_contained-last-requires : goal.last_contained-last-requires
 last_contained-last-requires c =
-    let found = c.before.before.before.before in
     let after = searched c.before.before.before.before in
-    let l = first_in (looked after) _ (first_is found) in
-    let start = right_start (looked after) _ (first_is found) _ c.right_skip-from_right.ensures in record { ready_box = (entry after).pre.1.0; dy_lt_height = ((entry after).pre.1.1.0, omega arith, rw c.most-2.ensures start); to_value = first_mirrored (looked after) _ (first_is found) }
+    let l = first_in (looked after) _ (first_is c.before.before.before.before) in
+    let start = right_start (looked after) _ (first_is c.before.before.before.before) _ c.right_skip-from_right.ensures in record { ready_box = (entry after).pre.1.0; dy_lt_height = ((entry after).pre.1.1.0, omega arith, rw c.most-2.ensures start); to_value = first_mirrored (looked after) _ (first_is c.before.before.before.before) }
 
 pub from_first-requires : goal.from_first-requires
 from_first-requires c =
-    let found = c.before.before.before.before.before in
     let start = entry c.before.before.before.before.before.before in
     let near = start.pre.0 in
     let wide = start.pre.1.0.size.width in
-    let l = first_in (looked c.before.before.before.before.before.before) _ (first_is found) in record { near = rw (to_z-of_z near.fits) near; k_le_wide_side = omega arith }
+    let l = first_in (looked c.before.before.before.before.before.before) _ (first_is c.before.before.before.before.before) in record { near = rw (to_z-of_z near.fits) near; k_le_wide_side = omega arith }
 
 pub before_end-requires : goal.before_end-requires
 before_end-requires c =
-    let found = c.before.before.before.before.before.before in
     let start = entry c.before.before.before.before.before.before.before in
     let near = start.pre.0 in
     let wide = start.pre.1.0.size.width in
-    let l = first_in (looked c.before.before.before.before.before.before.before) _ (first_is found) in
+    let l = first_in (looked c.before.before.before.before.before.before.before) _ (first_is c.before.before.before.before.before.before) in
     let m = c.last_contained-last.ensures.1 in record { near = rw (to_z-of_z near.fits) near; n_le_wide_side = (omega arith, omega arith) }
 
 pub returns : goal.returns
 returns c =
     let at_most2 = c.most-2 in
-    let found = c.before.before.before.before.before.before.before in
     let after = searched c.before.before.before.before.before.before.before in
     let left_is = to_z-of_z (entry after).pre.0.fits in
     let w = (size after).width in
@@ -132,8 +125,8 @@ returns c =
     let end = c.before_end.ensures in
     let last = c.last_contained-last in
     range_by_fields
-    (to_z-of_z c.from_first.ensures.fits ∙ c.from_first.ensures.is ∙ ap (λ (z : ℤ). z +ℤ pos (first found)) left_is)
+    (to_z-of_z c.from_first.ensures.fits ∙ c.from_first.ensures.is ∙ ap (λ (z : ℤ). z +ℤ pos (first c.before.before.before.before.before.before.before)) left_is)
     (to_z-of_z c.before_end.ensures.fits ∙ c.before_end.ensures.is ∙ ap (λ (z : ℤ). z +ℤ pos w -ℤ pos c.last_contained-last.result) left_is)
-    ∙ fill_found (looked after) _ (first_is found) _ c.right_skip-from_right.ensures _
+    ∙ fill_found (looked after) _ (first_is c.before.before.before.before.before.before.before) _ c.right_skip-from_right.ensures _
     (c.last_contained-last.ensures.0
     ∙ ap (λ (k : ℕ). last_contained (corners after) (size after) (dy after) k (w - 1 - first c.before.before.before.before.before.before.before + 1)) c.most-2.ensures)

@@ -11,7 +11,6 @@ use Rattle.box_mirrored.proofs.mirrored_skip.Goals as goal
 pub overflow_mul-by_top_left : goal.overflow_mul-by_top_left
 overflow_mul-by_top_left c =
     let at_covered = c.covered-by_top_left in
-    let entry = c.before.before.before.before.before.before.before.before.before.before.before.before.before.before.before in
     let few = cover_small c.args.b.top_left.radius _ _ c.covered-by_top_left.ensures c.requires.ready_box.top_left.small.width in
     record { fits = omega (arith, few) }
 
@@ -23,8 +22,6 @@ returns-then-by_top_left-size c =
     let at_most2 = c.most-by_bottom in
     let at_covered4 = c.covered-2 in
     let at_covered2 = c.covered-by_bottom_left in
-    let half_entry = c.before.before.before.before.before.before.before.before.before in
-    let entry = c.before.before.before.before.before.before.before.before.before.before.before.before.before.before.before.before.before.before in
     let b = c.args.b in
     let dy = c.args.dy in
     let cover = c.covered-by_top_left.ensures in
@@ -36,8 +33,6 @@ returns-then-by_top_left-size c =
 pub overflow_mul-by_bottom_left : goal.overflow_mul-by_bottom_left
 overflow_mul-by_bottom_left c =
     let at_covered2 = c.covered-by_bottom_left in
-    let half_entry = c.before.before.before.before.before.before.before.before in
-    let entry = c.before.before.before.before.before.before.before.before.before.before.before.before.before.before.before.before in
     let few = cover_small c.args.b.bottom_left.radius _ _ c.covered-by_bottom_left.ensures c.requires.ready_box.bottom_left.small.width in
     record { fits = omega (arith, few) }
 
@@ -49,8 +44,6 @@ returns-then-by_bottom_left-size c =
     let at_most = c.most-by_top in
     let at_covered3 = c.covered in
     let at_covered = c.covered-by_top_left in
-    let half_entry = c.before.before.before.before.before.before.before.before.before in
-    let entry = c.before.before.before.before.before.before.before.before.before.before.before.before.before.before.before.before.before.before.before in
     let b = c.args.b in
     let dy = c.args.dy in
     let below = b.size.height - 1 - dy in

@@ -5,7 +5,6 @@ use Rattle.box_mirrored.proofs.row_insets.Goals as goal
 
 pub side_inset-inset-requires : goal.side_inset-inset-requires
 side_inset-inset-requires c =
-    let entry = c.before.before.before.before.before.before.before.before.before in
     let ready = c.requires.ready_box in record { ready = ready.top_left; ready_2 = ready.bottom_left; dy_lt_h = (c.requires.dy_lt_height, side_wide ready.size.width) }
 
 pub returns-then-are_alike-2 : goal.returns-then-are_alike-2
@@ -13,7 +12,6 @@ returns-then-are_alike-2 c =
     let at_are_alike2 = c.are_alike-then-are_alike in
     let at_if1 = c.if-are_alike in
     let at_are_alike = c.are_alike in
-    let entry = c.before.before.before.before.before.before.before.before.before.before in
     let a = c.args in
     let inset = c.side_inset-inset.ensures in (
       insets_alike (radii a.b) a.b.size.width a.b.size.height a.dy c.side_inset-inset.result

@@ -12,7 +12,6 @@ returns c =
     let at_most2 = c.most-lower in
     let at_if1 = c.if-dy-most in
     let at_most = c.most in
-    let entry = c.before.before.before.before.before.before.before.before.before.before.before.before.before.before.before in
     let b = c.args.b in
     let past = subst (λ (m : ℕ). m ≤ c.args.dy) c.most.ensures c.if-dy-most.false in
     let n_is = c.most-2.ensures in

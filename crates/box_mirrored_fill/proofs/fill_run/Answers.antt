@@ -44,14 +44,12 @@ rectangle_place c told is =
 
 pub place_of-requires : goal.place_of-requires
 place_of-requires c =
-    let start = c.before.before.before.before in
     let tall = c.requires.ready_fill.ready.size.height in
     let top = c.requires.ready_fill.at.y in record { near = rw (to_z-of_z top.fits) top; n_le_wide_side = omega arith; near_2 = rw (to_z-of_z c.requires.near.fits) c.requires.near }
 
 -- off the fill area's rows
 pub returns-in_default : goal.returns-in_default
 returns-in_default c =
-    let after = c.before.before in
     let args = c.args in
     let end = to_z-of_z c.requires.near_run.end.fits in
     range_by_fields end end
@@ -59,7 +57,6 @@ returns-in_default c =
 
 pub mirrored_skip-requires : goal.mirrored_skip-requires
 mirrored_skip-requires c =
-    let after = c.before.before in
     let row = row_place c.before.before (At c.in-At.dy) c.in-At.is in record { ready_box = c.requires.ready_fill.ready; dy_lt_height = row.1 }
 
 -- ---- the fill by its place, and as the definition has it
@@ -74,13 +71,11 @@ row_fill_is c dy is =
 -- the two sides are not known to be alike
 pub row_fill-requires : goal.row_fill-requires
 row_fill-requires c =
-    let after = c.before.before.before.before.before in
     let left = c.requires.ready_fill.at.x in
     let row = row_place c.before.before.before.before.before (At c.in-At.dy) c.in-At.is in record { near = rw (to_z-of_z left.fits) left; ready_box = c.requires.ready_fill.ready; dy_lt_height = row.1; near_run = c.requires.near_run }
 
 pub returns-in_default-mirrored_skip : goal.returns-in_default-mirrored_skip
 returns-in_default-mirrored_skip c =
-    let after = c.before.before.before.before.before in
     let args = c.args in
     let dy = c.in-At.dy in
     c.row_fill.ensures
@@ -97,12 +92,10 @@ between c =
 
 pub filled_between-requires : goal.filled_between-requires
 filled_between-requires c =
-    let after = c.before.before.before.before.before in
-    let left = c.requires.ready_fill.at.x in record { near = rw (to_z-of_z left.fits) left; width_le_wide_stroke_side = (c.requires.ready_fill.ready.size.width, (between c.before).half); near_run = c.requires.near_run }
+    let left = c.requires.ready_fill.at.x in record { near = rw (to_z-of_z left.fits) left; width_le_wide_stroke_side = (c.requires.ready_fill.ready.size.width, (between c.before.before).half); near_run = c.requires.near_run }
 
 pub returns : goal.returns
 returns c =
-    let after = c.before.before.before.before.before in
     let args = c.args in
     let dy = c.in-At.dy in
     let k = c.in-At-mirrored_skip.k in

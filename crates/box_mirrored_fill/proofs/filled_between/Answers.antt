@@ -25,7 +25,7 @@ first_is c =
     let at_place_in = c.place_in in
     let pre = c.requires in
     c.most-begin.ensures
-    ∙ ap (λ (n : ℕ). max n c.args.k) (place_read _ _ _ _ pre.0.fits pre.1.1.start.fits c.place_in.ensures.0)
+    ∙ ap (λ (n : ℕ). max n c.args.k) (place_read _ _ _ _ c.requires.near.fits c.requires.near_run.start.fits c.place_in.ensures.0)
 
 end_is : (c : After-least-end) → c.least-end.result
     ≡ min (place_in c.args.left c.args.width c.args.run.end) (c.args.width - c.args.k)
@@ -33,22 +33,21 @@ end_is c =
     let pre = c.requires in
     c.least-end.ensures
     ∙ ap (λ (n : ℕ). min n (c.args.width - c.args.k))
-    (place_read _ _ _ _ pre.0.fits pre.1.1.end.fits c.place_in-2.ensures.0)
+    (place_read _ _ _ _ c.requires.near.fits c.requires.near_run.end.fits c.place_in-2.ensures.0)
 
 pub from_first-requires : goal.from_first-requires
 from_first-requires c =
     let at_most = c.most-begin in
     let at_place_in = c.place_in in
-    let pre = c.requires in record { near = rw (to_z-of_z pre.0.fits) pre.0; k_le_wide_side = first_small _ _ _ _ c.most-begin.ensures c.place_in.ensures.1 pre.1.0.1 pre.1.0.0 }
+    let pre = c.requires in record { near = rw (to_z-of_z c.requires.near.fits) c.requires.near; k_le_wide_side = first_small _ _ _ _ c.most-begin.ensures c.place_in.ensures.1 c.requires.width_le_wide_stroke_side.1 c.requires.width_le_wide_stroke_side.0 }
 
 pub from_first-requires-then-begin-end : goal.from_first-requires-then-begin-end
 from_first-requires-then-begin-end c =
     let at_place_in2 = c.place_in-2 in
-    let pre = c.requires in record { near = rw (to_z-of_z pre.0.fits) pre.0; k_le_wide_side = end_small _ _ _ _ c.least-end.ensures c.place_in-2.ensures.1 pre.1.0.0 }
+    let pre = c.requires in record { near = rw (to_z-of_z c.requires.near.fits) c.requires.near; k_le_wide_side = end_small _ _ _ _ c.least-end.ensures c.place_in-2.ensures.1 c.requires.width_le_wide_stroke_side.0 }
 
 pub returns-then-begin-end : goal.returns-then-begin-end
 returns-then-begin-end c =
-    let after = c.before.before.before in
     let a = c.args in
     let left_is = to_z-of_z c.requires.near.fits in
     let start = c.from_first.ensures in
@@ -56,10 +55,9 @@ returns-then-begin-end c =
     range_by_fields
     (to_z-of_z c.from_first.ensures.fits ∙ c.from_first.ensures.is ∙ ap (λ (z : ℤ). z +ℤ pos c.most-begin.result) left_is)
     (to_z-of_z c.from_first-then-begin-end.ensures.fits ∙ c.from_first-then-begin-end.ensures.is ∙ ap (λ (z : ℤ). z +ℤ pos c.least-end.result) left_is)
-    ∙ between_some a.left a.width a.run a.k _ _ (first_is after) (end_is after) c.if-begin-end.true
+    ∙ between_some a.left a.width a.run a.k _ _ (first_is c.before.before.before) (end_is c.before.before.before) c.if-begin-end.true
 
 pub returns : goal.returns
 returns c =
-    let after = c.before in
     let a = c.args in
-    between_none a.left a.width a.run a.k _ _ (first_is after) (end_is after) c.if-begin-end.false
+    between_none a.left a.width a.run a.k _ _ (first_is c.before) (end_is c.before) c.if-begin-end.false

@@ -35,9 +35,6 @@ overflow_sub-result c =
 -- all of them passed
 pub returns : goal.returns
 returns c =
-    let third_test = c.before.before.before.before.before.before.before.before.before.before.before.before.before.before in
-    let first_test = c.before.before.before.before.before.before.before.before.before.before.before.before.before.before.before.before.before.before.before.before.before.before.before.before in
-    let entry = c.before.before.before.before.before.before.before.before.before.before.before.before.before.before.before.before.before.before.before.before.before.before.before.before.before.before.before.before.before.before.before.before.before in
     let left_start : SFits w32 c.args.runs.stroke_left.start = search rules in
     let left_end : SFits w32 c.args.runs.stroke_left.end = search rules in
     let fill_start : SFits w32 c.args.runs.fill.start = search rules in

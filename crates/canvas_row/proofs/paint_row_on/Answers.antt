@@ -48,17 +48,16 @@ not_below c =
 
 pub returns-then-y-lt0 : goal.returns-then-y-lt0
 returns-then-y-lt0 c =
-    let entry = c.before.before.before in
     let a = c.args in
     sym (paint_by_above (λ _. a.row) a.style a.size.width a.size.height a.canvas.now a.y
-    (subst (λ (z : ℤ). lt_z z (pos 0) ≡ true) (row_held entry) c.if-y-lt0.true))
+    (subst (λ (z : ℤ). lt_z z (pos 0) ≡ true) (row_held c.before.before.before) c.if-y-lt0.true))
 
 pub returns-then-size-place : goal.returns-then-size-place
 returns-then-size-place c =
     let a = c.args in
     let past = c.if-size-place.true in
     sym (paint_by_below (λ _. a.row) a.style a.size.width a.size.height a.canvas.now a.y
-    (not_above c.before.before.before) (omega (arith, place_is c.before.before.before)))
+    (not_above c.before.before.before.before) (omega (arith, place_is c.before.before.before)))
 
 pub returns-in_default : goal.returns-in_default
 returns-in_default c =
@@ -68,7 +67,6 @@ returns-in_default c =
 pub paint_row_at-requires : goal.paint_row_at-requires
 paint_row_at-requires c =
     let at_floor0 = c.floor0-place in
-    let entry = c.before.before.before.before.before.before.before in
     let low = not_below c.before.before in
     let place_low : c.floor0-place.result < c.args.size.height = omega
     (arith, place_is c.before.before.before.before) in record { width_le_wide_side = c.requires.width_le_wide_side; width_in_bounds = row_within c.args.size.width c.args.size.height _ c.args.canvas.now place_low
@@ -76,11 +74,9 @@ paint_row_at-requires c =
 
 pub returns : goal.returns
 returns c =
-    let back_9 = c.before.before.before.before.before.before.before.before in
-    let back_10 = c.before.before.before.before.before.before.before.before.before in
     let a = c.args in
     let runs = c.in-Runs.runs in
     c.paint_row_at.ensures
-    ∙ ap (λ (n : ℕ). overpaint_at a.size.width n a.style runs a.canvas.now) (place_is back_9)
-    ∙ sym (paint_by_runs (λ _. a.row) a.style a.size.width a.size.height a.canvas.now a.y (not_above back_10)
-    (not_below c.before.before.before.before.before.before.before) runs c.in-Runs.is)
+    ∙ ap (λ (n : ℕ). overpaint_at a.size.width n a.style runs a.canvas.now) (place_is c.before.before.before.before.before.before.before.before)
+    ∙ sym (paint_by_runs (λ _. a.row) a.style a.size.width a.size.height a.canvas.now a.y (not_above c.before.before.before.before.before.before.before.before.before)
+    (not_below c.before.before.before.before.before.before) runs c.in-Runs.is)

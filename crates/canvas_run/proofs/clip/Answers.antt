@@ -13,7 +13,6 @@ use Rattle.canvas_run.proofs.clip.Goals as goal
 pub returns : goal.returns
 unfolding clipped
 returns c =
-    let entry = c.before.before.before.before.before.before in
     let start_fits : SFits w32 c.args.run.start = search rules in
     let end_fits : SFits w32 c.args.run.end = search rules in
     let start = c.floor0-2.ensures ∙ ap floor0 (to_z-of_z start_fits) in

@@ -4,7 +4,6 @@ use Rattle.canvas_run.proofs.fill_columns.Goals as goal
 
 pub returns : goal.returns
 returns c =
-    let entry = c.before.before.before.before.before.before in
     let filled = c.fill in
     lent_columns_set c.args.row.now c.args.from c.args.to c.args.colour c.fill.new.part
     c.requires.0 c.requires.1 c.fill.ensures

@@ -9,7 +9,6 @@ use Rattle.corner.proofs.offset_corner.Goals as goal
 pub returns : goal.returns
 unfolding offset_corner
 returns c =
-    let entry = c.before.before in
     let k_back = to_z-of_z c.ranges.k in
     size_by_fields
     (c.offset_radius.ensures ∙ ap (λ (k : ℤ). offset_radius k c.args.radius.width) k_back)

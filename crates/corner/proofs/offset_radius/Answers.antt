@@ -9,5 +9,4 @@ add-grown-requires c = omega (arith, int)
 
 pub returns : goal.returns
 returns c =
-    let entry = c.before.before.before in
     omega (arith, int, offset_radius_by_parts c.args.k c.args.radius)

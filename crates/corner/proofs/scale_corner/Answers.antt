@@ -8,12 +8,10 @@ use Rattle.corner.proofs.scale_corner.Goals as goal
 
 pub overflow_mul-result : goal.overflow_mul-result
 overflow_mul-result c =
-    let entry = c.before.before in
     record { fits = omega (arith, mul-le-mul c.requires.size_up_to.width c.requires.bounded_edge.length) }
 
 pub overflow_mul-result-2 : goal.overflow_mul-result-2
 overflow_mul-result-2 c =
-    let entry = c.before.before.before.before.before in
     record { fits = omega (arith, mul-le-mul c.requires.size_up_to.height c.requires.bounded_edge.length) }
 
 pub returns : goal.returns

@@ -26,7 +26,6 @@ offset-area-requires c = record { bounded = area_bounded _ (own_area _ c.require
 
 pub returns : goal.returns
 returns c =
-    let entry = c.before.before.before.before in
     let is = area_is c.before.before.before in
     let fits = (offset_area c.args.rectangle c.args.k c.requires.own_rectangle c.requires.near).at.y.fits in
     λ i. record {

@@ -28,13 +28,11 @@ offset-area-requires c = record { bounded = area_bounded _ (own_area _ c.require
 
 pub row_count-requires : goal.row_count-requires
 row_count-requires c =
-    let entry = c.before.before in
     subst Bounded (sym (area_is c.before))
     (area_bounded _ (offset_area c.args.rectangle c.args.k c.requires.own_rectangle c.requires.near))
 
 pub returns : goal.returns
 returns c =
-    let entry = c.before.before.before.before in
     let is = area_is c.before.before.before in
     let fits = (offset_area c.args.rectangle c.args.k c.requires.own_rectangle c.requires.near).at.y.fits in
     λ i. record {

@@ -9,18 +9,15 @@ use Rattle.drawing.proofs.paint_row.Goals as goal
 
 pub row_at-requires : goal.row_at-requires
 row_at-requires c =
-    let entry = c.before.before in
     let near = c.requires.near in record { own_figure = c.requires.own_figure; stroke_width_bound = c.requires.stroke_width_bound; near = rw (to_z-of_z near.fits) near }
 
 pub paint_row_on-requires : goal.paint_row_on-requires
 paint_row_on-requires c =
-    let entry = c.before.before.before in
     let near = c.requires.near in record { canvas_len = c.requires.canvas_len; width_le_wide_side = c.requires.width_le_wide_side; near = rw (to_z-of_z near.fits) near }
 
 pub returns : goal.returns
 returns c =
     let at_row_at = c.row_at in
-    let entry = c.before.before.before.before.before.before.before in
     let a = c.args in
     let held = to_z-of_z c.requires.near.fits in
     let row = c.row_at.result in

@@ -28,7 +28,6 @@ width_is c = c.from_u32-outside.ensures.is ∙ ap pos c.outside_stroke_width.ens
 
 width_near : (c : After-from_u32-outside) → Near wide_offset c.from_u32-outside.result
 width_near c =
-    let entry = c.before.before in
     let small = c.requires.stroke_width_bound in
     let is = c.from_u32-outside.ensures.is in
     let fits = c.from_u32-outside.ensures.fits in
@@ -40,59 +39,52 @@ width_near c =
 
 pub from_u32-outside-requires : goal.from_u32-outside-requires
 from_u32-outside-requires c =
-    let start = c.before in
     let small = c.requires.stroke_width_bound in
     omega (arith, c.outside_stroke_width.ensures, outside_within_stroke c.args.style)
 
 pub ellipse_rows-requires : goal.ellipse_rows-requires
 ellipse_rows-requires c =
-    let entry = c.before.before.before in
     let near = width_near c.before in record { own_rectangle = subst OwnFigure c.in-Ellipse.is c.requires.own_figure; near = rw (to_z-of_z near.fits) near }
 
 pub box_rows-requires : goal.box_rows-requires
 box_rows-requires c =
-    let entry = c.before.before.before in
     let near = width_near c.before.before in
     let own = subst OwnFigure c.in-CrateBox.is c.requires.own_figure in record { own_rectangle = own.rectangle; near = rw (to_z-of_z near.fits) near }
 
 pub box_rows-requires-in-W3cBox : goal.box_rows-requires-in-W3cBox
 box_rows-requires-in-W3cBox c =
-    let entry = c.before.before.before in
     let near = width_near c.before.before in
     let own = subst OwnFigure c.in-W3cBox.is c.requires.own_figure in record { own_rectangle = own.rectangle; near = rw (to_z-of_z near.fits) near }
 
 pub returns-in-Ellipse : goal.returns-in-Ellipse
 returns-in-Ellipse c =
-    let entry = c.before.before.before.before in
     let style = c.args.style in
     let near = width_near c.before.before in
     let own = subst OwnFigure c.in-Ellipse.is c.requires.own_figure in
     let r = c.in-Ellipse.rectangle in
     let made = c.ellipse_rows.ensures ∙ ap (λ (z : ℤ). ellipse_rows (rectangle_offset c.in-Ellipse.rectangle z)) (to_z-of_z near.fits) in
     let within = subst RowsWithin (sym made) (ellipse_rows_within _ (offset_area c.in-Ellipse.rectangle _ own near)) in record { value = made
-          ∙ ap (λ (z : ℤ). ellipse_rows (rectangle_offset c.in-Ellipse.rectangle z)) (width_is c.before.before.before.before)
+          ∙ ap (λ (z : ℤ). ellipse_rows (rectangle_offset c.in-Ellipse.rectangle z)) (width_is c.before.before)
           ∙ sym (ap (λ (f : Figure). stroke_rows f style) c.in-Ellipse.is ∙ rows_of_ellipse style c.in-Ellipse.rectangle); near = (within.first, within.count) }
 
 pub returns-in-CrateBox : goal.returns-in-CrateBox
 returns-in-CrateBox c =
-    let entry = c.before.before.before.before in
     let style = c.args.style in
     let near = width_near c.before.before.before in
     let own = subst OwnFigure c.in-CrateBox.is c.requires.own_figure in
     let b = c.in-CrateBox.b in
     let made = c.box_rows.ensures ∙ ap (λ (z : ℤ). box_rows (rectangle_offset c.in-CrateBox.b.rectangle z)) (to_z-of_z near.fits) in
     let within = subst RowsWithin (sym made) (box_rows_within _ (offset_area c.in-CrateBox.b.rectangle _ own.rectangle near)) in record { value = made
-          ∙ ap (λ (z : ℤ). box_rows (rectangle_offset c.in-CrateBox.b.rectangle z)) (width_is c.before.before.before.before)
+          ∙ ap (λ (z : ℤ). box_rows (rectangle_offset c.in-CrateBox.b.rectangle z)) (width_is c.before.before.before)
           ∙ sym (ap (λ (f : Figure). stroke_rows f style) c.in-CrateBox.is ∙ rows_of_crate_box style c.in-CrateBox.b); near = (within.first, within.count) }
 
 pub returns-in-W3cBox : goal.returns-in-W3cBox
 returns-in-W3cBox c =
-    let entry = c.before.before.before.before in
     let style = c.args.style in
     let near = width_near c.before.before.before in
     let own = subst OwnFigure c.in-W3cBox.is c.requires.own_figure in
     let b = c.in-W3cBox.b in
     let made = c.box_rows-in-W3cBox.ensures ∙ ap (λ (z : ℤ). box_rows (rectangle_offset c.in-W3cBox.b.rectangle z)) (to_z-of_z near.fits) in
     let within = subst RowsWithin (sym made) (box_rows_within _ (offset_area c.in-W3cBox.b.rectangle _ own.rectangle near)) in record { value = made
-          ∙ ap (λ (z : ℤ). box_rows (rectangle_offset c.in-W3cBox.b.rectangle z)) (width_is c.before.before.before.before)
+          ∙ ap (λ (z : ℤ). box_rows (rectangle_offset c.in-W3cBox.b.rectangle z)) (width_is c.before.before.before)
           ∙ sym (ap (λ (f : Figure). stroke_rows f style) c.in-W3cBox.is ∙ rows_of_w3c_box style c.in-W3cBox.b); near = (within.first, within.count) }

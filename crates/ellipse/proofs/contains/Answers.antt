@@ -11,7 +11,6 @@ pub returns : goal.returns
 unfolding inside_about
 returns c =
     let at_distance = c.distance-x in
-    let entry = c.before.before.before.before.before.before.before.before.before.before in
     let e = c.args.ellipse in
     let x = c.distance-x.ensures.0 ∙ (λ i. nat_abs
     (from_center2x (to_z-of_z c.requires.point_near.x.fits i) (center2x (to_z-of_z c.requires.bounded.at.x.fits i) e.size.width))) in

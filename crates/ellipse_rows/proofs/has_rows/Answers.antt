@@ -15,7 +15,6 @@ returns-then-size-eq0-2 c = sym (ap (first_row_inside c.args.size.width) c.if-si
 
 pub returns : goal.returns
 returns c =
-    let entry = c.before.before.before.before.before.before.before.before in
     c.contains.ensures
     ∙ (λ i. below_threshold (c.requires.test_value.0 i) (c.gap.ensures.0 i) (c.gap-2.ensures.0 i))
     ∙ first_row_by_middle c.args.size.width c.args.size.height (omega arith)

@@ -25,7 +25,7 @@ returns-in_default c =
 
 pub inside_left-requires : goal.inside_left-requires
 inside_left-requires c =
-    let is = (near c.before).1 in record { small_weight = c.requires.small_weight; width_le_wide_side = (omega arith, omega arith, omega arith) }
+    let is = (near c).1 in record { small_weight = c.requires.small_weight; width_le_wide_side = (omega arith, omega arith, omega arith) }
 
 -- the nearest column is outside
 pub returns-then-not-inside_left : goal.returns-then-not-inside_left
@@ -37,8 +37,8 @@ returns-then-not-inside_left c =
 
 pub loop-lo-init : goal.loop-lo-init
 loop-lo-init c =
-    let some = (near c.before.before.before).0 in
-    let is = (near c.before.before.before).1 in
+    let some = (near c.before.before).0 in
+    let is = (near c.before.before).1 in
     record {
       from_le = omega arith;
       lo_le = omega arith;
@@ -51,11 +51,11 @@ pub overflow_sub-k : goal.overflow_sub-k
 overflow_sub-k c = omega arith
 
 pub overflow_add-k : goal.overflow_add-k
-overflow_add-k c = let is = (near c.before.before.before.before.before).1 in omega arith
+overflow_add-k c = let is = (near c.before.before.before.before).1 in omega arith
 
 pub inside_left-requires-in-loop-lo : goal.inside_left-requires-in-loop-lo
 inside_left-requires-in-loop-lo c =
-    let is = (near c.before.before.before.before.before).1 in record { small_weight = c.requires.small_weight; width_le_wide_side = (omega arith, omega arith, omega arith) }
+    let is = (near c.before.before.before.before).1 in record { small_weight = c.requires.small_weight; width_le_wide_side = (omega arith, omega arith, omega arith) }
 
 pub loop-lo-smaller-then-inside_left : goal.loop-lo-smaller-then-inside_left
 loop-lo-smaller-then-inside_left c = omega arith
@@ -66,19 +66,19 @@ loop-lo-preserved-then-inside_left c =
     bracket_down c.loop-lo.invariant _ (omega arith) (omega arith) (sym c.inside_left-in-loop-lo.ensures ∙ c.if-inside_left.true)
 
 pub overflow_add-lo : goal.overflow_add-lo
-overflow_add-lo c = let is = (near c.before.before.before.before.before.before.before).1 in omega arith
+overflow_add-lo c = let is = (near c.before.before.before.before.before.before).1 in omega arith
 
 pub loop-lo-smaller : goal.loop-lo-smaller
 loop-lo-smaller c = omega arith
 
 pub loop-lo-preserved : goal.loop-lo-preserved
 loop-lo-preserved c =
-    let is = (near c.before.before.before.before.before.before.before).1 in
+    let is = (near c.before.before.before.before.before.before).1 in
     bracket_up c.loop-lo.invariant _ (row_rises _ _ _ _ (omega arith)) (omega arith) (omega arith)
     (sym c.inside_left-in-loop-lo.ensures ∙ c.if-inside_left.false)
 
 pub returns : goal.returns
 returns c =
-    let some = (near c.before.before.before.before.before).0 in
-    let is = (near c.before.before.before.before.before).1 in
+    let some = (near c.before.before.before.before).0 in
+    let is = (near c.before.before.before.before).1 in
     sym (bracket_end c.loop-lo.invariant _ (omega arith) c.loop-lo-test.false)

@@ -23,21 +23,18 @@ returns-in_default c =
 
 pub inside_left-requires : goal.inside_left-requires
 inside_left-requires c =
-    let found = c.before.before in
-    let is = (near found).1 in
-    let some = (near found).0 in record { small_weight = c.requires.small_weight; width_le_wide_side = (omega arith, omega arith, omega arith) }
+    let is = (near c.before.before).1 in
+    let some = (near c.before.before).0 in record { small_weight = c.requires.small_weight; width_le_wide_side = (omega arith, omega arith, omega arith) }
 
 pub walk_left-requires : goal.walk_left-requires
 walk_left-requires c =
-    let found = c.before.before.before.before in
-    let is = (near found).1 in
-    let some = (near found).0 in record { small_weight = c.requires.small_weight; width_le_wide_side = (omega arith, omega arith, omega arith); from_le_start = (omega arith, sym c.inside_left.ensures ∙ c.if-inside_left.true) }
+    let is = (near c.before.before.before.before).1 in
+    let some = (near c.before.before.before.before).0 in record { small_weight = c.requires.small_weight; width_le_wide_side = (omega arith, omega arith, omega arith); from_le_start = (omega arith, sym c.inside_left.ensures ∙ c.if-inside_left.true) }
 
 pub returns-then-inside_left : goal.returns-then-inside_left
 returns-then-inside_left c =
-    let found = c.before.before.before.before.before in
-    let is = (near found).1 in
-    let some = (near found).0 in
+    let is = (near c.before.before.before.before.before).1 in
+    let some = (near c.before.before.before.before.before).0 in
     let a = c.args in
     c.walk_left.ensures
     ∙ walk_left_finds a.row a.width a.from a.count _ is
@@ -45,15 +42,13 @@ returns-then-inside_left c =
 
 pub walk_right-requires : goal.walk_right-requires
 walk_right-requires c =
-    let found = c.before.before.before.before in
-    let is = (near found).1 in
-    let some = (near found).0 in record { small_weight = c.requires.small_weight; width_le_wide_side = (omega arith, omega arith, omega arith); start_le_nearest = omega arith }
+    let is = (near c.before.before.before.before).1 in
+    let some = (near c.before.before.before.before).0 in record { small_weight = c.requires.small_weight; width_le_wide_side = (omega arith, omega arith, omega arith); start_le_nearest = omega arith }
 
 pub returns : goal.returns
 returns c =
-    let found = c.before.before.before.before.before in
-    let is = (near found).1 in
-    let some = (near found).0 in
+    let is = (near c.before.before.before.before.before).1 in
+    let some = (near c.before.before.before.before.before).0 in
     let a = c.args in
     c.walk_right.ensures
     ∙ walk_right_finds a.row a.width a.from a.count _ is

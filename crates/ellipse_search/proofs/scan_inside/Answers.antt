@@ -28,7 +28,6 @@ walk_left-requires c = record { small_weight = c.on_row-row.ensures.1; width_le_
 -- from the hint
 pub returns-then-inside_left : goal.returns-then-inside_left
 returns-then-inside_left c =
-    let made = c.before.before.before.before.before.before in
     let entry = c.args in
     c.walk_left.ensures
     ∙ walk_left_finds c.on_row-row.result entry.width entry.from entry.count

@@ -11,7 +11,6 @@ use Rattle.ellipse_styled.proofs.runs_at.Goals as goal
 pub returns-in_default : goal.returns-in_default
 returns-in_default c =
     let at_scan_inside = c.scan_inside in
-    let entry = c.before.before.before in
     c.hollow_runs.ensures
     ∙ ap (λ (z : ℤ). runs_from z c.args.width c.args.s Nowhere) (to_z-of_z c.ranges.left)
     ∙ ap (runs_from c.args.left c.args.width c.args.s)
@@ -19,13 +18,11 @@ returns-in_default c =
 
 pub filled_runs-requires : goal.filled_runs-requires
 filled_runs-requires c =
-    let entry = c.before.before in
     let below = (found_at _ _ _ _ (sym c.scan_inside.ensures ∙ c.in-At.is)).below in record { near = rw (to_z-of_z c.ranges.left) c.requires.near; width_le_wide_side = (omega arith, omega arith, omega arith) }
 
 pub returns : goal.returns
 returns c =
     let at_scan_inside = c.scan_inside in
-    let entry = c.before.before.before in
     c.filled_runs.ensures
     ∙ ap (λ (z : ℤ). runs_from z c.args.width c.args.s (At c.in-At.c))
     (to_z-of_z c.ranges.left)

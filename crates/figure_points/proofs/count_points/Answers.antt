@@ -151,7 +151,6 @@ loop-dy-smaller c = omega arith
 
 pub loop-dy-preserved : goal.loop-dy-preserved
 loop-dy-preserved c =
-    let early = c.before.before.before.before.before.before in
     let at_loop_test = c.loop-dy-test in
     let at_loop = c.loop-dy in
     let at_rectangle = c.rectangle-rectangle in
@@ -159,7 +158,7 @@ loop-dy-preserved c =
     let left = c.loop-dy.invariant in
     let is = c.run_length-n.ensures in
     subst (λ (m : ℕ). CountLeft a.shape (to_z w32 (of_z w32 c.rectangle-rectangle.result.top_left.y)) c.rectangle-rectangle.result.size.height
-    (c.loop-dy.n + m) (c.loop-dy.dy + 1)) (sym is)
+    (c.loop-dy.n + m) (c.loop-dy.dy + 1)) (sym c.run_length-n.ensures)
     (count_next a.shape (to_z w32 (of_z w32 c.rectangle-rectangle.result.top_left.y)) c.rectangle-rectangle.result.size.height _ _ left _
     c.loop-dy-test.true (row_is c.before.before.before.before ∙ c.in-Run.is)
     (sym c.is_empty.ensures ∙ c.if-is_empty.false) (subst (λ (m : ℕ). m ≤ wide_stroke_side) c.run_length-n.ensures (run_small c)))

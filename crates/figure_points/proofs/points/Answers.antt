@@ -42,7 +42,6 @@ room_is c =
 pub returns-in_default : goal.returns-in_default
 returns-in_default c =
     let at_check = c.check-checked in
-    let entry = c.before.before.before in
     let check = points_check_figure c.args.figure (length c.args.list.now) _
     (sym c.check-checked.ensures ∙ c.in_default.is) in record { result_value = rw check (refused_early refused c.refusal.ensures c.in_default.is); list_after = rw check }
 
@@ -57,10 +56,9 @@ count_points-count-requires c = c.shape-shape.ensures.1
 -- too short
 pub returns-in_default-room : goal.returns-in_default-room
 returns-in_default-room c =
-    let entry = c.before.before.before.before.before.before.before in
     let short = points_check_room c.args.figure (length c.args.list.now) _
-    (figure_passed_here c.before.before.before.before.before.before)
-    (sym (room_is c.before.before.before) ∙ c.in_default-room.is) in record { result_value = rw short (refused_early refused c.refusal-in_default-room.ensures c.in_default-room.is); list_after = rw short }
+    (figure_passed_here c.before.before.before.before.before)
+    (sym (room_is c.before.before) ∙ c.in_default-room.is) in record { result_value = rw short (refused_early refused c.refusal-in_default-room.ensures c.in_default-room.is); list_after = rw short }
 
 pub put_points-requires : goal.put_points-requires
 put_points-requires c =
@@ -74,8 +72,6 @@ put_points-requires c =
 pub returns : goal.returns
 returns c =
     let at_shape = c.shape-shape in
-    let back_8 = c.before.before.before.before.before.before.before in
-    let entry = c.before.before.before.before.before.before.before.before.before in
-    let passed = points_check_room c.args.figure (length c.args.list.now) Passed (figure_passed_here back_8)
-    (sym (room_is c.before.before.before.before.before) ∙ c.in-Passed-room.is) in record { result_value = rw passed (ap (λ (n : ℕ). answered (pos n ∷ [])) (count_is c.before.before.before.before.before.before)); list_after = rw passed (c.put_points.ensures ∙ ap (λ (s : Shape). sets c.args.list.now 0 (entries (points_of_shape s)))
+    let passed = points_check_room c.args.figure (length c.args.list.now) Passed (figure_passed_here c.before.before.before.before.before.before.before)
+    (sym (room_is c.before.before.before.before) ∙ c.in-Passed-room.is) in record { result_value = rw passed (ap (λ (n : ℕ). answered (pos n ∷ [])) (count_is c.before.before.before.before.before)); list_after = rw passed (c.put_points.ensures ∙ ap (λ (s : Shape). sets c.args.list.now 0 (entries (points_of_shape s)))
           c.shape-shape.ensures.0) }

@@ -74,7 +74,7 @@ loop-dy-init c =
     let a = c.args in
     let at_pre = c.requires in
     rows_left_start (row_of_shape a.shape) (to_z w32 (of_z w32 c.rectangle-rectangle.result.top_left.y)) c.rectangle-rectangle.result.size.height _
-    (subst (λ (ps : List Point). 2 * length ps ≤ length a.list.now) (all_points c.before.before.before) at_pre.1)
+    (subst (λ (ps : List Point). 2 * length ps ≤ length a.list.now) (all_points c.before.before.before) c.requires.shape_in_bounds)
 
 pub from_first-y-requires : goal.from_first-y-requires
 from_first-y-requires c =
@@ -103,12 +103,11 @@ returns-in_default c =
     let at_loop_test = c.loop-dy-test in
     let at_loop = c.loop-dy in
     let at_rectangle = c.rectangle-rectangle in
-    let back_9 = c.before.before.before.before.before.before.before.before in
     let a = c.args in
     rows_left_done (row_of_shape a.shape) (to_z w32 (of_z w32 c.rectangle-rectangle.result.top_left.y)) c.rectangle-rectangle.result.size.height
     c.loop-dy.invariant (points_after_no_row (row_of_shape a.shape) (to_z w32 (of_z w32 c.rectangle-rectangle.result.top_left.y))
     c.rectangle-rectangle.result.size.height _ c.loop-dy-test.true (row_is c.before ∙ c.in_default.is))
-    ∙ ap (λ (ps : List Point). sets a.list.now 0 (entries ps)) (sym (all_points back_9))
+    ∙ ap (λ (ps : List Point). sets a.list.now 0 (entries ps)) (sym (all_points c.before.before.before.before.before.before.before.before))
 
 pub shape_of-list-then-is_empty : goal.shape_of-list-then-is_empty
 shape_of-list-then-is_empty c = c.loop-dy.invariant.still.long
@@ -118,14 +117,13 @@ returns-then-is_empty c =
     let at_loop_test = c.loop-dy-test in
     let at_loop = c.loop-dy in
     let at_rectangle = c.rectangle-rectangle in
-    let back_12 = c.before.before.before.before.before.before.before.before.before.before in
     let a = c.args in
     rows_left_done (row_of_shape a.shape) (to_z w32 (of_z w32 c.rectangle-rectangle.result.top_left.y)) c.rectangle-rectangle.result.size.height
     c.loop-dy.invariant
     (points_after_empty (row_of_shape a.shape) (to_z w32 (of_z w32 c.rectangle-rectangle.result.top_left.y))
     c.rectangle-rectangle.result.size.height _ _ c.loop-dy-test.true (row_is c.before.before.before ∙ c.in-Run.is)
     (sym c.is_empty.ensures ∙ c.if-is_empty.true))
-    ∙ ap (λ (ps : List Point). sets a.list.now 0 (entries ps)) (sym (all_points back_12))
+    ∙ ap (λ (ps : List Point). sets a.list.now 0 (entries ps)) (sym (all_points c.before.before.before.before.before.before.before.before.before.before))
 
 pub run_length-requires : goal.run_length-requires
 run_length-requires c =
@@ -134,13 +132,10 @@ run_length-requires c =
 
 pub put_run-at-requires : goal.put_run-at-requires
 put_run-at-requires c =
-    let early = c.before.before.before.before.before.before.before in
     let at_if1 = c.if-is_empty in
     let at_is_empty = c.is_empty in
-    let back_8 = c.before.before.before.before.before.before.before in
     let at_loop_test = c.loop-dy-test in
     let at_loop = c.loop-dy in
-    let back_15 = c.before.before.before.before.before.before.before.before.before.before.before.before.before.before in
     let at_rectangle = c.rectangle-rectangle in
     let a = c.args in
     let inside = area c.before.before.before.before.before.before.before.before.before.before.before.before.before.before in
@@ -154,8 +149,6 @@ put_run-at-requires c =
 
 pub overflow_add-dy : goal.overflow_add-dy
 overflow_add-dy c =
-    let early = c.before.before.before.before.before.before.before in
-    let back_17 = c.before.before.before.before.before.before.before.before.before.before.before.before.before.before.before in
     let inside = area c.before.before.before.before.before.before.before.before.before.before.before.before.before.before.before in
     let tall = inside.size.height in
     record { fits = omega arith }
@@ -165,13 +158,10 @@ loop-dy-smaller c = omega arith
 
 pub loop-dy-preserved : goal.loop-dy-preserved
 loop-dy-preserved c =
-    let early = c.before.before.before.before.before.before.before in
     let at_if1 = c.if-is_empty in
     let at_is_empty = c.is_empty in
-    let back_10 = c.before.before.before.before.before.before.before.before in
     let at_loop_test = c.loop-dy-test in
     let at_loop = c.loop-dy in
-    let back_17 = c.before.before.before.before.before.before.before.before.before.before.before.before.before.before.before in
     let at_rectangle = c.rectangle-rectangle in
     let a = c.args in
     let put = c.put_run-at.ensures in
@@ -180,10 +170,10 @@ loop-dy-preserved c =
     let full = sym c.is_empty.ensures ∙ c.if-is_empty.false in
     let y = c.from_first-y.ensures in
     let n = c.run_length.ensures in
-    let start_fits = (start_is_near _ _ _ (area back_17).at.x (area back_17).size.width (row_ends c.before.before.before.before.before.before.before.before _ c.in-Run.is)).fits in
+    let start_fits = (start_is_near _ _ _ (area c.before.before.before.before.before.before.before.before.before.before.before.before.before.before.before).at.x (area c.before.before.before.before.before.before.before.before.before.before.before.before.before.before.before).size.width (row_ends c.before.before.before.before.before.before.before.before _ c.in-Run.is)).fits in
     rows_left_next (row_of_shape a.shape) (to_z w32 (of_z w32 c.rectangle-rectangle.result.top_left.y)) c.rectangle-rectangle.result.size.height
     c.loop-dy.invariant c.loop-dy-test.true run run_is full
-    (c.put_run-at.ensures.1 ∙ (λ i. sets c.loop-dy.list c.loop-dy.at (entries (run_points ((to_z-of_z c.from_first-y.ensures.fits ∙ c.from_first-y.ensures.is) i) (to_z-of_z start_fits i) (n i)))))
+    (c.put_run-at.ensures.1 ∙ (λ i. sets c.loop-dy.list c.loop-dy.at (entries (run_points ((to_z-of_z c.from_first-y.ensures.fits ∙ c.from_first-y.ensures.is) i) (to_z-of_z start_fits i) (c.run_length.ensures i)))))
     (omega (arith, c.put_run-at.ensures.0, c.run_length.ensures))
 
 pub shape_of-list : goal.shape_of-list

@@ -16,7 +16,6 @@ pub returns : goal.returns
 unfolding center_check
 returns c =
     let at_refuse_beyond = c.refuse_beyond-x in
-    let entry = c.before.before.before.before.before in
     let x_fits : SFits w32 c.args.center.x = search rules in
     let y_fits : SFits w32 c.args.center.y = search rules in
     c.or_else.ensures

@@ -12,7 +12,6 @@ pub returns : goal.returns
 unfolding point_check
 returns c =
     let at_check_row = c.check_row in
-    let entry = c.before.before.before.before.before in
     let x_fits : SFits w32 c.args.point.x = search rules in
     let y_fits : SFits w32 c.args.point.y = search rules in
     c.or_else.ensures

@@ -14,7 +14,6 @@ use Rattle.geometry.proofs.check_position.Goals as goal
 pub returns : goal.returns
 unfolding position_check
 returns c =
-    let entry = c.before.before.before.before.before in
     let x_fits : SFits w32 c.args.top_left.x = search rules in
     let y_fits : SFits w32 c.args.top_left.y = search rules in
     c.or_else.ensures

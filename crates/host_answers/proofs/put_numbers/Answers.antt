@@ -9,7 +9,6 @@ use Rattle.host_answers.proofs.put_numbers.Goals as goal
 
 pub returns-in_default : goal.returns-in_default
 returns-in_default c =
-    let told = c.before.before in
     rw (sym c.check_room-checked.ensures ∙ c.in_default.is)
     (record { value = c.number.ensures ∙ ap number (refusal_found c.refusal.ensures c.in_default.is); out_after = refl })
 

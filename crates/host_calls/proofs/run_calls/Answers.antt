@@ -40,8 +40,7 @@ leaves c =
     }
 
 pub returns-in-Refused : goal.returns-in-Refused
-returns-in-Refused c =
-    let back_8 = c.before.before.before.before.before.before.before in record { value = c.number.ensures ∙ ap (λ (s : RunSays). run_number s)
+returns-in-Refused c = record { value = c.number.ensures ∙ ap (λ (s : RunSays). run_number s)
           (sym (ap (λ (a : RunAnswer). run_said a) c.in-Refused.is) ∙ says c.before.before.before.before.before.before.before); run_told = leaves c.before.before.before.before.before.before.before; background_value = refl }
 
 pub returns-in-NotCalls : goal.returns-in-NotCalls

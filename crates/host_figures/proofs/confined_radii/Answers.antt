@@ -37,19 +37,19 @@ figure_of-requires c = figure_length_lem c.args.figure.now (is_one c)
 pub returns-in-Refused : goal.returns-in-Refused
 returns-in-Refused c =
     let args = c.args in
-    rw (is_one c.before.before.before.before.before.before)
+    rw (is_one c.before.before.before.before)
     (tells_refusal args.out.now (sym (ap (λ (a : RadiiAnswer). radii_outcome a) c.in-Refused.is) ∙ says
     c.before.before) c.number.ensures)
 
 pub returns-in-NoCorners : goal.returns-in-NoCorners
 returns-in-NoCorners c =
     let args = c.args in
-    rw (is_one c.before.before.before.before)
+    rw (is_one c.before.before.before)
     (tells_as (sym (ap (λ (a : RadiiAnswer). radii_outcome a) c.in-NoCorners.is) ∙ says c.before)
     (tells_nothing args.out.now))
 
 pub returns-in-Radii : goal.returns-in-Radii
 returns-in-Radii c =
-    rw (is_one c.before.before.before.before.before.before.before.before)
+    rw (is_one c.before.before.before.before.before.before)
     (tells_as (sym (ap (λ (a : RadiiAnswer). radii_outcome a) c.in-Radii.is) ∙ says
     c.before.before.before.before) c.put_confined_radii.ensures)

@@ -44,12 +44,12 @@ figure_of-requires c = figure_length_lem c.args.figure.now (is_one c)
 pub returns-in-Refused : goal.returns-in-Refused
 returns-in-Refused c =
     let args = c.args in
-    rw (is_one c.before.before.before.before.before.before)
+    rw (is_one c.before.before.before.before)
     (tells_refusal args.out.now (sym (ap (λ (a : FigureAnswer). figure_outcome a) c.in-Refused.is) ∙ says
     c.before.before) c.number.ensures)
 
 pub returns-in-Answered : goal.returns-in-Answered
 returns-in-Answered c =
-    rw (is_one c.before.before.before.before.before.before.before.before)
+    rw (is_one c.before.before.before.before.before.before)
     (tells_as (sym (ap (λ (a : FigureAnswer). figure_outcome a) c.in-Answered.is) ∙ says
     c.before.before.before.before) c.put_figure.ensures)

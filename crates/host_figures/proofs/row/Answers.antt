@@ -43,19 +43,19 @@ figure_of-requires c = figure_length_lem c.args.figure.now (is_one c)
 pub returns-in-Refused : goal.returns-in-Refused
 returns-in-Refused c =
     let args = c.args in
-    rw (is_one c.before.before.before.before.before.before)
+    rw (is_one c.before.before.before.before)
     (tells_refusal args.out.now (sym (ap (λ (a : RowAnswer). row_outcome a) c.in-Refused.is) ∙ says
     c.before.before) c.number.ensures)
 
 pub returns-in-NoRow : goal.returns-in-NoRow
 returns-in-NoRow c =
     let args = c.args in
-    rw (is_one c.before.before.before.before)
+    rw (is_one c.before.before.before)
     (tells_as (sym (ap (λ (a : RowAnswer). row_outcome a) c.in-NoRow.is) ∙ says c.before)
     (tells_nothing args.out.now))
 
 pub returns-in-Row : goal.returns-in-Row
 returns-in-Row c =
-    rw (is_one c.before.before.before.before.before.before.before.before)
+    rw (is_one c.before.before.before.before.before.before)
     (tells_as (sym (ap (λ (a : RowAnswer). row_outcome a) c.in-Row.is) ∙ says c.before.before.before.before)
     c.put_row.ensures)

@@ -42,35 +42,27 @@ says c = c.write.ensures.result_value
 
 pub returns-in_default : goal.returns-in_default
 returns-in_default c =
-    let told = c.before.before.before in
-    let entry = c.before.before.before.before.before.before.before.before.before.before.before in
-    rw (sym (checked told.before.before) ∙ c.in_default.is) (record { tells = tells_refusal c.args.out.now refl
+    rw (sym (checked c.before.before.before.before) ∙ c.in_default.is) (record { tells = tells_refusal c.args.out.now refl
           (c.number.ensures ∙ ap number (refusal_found c.refusal.ensures c.in_default.is)); file_after = refl })
 
 pub overflow_cast-n : goal.overflow_cast-n
 overflow_cast-n c =
-    let early = c.before.before.before.before.before.before in
-    let back_9 = c.before.before.before.before.before.before.before in
     let args = c.args in
     let a = args in
     record {
       fits = written_length_fits a.format a.width a.height a.canvas.now a.file.now (length a.out.now) _
-          (sym (checked back_9) ∙ c.in-Passed.is)
+          (sym (checked c.before.before.before.before.before.before.before) ∙ c.in-Passed.is)
           (sym (ap (λ (a : WriteAnswer). write_outcome a) c.in-Written.is) ∙ says c.before.before.before.before);
     }
 
 pub returns-in-Refused : goal.returns-in-Refused
 returns-in-Refused c =
-    let early = c.before.before.before.before.before.before.before in
     let at_write = c.write in
-    let back_10 = c.before.before.before.before.before.before.before.before in
     let args = c.args in
-    rw (sym (checked back_10) ∙ c.in-Passed.is) (record { tells = tells_refusal args.out.now (sym (ap (λ (a : WriteAnswer). write_outcome a) c.in-Refused.is) ∙ says
+    rw (sym (checked c.before.before.before.before.before.before.before.before) ∙ c.in-Passed.is) (record { tells = tells_refusal args.out.now (sym (ap (λ (a : WriteAnswer). write_outcome a) c.in-Refused.is) ∙ says
           c.before.before.before.before.before) c.number-in-Refused.ensures; file_after = c.write.ensures.file_after })
 
 pub returns-in-Written : goal.returns-in-Written
 returns-in-Written c =
-    let back_8 = c.before.before.before.before.before.before.before in
     let at_write = c.write in
-    let back_12 = c.before.before.before.before.before.before.before.before.before.before in
-    rw (sym (checked back_12) ∙ c.in-Passed.is) (record { tells = tells_as (sym (ap (λ (a : WriteAnswer). write_outcome a) c.in-Written.is) ∙ says c.before.before.before.before.before.before.before) c.put_count.ensures; file_after = c.write.ensures.file_after })
+    rw (sym (checked c.before.before.before.before.before.before.before.before.before.before) ∙ c.in-Passed.is) (record { tells = tells_as (sym (ap (λ (a : WriteAnswer). write_outcome a) c.in-Written.is) ∙ says c.before.before.before.before.before.before.before) c.put_count.ensures; file_after = c.write.ensures.file_after })

@@ -61,23 +61,19 @@ pub returns-then-not-is_style : goal.returns-then-not-is_style
 returns-then-not-is_style c = rw (is_one c.before.before.before, sym c.is_style.ensures ∙ not-true _ c.if-not-is_style.true) (record { value = refl; canvas_after = refl })
 
 pub figure_of-requires : goal.figure_of-requires
-figure_of-requires c = figure_length_lem c.args.figure.now (is_one c.before.before)
+figure_of-requires c = figure_length_lem c.args.figure.now (is_one c.before.before.before)
 
 pub style_of-requires : goal.style_of-requires
-style_of-requires c = style_length_lem c.args.style.now (is_styled c.before)
+style_of-requires c = style_length_lem c.args.style.now (is_styled c.before.before)
 
 pub returns-in-Refused : goal.returns-in-Refused
 returns-in-Refused c =
-    let back_10 = c.before.before.before.before.before.before.before.before.before in
-    let back_12 = c.before.before.before.before.before.before.before.before.before.before.before in
     rw (is_one c.before.before.before.before.before.before.before.before.before.before.before, is_styled c.before.before.before.before.before.before.before.before.before) (record { value = c.number.ensures ∙ ap (λ (o : Outcome). outcome_number o)
           (sym (ap (λ (a : PaintAnswer). paint_outcome a) c.in-Refused.is) ∙ says
           c.before.before.before.before.before); canvas_after = paints c.before.before.before.before.before })
 
 pub returns-in-Painted : goal.returns-in-Painted
 returns-in-Painted c =
-    let back_8 = c.before.before.before.before.before.before.before.before in
-    let back_10 = c.before.before.before.before.before.before.before.before.before.before in
     rw (is_one c.before.before.before.before.before.before.before.before.before.before, is_styled c.before.before.before.before.before.before.before.before) (record { value = ap (λ (o : Outcome). outcome_number o)
           (sym (ap (λ (a : PaintAnswer). paint_outcome a) c.in-Painted.is) ∙ says c.before.before.before.before); canvas_after = paints
           c.before.before.before.before })

@@ -64,25 +64,17 @@ figure_of-given-requires c = figure_length_lem c.args.figure.now (is_one c)
 
 pub returns-in_default : goal.returns-in_default
 returns-in_default c =
-    let told = c.before.before in
-    let entry = c.before.before.before.before.before.before.before.before.before in
-    rw (is_one c.before.before.before.before.before.before.before, sym (checked told.before.before) ∙ c.in_default.is) (record { tells = tells_refusal c.args.out.now refl
+    rw (is_one c.before.before.before.before.before.before.before, sym (checked c.before.before.before) ∙ c.in_default.is) (record { tells = tells_refusal c.args.out.now refl
           (c.number.ensures ∙ ap number (refusal_found c.refusal.ensures c.in_default.is)); list_after = refl })
 
 pub returns-in-Refused : goal.returns-in-Refused
 returns-in-Refused c =
-    let early = c.before.before.before.before.before in
-    let back_9 = c.before.before.before.before.before.before in
-    let back_13 = c.before.before.before.before.before.before.before.before.before.before in
     let args = c.args in
-    rw (is_one c.before.before.before.before.before.before.before.before.before.before, sym (checked back_9) ∙ c.in-Passed.is) (record { tells = tells_refusal args.out.now (sym (ap (λ (a : PointsAnswer). points_outcome a) c.in-Refused.is) ∙ says
+    rw (is_one c.before.before.before.before.before.before.before.before.before.before, sym (checked c.before.before.before.before.before.before) ∙ c.in-Passed.is) (record { tells = tells_refusal args.out.now (sym (ap (λ (a : PointsAnswer). points_outcome a) c.in-Refused.is) ∙ says
           c.before.before.before) c.number-in-Refused.ensures; list_after = lists c.before.before.before })
 
 pub returns-in-Pairs : goal.returns-in-Pairs
 returns-in-Pairs c =
-    let early = c.before.before.before.before.before.before in
-    let back_11 = c.before.before.before.before.before.before.before.before in
-    let back_15 = c.before.before.before.before.before.before.before.before.before.before.before.before in
-    rw (is_one c.before.before.before.before.before.before.before.before.before.before.before.before, sym (checked back_11) ∙ c.in-Passed.is) (record { tells = tells_as (sym (ap (λ (a : PointsAnswer). points_outcome a) c.in-Pairs.is) ∙ says
+    rw (is_one c.before.before.before.before.before.before.before.before.before.before.before.before, sym (checked c.before.before.before.before.before.before.before.before) ∙ c.in-Passed.is) (record { tells = tells_as (sym (ap (λ (a : PointsAnswer). points_outcome a) c.in-Pairs.is) ∙ says
           c.before.before.before.before.before) c.put_count.ensures; list_after = lists
           c.before.before.before.before.before })

@@ -8,9 +8,6 @@ use Rattle.host_records.proofs.corners_of.Goals as goal
 pub returns : goal.returns
 returns c i =
     let numbers = c.args.numbers.now in
-    let first = c.before.before.before.before.before.before.before.before.before in
-    let second = c.before.before.before.before.before.before in
-    let third = c.before.before.before in
     record {
       top_left =
           (c.size_of.ensures ∙ size_read numbers radii_at (radii_at + 1) c.size_of-arg-1.given

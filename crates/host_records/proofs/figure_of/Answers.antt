@@ -50,11 +50,9 @@ returns-then-numbers-lt-CRATE_BOX c = rw (by_ellipse c.before c.if-numbers-lt-CR
 pub returns-then-numbers-lt-W3C_BOX : goal.returns-then-numbers-lt-W3C_BOX
 unfolding figure_of
 returns-then-numbers-lt-W3C_BOX c =
-    let other = c.before.before.before in
     rw (by_ellipse c.before.before.before.before c.if-numbers-lt-CRATE_BOX.false, by_box c.before c.if-numbers-lt-W3C_BOX.true) (ap CrateBox (box_is c.before))
 
 pub returns : goal.returns
 unfolding figure_of
 returns c =
-    let other = c.before.before.before in
     rw (by_ellipse c.before.before.before.before c.if-numbers-lt-CRATE_BOX.false, by_box c.before c.if-numbers-lt-W3C_BOX.false) (ap W3cBox (box_is c.before))

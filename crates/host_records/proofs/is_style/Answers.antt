@@ -92,7 +92,6 @@ returns-then-not-is_within-2 c =
 pub returns-then-numbers-lt0 : goal.returns-then-numbers-lt0
 unfolding is_style
 returns-then-numbers-lt0 c =
-    let back_8 = c.before.before.before.before.before.before.before.before in
     rw (
       long c.before.before.before.before.before.before.before.before,
       after_stroke c.before.before.before.before.before,
@@ -104,7 +103,6 @@ returns-then-numbers-lt0 c =
 pub returns : goal.returns
 unfolding is_style
 returns c =
-    let back_10 = c.before.before.before.before.before.before.before.before.before.before in
     rw (
       long c.before.before.before.before.before.before.before.before.before.before,
       after_stroke c.before.before.before.before.before.before.before,

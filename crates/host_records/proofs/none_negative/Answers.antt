@@ -43,13 +43,11 @@ by_sign c = rw (to_z-of_z (fits c)) (λ e. omega (arith, int), λ e. omega (arit
 
 pub returns-then-numbers-i-lt0 : goal.returns-then-numbers-i-lt0
 returns-then-numbers-i-lt0 c =
-    let here = c.before in
-    sym (sym c.loop-i.invariant.1 ∙ step c.before ∙ rw ((by_sign here).0 c.if-numbers-i-lt0.true))
+    sym (sym c.loop-i.invariant.1 ∙ step c.before ∙ rw ((by_sign c.before).0 c.if-numbers-i-lt0.true))
 
 pub loop-i-preserved : goal.loop-i-preserved
 loop-i-preserved c =
-    let here = c.before in
-    (omega arith, sym (step c.before ∙ rw ((by_sign here).1 c.if-numbers-i-lt0.false)) ∙ c.loop-i.invariant.1)
+    (omega arith, sym (step c.before ∙ rw ((by_sign c.before).1 c.if-numbers-i-lt0.false)) ∙ c.loop-i.invariant.1)
 
 pub returns : goal.returns
 returns c =

@@ -34,6 +34,5 @@ returns-then-v-lt0 c = rw (held c.before c.if-v-lt0.true)
 pub returns : goal.returns
 unfolding paint_of
 returns c =
-    let entry = c.before.before in
     rw (held c.before.before c.if-v-lt0.false)
-    (ap (λ (n : ℕ). Colour (n % 256)) (c.floor0.ensures ∙ ap (λ (z : ℤ). floor0 z) (to_z-of_z (fits entry))))
+    (ap (λ (n : ℕ). Colour (n % 256)) (c.floor0.ensures ∙ ap (λ (z : ℤ). floor0 z) (to_z-of_z (fits c.before.before))))

@@ -11,7 +11,6 @@ use Rattle.host_records.proofs.size_of.Goals as goal
 
 pub returns : goal.returns
 returns c =
-    let entry = c.before.before in
     let width_fits : SFits w32 c.args.width = search rules in
     let height_fits : SFits w32 c.args.height = search rules in
     size_by_fields (c.floor0.ensures ∙ ap (λ (z : ℤ). floor0 z) (to_z-of_z width_fits))

@@ -70,7 +70,7 @@ after c =
 is_accepted_lem : (c : In-Accepted)
     → sheet_answer (sheet_of c.args.sheet.now) []
     (add_of c.args.figure.now c.args.style.now) ≡ Passed
-is_accepted_lem c = sym (says c.before.before) ∙ ap (λ (a : SheetAnswer). said a) c.in-Accepted.is
+is_accepted_lem c = sym (says c.before) ∙ ap (λ (a : SheetAnswer). said a) c.in-Accepted.is
 
 carried : (c : In-Accepted)
     → c.add-made.result.sheet ≡ carried_out_sheet (sheet_of c.args.sheet.now)
@@ -113,24 +113,22 @@ returns-then-not-is_style c =
 pub sheet_of-before-requires : goal.sheet_of-before-requires
 sheet_of-before-requires c =
     let a = c.args in
-    sheet_length_lem a.sheet.now (is_one c.before.before.before.before.before)
+    sheet_length_lem a.sheet.now (is_one c.before.before.before.before)
 
 pub figure_of-requires : goal.figure_of-requires
 figure_of-requires c =
     let a = c.args in
-    figure_length_lem a.figure.now (is_a_figure c.before.before.before.before)
+    figure_length_lem a.figure.now (is_a_figure c.before.before.before)
 
 pub style_of-requires : goal.style_of-requires
 style_of-requires c =
     let a = c.args in
-    style_length_lem a.style.now (is_a_style c.before.before.before)
+    style_length_lem a.style.now (is_a_style c.before.before)
 
 pub returns-in_default : goal.returns-in_default
 unfolding add_told add_numbers
 returns-in_default c =
-    let told = c.before in
-    let made = c.before.before in
-    let refused = sym (says made) ∙ ap (λ (a : SheetAnswer). said a) c.in_default.is in
+    let refused = sym (says c.before.before) ∙ ap (λ (a : SheetAnswer). said a) c.in_default.is in
     rw (
       is_one c.before.before.before.before.before.before.before.before.before.before,
       is_a_figure
@@ -145,31 +143,21 @@ bounds-places-place c = place c.before.before.before
 
 pub put_layer-requires : goal.put_layer-requires
 put_layer-requires c =
-    let early = c.before.before.before.before.before.before.before.before in
-    let back_13 = c.before.before.before.before.before.before.before.before.before.before.before.before.before in
-    let back_15 = c.before.before.before.before.before.before.before.before.before.before.before.before.before.before.before in
-    let back_17 = c.before.before.before.before.before.before.before.before.before.before.before.before.before.before.before.before.before in
     let a = c.args in
-    let within = place c.before.before.before.before.before.before.before in record { numbers_len = (sheet_length_lem a.sheet.now (is_one back_17), within); figure_len = (figure_length_lem a.figure.now (is_a_figure back_15), style_length_lem a.style.now (is_a_style back_13)) }
+    let within = place c.before.before.before.before.before.before.before in record { numbers_len = (sheet_length_lem a.sheet.now (is_one c.before.before.before.before.before.before.before.before.before.before.before.before.before.before.before.before), within); figure_len = (figure_length_lem a.figure.now (is_a_figure c.before.before.before.before.before.before.before.before.before.before.before.before.before.before), style_length_lem a.style.now (is_a_style c.before.before.before.before.before.before.before.before.before.before.before.before)) }
 
 pub from_u32-requires : goal.from_u32-requires
 from_u32-requires c =
-    let early = c.before.before.before.before.before.before.before.before in
-    let back_8 = c.before.before.before.before.before.before.before.before in
-    let half_args = c.before.before.before.before.before.before.before.before.before.before.before.before.before.before in
     let args = c.args in
     let a = args in
-    let few = added_count a.sheet.now a.figure.now a.style.now (is_accepted_lem back_8) in
-    let same = ap (λ (s : Sheet). s.count) (after c.before.before.before.before.before.before.before.before.before.before) in
+    let few = added_count a.sheet.now a.figure.now a.style.now (is_accepted_lem c.before.before.before.before.before.before.before.before) in
+    let same = ap (λ (s : Sheet). s.count) (after c.before.before.before.before.before.before.before.before.before) in
     omega arith
 
 pub bounds-sheet-2 : goal.bounds-sheet-2
 bounds-sheet-2 c =
-    let early = c.before.before.before.before.before.before.before.before in
-    let back_20 = c.before.before.before.before.before.before.before.before.before.before.before.before.before.before.before.before.before.before.before in
-    let half_a = c.before.before.before.before.before.before.before.before.before.before.before.before.before.before in
     let a = c.args in
-    let long = sheet_length_lem a.sheet.now (is_one back_20) in
+    let long = sheet_length_lem a.sheet.now (is_one c.before.before.before.before.before.before.before.before.before.before.before.before.before.before.before.before.before.before) in
     let kept = c.sheet-1.given in
     omega arith
 
@@ -179,7 +167,6 @@ shape_of-sheet c = simp length-set (search rules)
 pub returns : goal.returns
 unfolding add_told add_numbers
 returns c =
-    let early = c.before.before.before.before.before.before.before.before.before.before.before in
     rw (
       is_one c.before.before.before.before.before.before.before.before.before.before.before.before.before.before.before.before.before.before,
       is_a_figure c.before.before.before.before.before.before.before.before.before.before.before.before.before.before.before.before,

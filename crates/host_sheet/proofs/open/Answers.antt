@@ -15,7 +15,6 @@ use Rattle.host_sheet.proofs.open.Goals as goal
 
 pub returns-in_default : goal.returns-in_default
 returns-in_default c =
-    let told = c.before.before in
     rw (sym c.check-checked.ensures ∙ c.in_default.is)
     (tells_refusal c.args.sheet.now refl
     (c.number.ensures ∙ ap number (refusal_found c.refusal.ensures c.in_default.is)))
@@ -23,8 +22,6 @@ returns-in_default c =
 pub returns : goal.returns
 unfolding held_by32 unused_places
 returns c =
-    let made = c.before.before.before.before.before.before in
-    let start = c.before.before.before.before.before.before.before.before.before in
     let held = c.held in
     let held2 = c.held-2 in
     let W = c.args.width in

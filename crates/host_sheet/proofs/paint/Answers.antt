@@ -42,7 +42,7 @@ checked c = c.check_paint-checked.ensures c.args.canvas.now refl
 is_accepted_lem : (c : In-Passed)
     → sheet_answer (sheet_of c.args.sheet.now) c.args.canvas.now
     (call_paint c.args.layer) ≡ Passed
-is_accepted_lem c = sym (checked c.before.before) ∙ c.in-Passed.is
+is_accepted_lem c = sym (checked c.before) ∙ c.in-Passed.is
 
 pub returns-then-not-is_sheet : goal.returns-then-not-is_sheet
 unfolding paint_told paint_numbers paint_canvas
@@ -55,21 +55,17 @@ check_paint-checked-requires c = sheet_length_lem c.args.sheet.now (is_one c.bef
 pub returns-in_default : goal.returns-in_default
 unfolding paint_told paint_numbers paint_canvas
 returns-in_default c =
-    let told = c.before.before.before in
-    let check = c.before.before.before.before in
     let a = c.args in
-    let refused = sym (checked check) ∙ c.in_default.is in
+    let refused = sym (checked c.before.before.before.before) ∙ c.in_default.is in
     rw (is_one c.before.before.before.before.before, refused) (record { value = c.number.ensures ∙ ap number (refusal_found c.refusal.ensures c.in_default.is); sheet_after = refl; canvas_after = sym (refused_canvas (sheet_of a.sheet.now) (sixteen a.sheet.now) a.canvas.now (call_paint a.layer) _ refused) })
 
 pub paint_next-requires : goal.paint_next-requires
-paint_next-requires c =
-    let told = c.before.before in record { numbers_len = sheet_length_lem c.args.sheet.now (is_one told.before.before.before.before); layer_value = is_accepted_lem c.before.before }
+paint_next-requires c = record { numbers_len = sheet_length_lem c.args.sheet.now (is_one c.before.before.before.before); layer_value = is_accepted_lem c.before.before }
 
 -- accepted
 pub returns : goal.returns
 unfolding paint_told paint_numbers paint_canvas
 returns c =
-    let told = c.before.before.before.before.before.before.before in
     let a = c.args in
     let painted = c.paint_next.ensures in
-    rw (is_one c.before.before.before.before.before.before.before.before.before, is_accepted_lem c.before.before.before.before.before.before.before) (record { value = refl; sheet_after = c.paint_next.ensures.numbers_after ∙ painted_numbers a.sheet.now a.layer a.canvas.now (is_accepted_lem told); canvas_after = c.paint_next.ensures.canvas_after })
+    rw (is_one c.before.before.before.before.before.before.before.before.before, is_accepted_lem c.before.before.before.before.before.before.before) (record { value = refl; sheet_after = c.paint_next.ensures.numbers_after ∙ painted_numbers a.sheet.now a.layer a.canvas.now (is_accepted_lem c.before.before.before.before.before.before.before); canvas_after = c.paint_next.ensures.canvas_after })

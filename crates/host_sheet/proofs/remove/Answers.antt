@@ -77,7 +77,7 @@ painted c =
 is_accepted_lem : (c : In-Accepted)
     → sheet_answer (sheet_of c.args.sheet.now) c.args.canvas.now
     (call_remove c.args.layer c.args.background.now) ≡ Passed
-is_accepted_lem c = sym (says c.before.before.before.before) ∙ ap (λ (a : SheetAnswer). said a) c.in-Accepted.is
+is_accepted_lem c = sym (says c.before.before.before) ∙ ap (λ (a : SheetAnswer). said a) c.in-Accepted.is
 
 carried : (c : In-Accepted)
     → c.remove-made.result.sheet ≡ carried_out_sheet (sheet_of c.args.sheet.now)
@@ -111,7 +111,7 @@ small_counts c =
 
 -- the numbers have a sheet's length
 long : (c : In-Accepted) → length c.args.sheet.now ≡ sheet_length
-long c = sheet_length_lem c.args.sheet.now (is_one c.before.before.before.before.before.before.before.before)
+long c = sheet_length_lem c.args.sheet.now (is_one c.before.before.before.before.before.before)
 
 pub returns-then-not-is_sheet : goal.returns-then-not-is_sheet
 unfolding remove_told remove_numbers remove_canvas
@@ -124,9 +124,7 @@ sheet_of-before-requires c = sheet_length_lem c.args.sheet.now (is_one c.before)
 pub returns-in_default : goal.returns-in_default
 unfolding remove_told remove_numbers remove_canvas
 returns-in_default c =
-    let told = c.before.before in
-    let made = c.before.before.before.before.before in
-    let refused = sym (says made) ∙ ap (λ (a : SheetAnswer). said a) c.in_default.is in
+    let refused = sym (says c.before.before.before.before.before) ∙ ap (λ (a : SheetAnswer). said a) c.in_default.is in
     rw (is_one c.before.before.before.before.before.before.before.before, refused) (record { value = c.number_of.ensures ∙ ap (λ (a : SheetAnswer). answer_number (said a)) c.in_default.is; sheet_after = refl; canvas_after = painted c.before.before.before.before.before; background_value = refl })
 
 pub remove_place-requires : goal.remove_place-requires
@@ -147,7 +145,5 @@ bounds-sheet-2 c =
 pub returns : goal.returns
 unfolding remove_told remove_numbers remove_canvas
 returns c =
-    let told = c.before.before.before.before.before.before in
-    let made = c.before.before.before.before.before.before.before.before.before in
     rw (is_one c.before.before.before.before.before.before.before.before.before.before.before.before, is_accepted_lem c.before.before.before.before.before.before) (record { value = refl; sheet_after = ap₂ (λ (l : List ℤ) (z : ℤ). set l count_at z) c.remove_place.ensures
-            (to_z-of_z c.from_u32.ensures.fits ∙ c.from_u32.ensures.is ∙ ap (λ (s : Sheet). pos s.count) (carried told)); canvas_after = painted c.before.before.before.before.before.before.before.before.before; background_value = refl })
+            (to_z-of_z c.from_u32.ensures.fits ∙ c.from_u32.ensures.is ∙ ap (λ (s : Sheet). pos s.count) (carried c.before.before.before.before.before.before)); canvas_after = painted c.before.before.before.before.before.before.before.before.before; background_value = refl })

@@ -61,7 +61,7 @@ size_is c check found =
     sym (c.check.ensures ∙ ap₂ canvas_size_check c.size_of-size.ensures.0 c.size_of-size.ensures.1) ∙ found
 
 size : (c : goal.In-Passed)
-    → canvas_size_check (sheet c.before.before.before.before).width (sheet c.before.before.before.before).height
+    → canvas_size_check (sheet c.before.before.before).width (sheet c.before.before.before).height
     ≡ Passed
 size c = size_is c.before Passed c.in-Passed.is
 
@@ -102,14 +102,12 @@ tested c =
 
 pub returns-in_default : goal.returns-in_default
 returns-in_default c =
-    let entry = c.before.before.before in
     λ canvas long. sym (refused c.before.before.before canvas
-    (broken_size (sheet entry).width (sheet entry).height (sheet entry).count (sheet entry).layers _
+    (broken_size (sheet c.before.before.before).width (sheet c.before.before.before).height (sheet c.before.before.before).count (sheet c.before.before.before).layers _
     (size_is c.before _ c.in_default.is)))
 
 pub returns-then-not-is_within : goal.returns-then-not-is_within
 returns-then-not-is_within c =
-    let entry = c.before.before.before.before.before.before in
     λ canvas long. sym
     (refused c.before.before.before.before.before.before canvas
     (broken_by_count c.args.numbers.now c.requires (few_is c.before ∙ not-true _ c.if-not-is_within.true)))
@@ -120,27 +118,23 @@ test_places-requires c =
 
 pub returns-in_default-test_places : goal.returns-in_default-test_places
 returns-in_default-test_places c =
-    let places = c.before in
-    let read = c.before.before in
     let entry = start c.before.before in
     let n = entry.args.numbers.now in
     let broken = tested_broken n (floor0 (number_at n count_at)) entry.args.layer (next_of n entry.args.layer)
     (sym c.in_default-test_places.is ∙ tested c.before) in
-    λ canvas long. sym (refused entry canvas (rules_by_places n entry.pre (passed read) (few read) ∙ broken))
+    λ canvas long. sym (refused entry canvas (rules_by_places n entry.pre (passed c.before.before) (few c.before.before) ∙ broken))
 
 pub returns : goal.returns
 returns c =
-    let places = c.before.before in
-    let read = c.before.before.before in
     let entry = start c.before.before.before in
     let a = entry.args in
     let n = a.numbers.now in
     let found = tested_kept n (floor0 (number_at n count_at)) a.layer (next_of n a.layer) c.in-Kept.asked
     (sym c.in-Kept.is ∙ tested c.before.before) in
-    let rules = rules_by_places n entry.pre (passed read) (few read) ∙ found.0 in
+    let rules = rules_by_places n entry.pre (passed c.before.before.before) (few c.before.before.before) ∙ found.0 in
     let size = c.size_of-size.ensures in
     λ canvas long.
     c.check_asked.ensures
     ∙ (λ i. asked_check (c.size_of-size.ensures.0 i) (c.size_of-size.ensures.1 i) (sym long i) (count_is c.before.before.before i) a.layer (found.1 i))
     ∙ answer_by_asked n entry.pre (floor0 (number_at n count_at)) a.layer canvas rules
-    (count_kept n entry.pre (passed read) (few read) rules) (count_few n entry.pre (passed read) (few read))
+    (count_kept n entry.pre (passed c.before.before.before) (few c.before.before.before) rules) (count_few n entry.pre (passed c.before.before.before) (few c.before.before.before))

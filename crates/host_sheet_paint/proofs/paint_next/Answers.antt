@@ -79,14 +79,12 @@ layer_at-chosen-requires c = (c.requires.numbers_len, place c.before.before)
 
 pub row_at-requires : goal.row_at-requires
 row_at-requires c =
-    let read = c.before.before.before.before.before in
-    let next = (within read).next in record { own_figure = (within read).figure; stroke_width_bound = (within read).stroke; near = rw (to_z-of_z next.fits) next }
+    let next = (within c.before.before.before.before).next in record { own_figure = (within c.before.before.before.before).figure; stroke_width_bound = (within c.before.before.before.before).stroke; near = rw (to_z-of_z next.fits) next }
 
 pub paint_row_on-requires : goal.paint_row_on-requires
 paint_row_on-requires c =
-    let read = c.before.before.before.before.before.before in
     let size = c.size_of-size.ensures in
-    let next = (within read).next in record { canvas_len = (told c.before.before.before.before.before.before.before).size ∙ sym (ap₂ ◌*◌ c.size_of-size.ensures.0 c.size_of-size.ensures.1); width_le_wide_side = rw c.size_of-size.ensures.0 (narrow c.before.before.before.before.before.before.before); near = rw (to_z-of_z next.fits) next }
+    let next = (within c.before.before.before.before.before).next in record { canvas_len = (told c.before.before.before.before.before.before.before).size ∙ sym (ap₂ ◌*◌ c.size_of-size.ensures.0 c.size_of-size.ensures.1); width_le_wide_side = rw c.size_of-size.ensures.0 (narrow c.before.before.before.before.before.before.before); near = rw (to_z-of_z next.fits) next }
 
 pub add-requires : goal.add-requires
 add-requires c =
@@ -95,7 +93,6 @@ add-requires c =
 
 pub bounds-numbers-place : goal.bounds-numbers-place
 bounds-numbers-place c =
-    let e = c.before.before.before.before.before.before.before.before.before.before.before.before in
     let within = place c.before.before.before.before.before.before.before.before.before.before.before.before in
     let long = c.requires.numbers_len in
     omega arith
@@ -109,14 +106,13 @@ written canvas W H l = paint_row drawing W H (styled_figure l.figure l.style) l.
 
 pub returns : goal.returns
 returns c =
-    let read = c.before.before.before.before.before.before.before.before.before.before.before in
     let e = entry c.before.before.before.before.before.before.before.before.before.before in
     let a = e.args in
     let layer = c.layer_at-chosen.result in
     let made = c.size_of-size.result in
     let size = c.size_of-size.ensures in
     let row = c.row_at in
-    let held = to_z-of_z (within read).next.ranges in record { numbers_after = ap (λ (z : ℤ). set a.numbers.now (place_at a.layer + next_row_at) z)
+    let held = to_z-of_z (within c.before.before.before.before.before.before.before.before.before.before).next.ranges in record { numbers_after = ap (λ (z : ℤ). set a.numbers.now (place_at a.layer + next_row_at) z)
           (to_z-of_z c.add.ensures.fits ∙ c.add.ensures.is ∙ ap (λ (z : ℤ). z +ℤ pos 1)
           (held ∙ ap (λ (l : Layer). l.next_row) c.layer_at-chosen.ensures)); canvas_after = c.paint_row_on.ensures
           ∙ ap (λ (z : ℤ). paint_by (λ _. c.row_at.result) c.layer_at-chosen.result.style c.size_of-size.result.width c.size_of-size.result.height z a.canvas.now) held

@@ -17,7 +17,6 @@ from_u32-requires c =
 
 pub sub-requires : goal.sub-requires
 sub-requires c =
-    let entry = c.before.before in
     let a = c.args in
     let near = c.requires.0 in
     let few = c.requires.1 in
@@ -29,7 +28,6 @@ sub-requires c =
 
 pub returns : goal.returns
 returns c =
-    let entry = c.before.before.before in
     let near = c.requires.0 in
     let wide = c.from_u32.ensures in
     let made = c.sub.ensures in

@@ -31,8 +31,8 @@ returns-then-not-rectangle_kept c = rw (sym c.rectangle_kept.ensures ∙ not-tru
 
 pub returns-then-numbers-lt-CRATE_BOX : goal.returns-then-numbers-lt-CRATE_BOX
 unfolding figure_kept
-returns-then-numbers-lt-CRATE_BOX c = let read = c.before.before in rw (rectangle c.before.before, kind c.before.before c.if-numbers-lt-CRATE_BOX.true) c.radii_kept.ensures
+returns-then-numbers-lt-CRATE_BOX c = rw (rectangle c.before.before, kind c.before.before c.if-numbers-lt-CRATE_BOX.true) c.radii_kept.ensures
 
 pub returns : goal.returns
 unfolding figure_kept
-returns c = let read = c.before.before in rw (rectangle c.before.before, kind c.before.before c.if-numbers-lt-CRATE_BOX.false) c.radii_kept-2.ensures
+returns c = rw (rectangle c.before.before, kind c.before.before c.if-numbers-lt-CRATE_BOX.false) c.radii_kept-2.ensures

@@ -25,7 +25,6 @@ outside_is c =
 
 pub area_top-requires : goal.area_top-requires
 area_top-requires c =
-    let entry = c.before.before.before.before.before.before in
     let n = c.args.numbers.now in
     let read = c.area_top-arg-1.given in
     let limits = kept_limits n c.requires.numbers_len c.requires.numbers_value in
@@ -33,7 +32,6 @@ area_top-requires c =
 
 pub returns : goal.returns
 returns c =
-    let entry = c.before.before.before.before.before.before.before in
     let n = c.args.numbers.now in
     let made = c.area_top.ensures.is in
     let y = read_back n y_at c.area_top-arg-1.given in

@@ -38,13 +38,11 @@ returns-then-alignment-lt-CENTER c = rw (held c.before center_alignment c.if-ali
 pub returns-then-alignment-lt-OUTSIDE : goal.returns-then-alignment-lt-OUTSIDE
 unfolding alignment_of
 returns-then-alignment-lt-OUTSIDE c =
-    let entry = c.before.before.before in
     rw (held c.before.before.before center_alignment c.if-alignment-lt-CENTER.false, held c.before.before.before outside_alignment c.if-alignment-lt-OUTSIDE.true)
     (ap (λ (n : ℕ). n / 2) (c.floor0.ensures ∙ width_is c.before.before.before))
 
 pub returns : goal.returns
 unfolding alignment_of
 returns c =
-    let entry = c.before.before.before in
     rw (held c.before.before.before center_alignment c.if-alignment-lt-CENTER.false, held c.before.before.before outside_alignment c.if-alignment-lt-OUTSIDE.false)
     (c.floor0-2.ensures ∙ width_is c.before.before.before)

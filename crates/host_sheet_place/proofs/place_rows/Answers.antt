@@ -52,14 +52,12 @@ by_end c test =
 
 pub returns-then-not-figure_kept : goal.returns-then-not-figure_kept
 returns-then-not-figure_kept c =
-    let entry = c.before.before in
     let n = c.args.numbers.now in
     let beyond = sym c.figure_kept.ensures ∙ not-true _ c.if-not-figure_kept.true in
     rw (place_beyond_limits n c.requires (ap (λ (t : Bool). t && style_kept n) beyond))
 
 pub returns-then-not-style_kept : goal.returns-then-not-style_kept
 returns-then-not-style_kept c =
-    let entry = c.before.before.before.before in
     let n = c.args.numbers.now in
     let beyond = sym c.style_kept.ensures ∙ not-true _ c.if-not-style_kept.true in
     rw (place_beyond_limits n c.requires (ap (λ (t : Bool). figure_kept n && t) beyond ∙ and-false (figure_kept n)))
@@ -69,20 +67,17 @@ rows_within-rows-requires c = record { numbers_len = c.requires; numbers_value =
 
 pub returns-then-rows : goal.returns-then-rows
 returns-then-rows c =
-    let found = c.before.before.before in
     let entry = start c.before.before.before in
     rw (place_above entry.args.numbers.now entry.pre (by_first c.before.before.before c.if-rows.true))
 
 pub returns-then-rows-2 : goal.returns-then-rows-2
 returns-then-rows-2 c =
-    let found = c.before.before.before.before.before.before in
     let entry = start c.before.before.before.before.before.before in
     rw (place_below entry.args.numbers.now entry.pre (by_end c.before.before.before.before.before.before c.if-rows-2.true))
 
 pub returns : goal.returns
 returns c =
-    let found = c.before.before.before.before.before.before in
     let entry = start c.before.before.before.before.before.before in
-    rw (place_among entry.args.numbers.now entry.pre (limits found.before)
+    rw (place_among entry.args.numbers.now entry.pre (limits c.before.before.before.before.before.before.before)
     (by_first c.before.before.before.before.before.before c.if-rows.false) (by_end c.before.before.before.before.before.before c.if-rows-2.false))
     (ap Kept c.rows_within-rows.ensures.0)

@@ -11,11 +11,6 @@ use Rattle.host_sheet_place.proofs.rectangle_kept.Goals as goal
 pub returns : goal.returns
 unfolding rectangle_kept
 returns c =
-    let height = c.before in
-    let width = c.before.before.before in
-    let y = c.before.before.before.before.before in
-    let x = c.before.before.before.before.before.before.before in
-    let kind = c.before.before.before.before.before.before.before.before.before in
     let n = c.args.numbers.now in
     let at0 = c.is_within.ensures ∙ ap (within ellipse_kind w3c_box_kind) (read_back n kind_at c.is_within-arg-1.given) in
     let at1 = c.is_within-2.ensures

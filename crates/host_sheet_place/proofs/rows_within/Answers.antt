@@ -44,7 +44,6 @@ outside_is c =
 
 first_is : (c : goal.After-area_top-first) → c.area_top-first.result ≡ first_row_of c.args.numbers.now
 first_is c =
-    let read = c.before.before in
     let y = read_back c.args.numbers.now y_at c.area_top-arg-1.given in
     c.area_top-first.ensures.is.is ∙ (λ i. y i -ℤ pos (rows_above (height_is c.before.before i) (outside_is c.before.before i)))
 
@@ -58,7 +57,6 @@ width_is c =
 count_is : (c : goal.After-area_rows-count)
     → c.area_rows-count.result ≡ count_of c.args.numbers.now
 count_is c =
-    let read = c.before.before.before.before.before.before in
     let kind = read_back c.args.numbers.now kind_at c.area_rows-arg-1.given in
     c.area_rows-count.ensures.value
     ∙ (λ i. stroke_count (lt_z (kind i) crate_box_kind) (width_is c.before i + 2 * outside_is c.before.before.before.before.before.before i)
@@ -66,7 +64,6 @@ count_is c =
 
 pub area_top-first-requires : goal.area_top-first-requires
 area_top-first-requires c =
-    let read = c.before in
     let entry = start c.before in
     let n = entry.args.numbers.now in
     let given = c.area_top-arg-1.given in
@@ -74,7 +71,6 @@ area_top-first-requires c =
 
 pub area_rows-count-requires : goal.area_rows-count-requires
 area_rows-count-requires c =
-    let read = c.before.before.before.before.before in
     let entry = start c.before.before.before.before.before in
     let n = entry.args.numbers.now in
     let sides = sides_small n (limits entry) in (
@@ -97,20 +93,18 @@ pub returns : goal.returns
 unfolding layer_rows
 returns c =
     let wide = c.from_u32.ensures in
-    let rows = c.before.before.before in
-    let top = c.before.before.before.before.before.before.before in
     let n = c.args.numbers.now in
     let made = c.add.ensures in
     let next = c.result-1.given in
     let first = to_z-of_z c.area_top-first.ensures.is.fits ∙ first_is c.before.before.before.before.before.before.before in
     let place = rows_of_place n c.requires.numbers_len in
     let end = to_z-of_z c.add.ensures.fits ∙ c.add.ensures.is
-    ∙ ap₂ ◌+ℤ◌ first (to_z-of_z c.from_u32.ensures.fits ∙ c.from_u32.ensures.is ∙ ap (λ (k : ℕ). pos k) (count_is rows)) in (
+    ∙ ap₂ ◌+ℤ◌ first (to_z-of_z c.from_u32.ensures.fits ∙ c.from_u32.ensures.is ∙ ap (λ (k : ℕ). pos k) (count_is c.before.before.before)) in (
       rows_by_fields (first ∙ sym (ap (λ (r : StrokeRows). r.first) place)) (read_back n next_row_at c.result-1.given)
           (end ∙ sym (ap (λ (r : StrokeRows). r.first +ℤ pos r.count) place)),
       record {
         first = rw (to_z-of_z c.area_top-first.ensures.is.fits) c.area_top-first.ensures.is.fits;
-        c.result-1.given = rw (read_back n next_row_at c.result-1.given) (sfits_of next);
+        c.result-1.given = rw (read_back n next_row_at c.result-1.given) (sfits_of c.result-1.given);
         end = rw (to_z-of_z c.add.ensures.fits) c.add.ensures.fits;
       },
     )

@@ -13,10 +13,6 @@ use Rattle.host_sheet_place.proofs.style_kept.Goals as goal
 pub returns : goal.returns
 unfolding style_kept
 returns c =
-    let alignment = c.before in
-    let width = c.before.before.before in
-    let fill = c.before.before.before.before.before in
-    let stroke = c.before.before.before.before.before.before.before in
     let n = c.args.numbers.now in
     let at13 = c.is_within.ensures
     ∙ ap (within absent_paint max_colour) (read_back n (style_at + stroke_at) c.is_within-arg-1.given) in

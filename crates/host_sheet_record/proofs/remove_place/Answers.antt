@@ -10,8 +10,6 @@ use Rattle.host_sheet_record.proofs.remove_place.Goals as goal
 
 pub returns : goal.returns
 returns c =
-    let made = c.before.before.before.before.before in
-    let start = c.before.before.before.before.before.before.before.before in
     let numbers = c.args.numbers.now in
     let i = c.args.place in
     c.put_from.ensures

@@ -35,18 +35,15 @@ later c = rows_from c.args.numbers.now c.args.from (c.args.count - c.args.from)
 
 pub returns-then-earlier : goal.returns-then-earlier
 returns-then-earlier c =
-    let entry = c.before.before.before in
-    sym (none_owed c.args.earlier (later entry)
-    (le_held (earlier_fits entry).end (earlier_fits entry).next c.if-earlier.true))
+    sym (none_owed c.args.earlier (later c.before.before.before)
+    (le_held (earlier_fits c.before.before.before).end (earlier_fits c.before.before.before).next c.if-earlier.true))
 
 pub returns-then-painted-earlier : goal.returns-then-painted-earlier
 returns-then-painted-earlier c =
-    let entry = c.before.before.before.before.before.before.before.before in
     sym (none_past_next c.args.earlier c.args.painted
-    (le_held (end_fits entry) (earlier_fits entry).next c.if-painted-earlier.true) (later entry) c.requires.keep_to)
+    (le_held (end_fits c.before.before.before.before.before.before.before.before) (earlier_fits c.before.before.before.before.before.before.before.before).next c.if-painted-earlier.true) (later c.before.before.before.before.before.before.before.before) c.requires.keep_to)
 
 pub returns-then-earlier-painted : goal.returns-then-earlier-painted
 returns-then-earlier-painted c =
-    let entry = c.before.before.before.before.before.before.before.before.before.before.before.before.before in
     sym (none_before_end c.args.earlier c.args.painted
-    (le_held (earlier_fits entry).end (first_fits entry) c.if-earlier-painted.true) (later entry) c.requires.keep_to)
+    (le_held (earlier_fits c.before.before.before.before.before.before.before.before.before.before.before.before.before).end (first_fits c.before.before.before.before.before.before.before.before.before.before.before.before.before) c.if-earlier-painted.true) (later c.before.before.before.before.before.before.before.before.before.before.before.before.before) c.requires.keep_to)

@@ -41,7 +41,6 @@ loop-j-init c = (omega arith, c.requires.from_le_count.0, refl)
 
 pub painted_at-later-requires : goal.painted_at-later-requires
 painted_at-later-requires c =
-    let entry = c.before.before in
     let n = c.args.numbers.now in
     let here = c.loop-j-test.true in
     let from = c.loop-j.invariant.0 in
@@ -49,14 +48,13 @@ painted_at-later-requires c =
           c.loop-j.j c.loop-j.invariant.0 (omega arith) c.requires.from_value }
 
 pub returns-then-is_overtaken : goal.returns-then-is_overtaken
-returns-then-is_overtaken c = let found = c.before in sym (sym c.loop-j.invariant.2 ∙ step c.before true c.if-is_overtaken.true)
+returns-then-is_overtaken c = sym (sym c.loop-j.invariant.2 ∙ step c.before true c.if-is_overtaken.true)
 
 pub loop-j-smaller : goal.loop-j-smaller
 loop-j-smaller c = omega arith
 
 pub loop-j-preserved : goal.loop-j-preserved
 loop-j-preserved c =
-    let found = c.before in
     let inv = c.loop-j.invariant in
     (omega arith, omega arith, sym (step c.before false c.if-is_overtaken.false) ∙ c.loop-j.invariant.2)
 

@@ -32,11 +32,10 @@ first_row-requires c =
 pub returns : goal.returns
 unfolding layer_rows
 returns c =
-    let entry = c.before.before.before in
     let n = c.args.numbers.now in
     let j = c.args.j in
     let made = c.first_row.ensures in
-    let place = rows_of_place (place_numbers n j) (long_place entry) in (
+    let place = rows_of_place (place_numbers n j) (long_place c.before.before.before) in (
       to_z-of_z c.first_row.ensures.fits ∙ c.first_row.ensures.is ∙ ap (λ (p : List ℤ). first_row_of p) (place_part n j)
           ∙ sym (ap (λ (r : StrokeRows). r.first) place),
       read_back n (place_at j + next_row_at) c.result-1.given ∙ sym (next_in_place n j),

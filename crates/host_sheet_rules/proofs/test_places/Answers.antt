@@ -74,14 +74,13 @@ abbrev taken : After-in_order → After-place_rows
 taken c = c.before.before
 
 kept : (c : goal.In-Kept)
-    → (place_kept (place_numbers c.args.numbers.now (place c.before.before.before))
+    → (place_kept (place_numbers c.args.numbers.now (place c.before))
     ≡ true)
     × (c.in-Kept.rows
-    ≡ rows_at c.args.numbers.now (place c.before.before.before))
+    ≡ rows_at c.args.numbers.now (place c.before))
 kept c =
-    let at = c.before in
     let n = c.args.numbers.now in
-    found_kept (place_kept (place_numbers n (place at))) (rows_at n (place at)) c.in-Kept.rows
+    found_kept (place_kept (place_numbers n (place c.before))) (rows_at n (place c.before)) c.in-Kept.rows
     (sym c.in-Kept.is ∙ found c.before)
 
 pub loop-i-init : goal.loop-i-init
@@ -119,30 +118,26 @@ pub place_rows-requires : goal.place_rows-requires
 place_rows-requires c =
     let some = c.loop-i-test.true in
     let within = c.loop-i.invariant.0 in
-    let entry = c.before.before.before.before in
     let few = c.requires.count_le_max_layers in
     place_part_length c.args.numbers.now (c.loop-i.i - 1) c.requires.numbers_len (omega arith)
 
 pub returns-in_default : goal.returns-in_default
 returns-in_default c =
-    let at = c.before in
     let a = c.args in
-    broken_here a.numbers.now a.count a.layer a.y (place at) c.loop-i.i (step at) (here at)
-    (rows_at a.numbers.now (place at)) (sym c.in_default.is ∙ found c.before)
+    broken_here a.numbers.now a.count a.layer a.y (place c.before) c.loop-i.i (step c.before) (here c.before)
+    (rows_at a.numbers.now (place c.before)) (sym c.in_default.is ∙ found c.before)
 
 pub in_order-requires : goal.in_order-requires
 in_order-requires c =
-    let at = c.before in
     let inv = c.loop-i.invariant in record { numbers_len = c.requires.numbers_len; from_le_count = (c.loop-i.invariant.0, c.requires.count_le_max_layers); from_value = c.loop-i.invariant.1.kept; keep_to = c.loop-i.invariant.1.painted_are }
 
 pub returns-then-not-in_order : goal.returns-then-not-in_order
 returns-then-not-in_order c =
-    let known = c.before.before in
     let at = taken c.before in
     let a = (start at).args in
     overtaken_here a.numbers.now a.count a.layer a.y (place at) (walk at).loop.i (step at) (here at)
     (ap (λ (r : LayerRows). no_rows_overtake r (rows_from a.numbers.now (walk at).loop.i (a.count - (walk at).loop.i)))
-    (sym (kept known).1)
+    (sym (kept c.before.before).1)
     ∙ sym c.in_order.ensures ∙ not-true _ c.if-not-in_order.true)
 
 pub loop-i-smaller : goal.loop-i-smaller
@@ -150,21 +145,19 @@ loop-i-smaller c = omega arith
 
 pub loop-i-preserved : goal.loop-i-preserved
 loop-i-preserved c =
-    let order = c.before.before.before in
-    let known = c.before.before.before.before in
     let at = taken c.before.before.before in
     let a = (start at).args in
     let y = to_z w32 (of_z w32 a.y) in
     let inv = (walk at).loop.inv in
     let none = ap
     (λ (r : LayerRows). no_rows_overtake r (rows_from a.numbers.now (walk at).loop.i (a.count - (walk at).loop.i)))
-    (sym (kept known).1)
+    (sym (kept c.before.before.before.before).1)
     ∙ sym c.in_order.ensures ∙ not-false _ c.if-not-in_order.false in
     let next = one_more_lem a.numbers.now a.count a.layer y (place at) (walk at).loop.i (step at) (here at)
-    (walk at).loop.painted (walk at).loop.asked inv.1 (kept known).0 none in
-    let painted = c.and-painted.ensures ∙ ap (also_painted (walk at).loop.painted) (kept known).1 in
+    (walk at).loop.painted (walk at).loop.asked inv.1 (kept c.before.before.before.before).0 none in
+    let painted = c.and-painted.ensures ∙ ap (also_painted (walk at).loop.painted) (kept c.before.before.before.before).1 in
     let asked = c.and-asked.ensures
-    ∙ ap (λ (r : LayerRows). asked_of (walk at).loop.asked r (place at) a.layer y) (kept known).1 in (
+    ∙ ap (λ (r : LayerRows). asked_of (walk at).loop.asked r (place at) a.layer y) (kept c.before.before.before.before).1 in (
       omega (arith, here at),
       subst (λ (p : PaintedRows). WalkedTo a.numbers.now a.count a.layer y p c.and-asked.result (place at))
           (sym painted)
@@ -174,7 +167,6 @@ loop-i-preserved c =
 
 pub returns : goal.returns
 returns c =
-    let loop = c.before in
     let a = c.args in
     let none : c.loop-i.i ≡ 0 = omega arith in
     let y = held_row c.before.before.before in

@@ -50,7 +50,6 @@ style_of-requires c = style_length_lem c.args.style.now (is_styled c.before)
 
 pub returns-in-Refused : goal.returns-in-Refused
 returns-in-Refused c =
-    let back_9 = c.before.before.before.before.before.before.before in
     let args = c.args in
     rw (is_one c.before.before.before.before.before.before.before, is_styled c.before.before.before.before.before)
     (tells_refusal args.out.now (sym (ap (λ (a : RectangleAnswer). rectangle_outcome a) c.in-Refused.is) ∙ says
@@ -58,8 +57,6 @@ returns-in-Refused c =
 
 pub returns-in-Answered : goal.returns-in-Answered
 returns-in-Answered c =
-    let back_9 = c.before.before.before.before.before.before.before in
-    let back_11 = c.before.before.before.before.before.before.before.before.before in
     rw (is_one c.before.before.before.before.before.before.before.before.before, is_styled c.before.before.before.before.before.before.before)
     (tells_as (sym (ap (λ (a : RectangleAnswer). rectangle_outcome a) c.in-Answered.is) ∙ says
     c.before.before.before.before) c.put_rectangle.ensures)

@@ -54,7 +54,6 @@ style_of-requires c = style_length_lem c.args.style.now (is_styled c.before)
 
 pub returns-in-Refused : goal.returns-in-Refused
 returns-in-Refused c =
-    let back_9 = c.before.before.before.before.before.before.before in
     let args = c.args in
     rw (is_one c.before.before.before.before.before.before.before, is_styled c.before.before.before.before.before)
     (tells_refusal args.out.now (sym (ap (λ (a : StyledRowAnswer). styled_row_outcome a) c.in-Refused.is) ∙ says
@@ -69,8 +68,6 @@ returns-in-NoRow c =
 
 pub returns-in-Row : goal.returns-in-Row
 returns-in-Row c =
-    let back_9 = c.before.before.before.before.before.before.before in
-    let back_11 = c.before.before.before.before.before.before.before.before.before in
     rw (is_one c.before.before.before.before.before.before.before.before.before, is_styled c.before.before.before.before.before.before.before)
     (tells_as (sym (ap (λ (a : StyledRowAnswer). styled_row_outcome a) c.in-Row.is) ∙ says
     c.before.before.before.before) c.put_styled_row.ensures)

@@ -9,7 +9,6 @@ use Rattle.host_values.proofs.put_box.Goals as goal
 
 pub returns : goal.returns
 returns c =
-    let first = c.before.before.before.before.before.before.before.before.before in
     let a = c.args in
     let r = a.b.rectangle in
     let k = a.b.corners in
@@ -20,5 +19,5 @@ returns c =
     (r.top_left.x ∷ r.top_left.y ∷ pos r.size.width ∷ pos r.size.height ∷ pos k.top_left.width
     ∷ pos k.top_left.height ∷ pos k.top_right.width ∷ pos k.top_right.height ∷ pos k.bottom_right.width
     ∷ pos k.bottom_right.height ∷ pos k.bottom_left.width ∷ pos k.bottom_left.height ∷ [])
-    _ _ (c.put_from-2.ensures ∙ (λ i. sets (plain i) 5 (radii i)))
+    _ _ (c.put_from-2.ensures ∙ (λ i. sets (plain i) 5 (c.radii_numbers-radii.ensures i)))
     _ _ c.put_numbers.ensures.value c.put_numbers.ensures.out_after

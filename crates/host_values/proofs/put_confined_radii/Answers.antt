@@ -9,8 +9,6 @@ use Rattle.host_values.proofs.put_confined_radii.Goals as goal
 
 pub returns : goal.returns
 returns c =
-    let first = c.before.before.before.before.before.before.before.before.before in
-    let fraction = c.before.before.before.before.before.before.before.before.before.before.before.before in
     let radii = c.radii_numbers-radii.ensures in
     let confined = c.args.confined in
     let k = confined.radii in

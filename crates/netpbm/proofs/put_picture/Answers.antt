@@ -17,7 +17,6 @@ put_header-raster_at-requires c =
 
 pub put_raster-requires : goal.put_raster-requires
 put_raster-requires c =
-    let entry = c.before.before.before.before.before.before.before.before in
     let a = c.args in record { canvas_len = c.requires.canvas_len; canvas_in_bounds = omega (
         arith,
         length-append (header a.format a.size.width a.size.height)

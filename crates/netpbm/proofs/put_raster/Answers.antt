@@ -9,7 +9,7 @@ put_rows-requires c =
     let a = c.args in
     let pre = c.requires in
     let room = rw (c.in-P4.is, length_packed_rows a.size.width a.size.height a.canvas.now)
-    at pre.1 in record { width_bound = omega arith; width_in_bounds = omega (arith, pre.0, mul_comm a.size.height a.size.width); width_in_bounds_2 = room }
+    at c.requires.canvas_in_bounds in record { width_bound = omega arith; width_in_bounds = omega (arith, c.requires.canvas_len, mul_comm a.size.height a.size.width); width_in_bounds_2 = room }
 
 pub put-requires : goal.put-requires
 put-requires c = rw c.in-P5.is at c.requires.canvas_in_bounds

@@ -25,10 +25,6 @@ Start = Lts.Start Tie.the-claims Reads.Pre Reads.Post Tie.handed_clauses
 abbrev After-or_else-checked : Type 0
 After-or_else-checked = Lts.After-or_else2 Tie.the-claims Reads.Pre Reads.Post Tie.handed_clauses
 
--- from the last check back to the entry
-abbrev entry : After-or_else-checked → Start
-entry c = c.before.before.before.before.before.before.before.before.before
-
 -- the check made is the definition's
 checked : (c : After-or_else-checked)
     → c.or_else-checked.result ≡ write_check c.args.format c.args.width c.args.height c.args.canvas.now
@@ -46,7 +42,6 @@ checked c =
 
 pub overflow_add-header_length : goal.overflow_add-header_length
 overflow_add-header_length c =
-    let entry = c.before.before.before.before.before.before.before in
     let a = c.args in
     let canvas_small = c.well-formed.1.1.1.0.1 in
     omega (
@@ -62,13 +57,11 @@ returns-in_default c =
 
 pub put_picture-requires : goal.put_picture-requires
 put_picture-requires c =
-    let check = c.before.before.before in
     let a = c.args in
-    let passed = sym (checked check) ∙ c.in-Passed.is in record { canvas_len = write_passed_length a.format a.width a.height a.canvas.now a.file.now passed; canvas_in_bounds = write_passed_room a.format a.width a.height a.canvas.now a.file.now passed }
+    let passed = sym (checked c.before.before.before) ∙ c.in-Passed.is in record { canvas_len = write_passed_length a.format a.width a.height a.canvas.now a.file.now passed; canvas_in_bounds = write_passed_room a.format a.width a.height a.canvas.now a.file.now passed }
 
 pub returns : goal.returns
 returns c =
-    let check = c.before.before.before.before.before.before in
     let written = c.put_picture.ensures in
-    rw (sym (checked check) ∙ c.in-Passed.is)
+    rw (sym (checked c.before.before.before.before.before.before) ∙ c.in-Passed.is)
     (record { result_value = ap (λ (n : ℕ). answered (pos n ∷ [])) (c.put_picture.ensures.place ∙ omega arith); file_after = c.put_picture.ensures.list })

@@ -72,7 +72,6 @@ put_ending-requires c =
 pub returns : goal.returns
 unfolding header
 returns c =
-    let ending = c.before.before.before in
     let height = height_put c.before.before.before in
     let space = space_put height in
     let width = width_put space in

@@ -18,7 +18,7 @@ pub loop-left-init : goal.loop-left-init
 loop-left-init c =
     let a = c.args in
     let left = c.row_bytes-left.ensures in
-    (ap (λ (n : ℕ). sets a.out.now a.at (packed_bytes n a.row.now)) (sym left), refl, omega arith, omega arith)
+    (ap (λ (n : ℕ). sets a.out.now a.at (packed_bytes n a.row.now)) (sym c.row_bytes-left.ensures), refl, omega arith, omega arith)
 
 -- src/lib.rt:54:9
 pub bounds-out-next : goal.bounds-out-next

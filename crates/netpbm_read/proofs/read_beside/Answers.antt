@@ -83,17 +83,15 @@ returns-in_default-checked c =
 
 pub read_headed-requires : goal.read_headed-requires
 read_headed-requires c =
-    let check = c.before.before.before in
     let a = c.args in
     let header = header_of c.before.before.before in
-    let passed = sym (checked check) ∙ c.in-Passed.is in
+    let passed = sym (checked c.before.before.before) ∙ c.in-Passed.is in
     let bytes = drop header.raster a.file.now in record { raster_in_bounds = within c.before.before.before; canvas_len = read_passed_length header.format header.width header.height (length a.canvas.now) bytes a.room passed; canvas_in_bounds = read_passed_bytes header.format header.width header.height (length a.canvas.now) bytes a.room passed }
 
 pub returns : goal.returns
 returns c =
-    let check = c.before.before.before.before.before.before in
     let a = c.args in
-    let passed = sym (made check) ∙ c.in-Passed.is in
+    let passed = sym (made c.before.before.before.before.before.before) ∙ c.in-Passed.is in
     let whole = seen c.before.before.before.before.before.before ∙ header_kept (file_header a.file.now) (length a.canvas.now) a.room passed in
     let read = c.read_headed.ensures in
     rw passed

@@ -4,8 +4,7 @@ use Rattle.netpbm_read.proofs.Reading.{lent_from}
 use Rattle.netpbm_read.proofs.read_headed.Goals as goal
 
 pub read_raster-requires : goal.read_raster-requires
-read_raster-requires c =
-    let start = c.before.before.before.before.before in record { canvas_len = c.requires.canvas_len; canvas_in_bounds = rw (lent_from c.args.file.now c.args.header.raster) c.requires.canvas_in_bounds }
+read_raster-requires c = record { canvas_len = c.requires.canvas_len; canvas_in_bounds = rw (lent_from c.args.file.now c.args.header.raster) c.requires.canvas_in_bounds }
 
 pub returns : goal.returns
 returns c =

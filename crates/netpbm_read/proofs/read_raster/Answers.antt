@@ -11,12 +11,10 @@ use Rattle.netpbm_read.proofs.read_raster.Goals as goal
 
 pub unpack_rows-requires : goal.unpack_rows-requires
 unpack_rows-requires c =
-    let entry = c.before.before.before.before.before.before.before in
     let size = c.args.size in record { width_bound = omega arith; canvas_len = c.requires.canvas_len ∙ mul_comm size.width size.height; width_in_bounds = rw c.in-P4.is at c.requires.canvas_in_bounds }
 
 pub slice_bounds-put-end : goal.slice_bounds-put-end
 slice_bounds-put-end c =
-    let entry = c.before.before.before.before.before in
     let enough = rw c.in-P5.is at c.requires.canvas_in_bounds in
     sym (length-take-le _ c.args.bytes.now enough)
 
@@ -30,7 +28,6 @@ returns-in-P4 c = rw c.in-P4.is c.unpack_rows.ensures
 
 pub returns-in-P5 : goal.returns-in-P5
 returns-in-P5 c =
-    let entry = c.before.before.before.before.before.before.before.before in
     let a = c.args in
     let is = c.in-P5.is in
     let enough = rw c.in-P5.is at c.requires.canvas_in_bounds in

@@ -36,7 +36,7 @@ checked c =
 -- once it has passed
 passed : (c : In-Passed) → PaintPassed c.args.figure c.args.style
     c.args.width c.args.height c.args.canvas.now
-passed c = paint_passed _ _ _ _ _ (sym (checked c.before.before) ∙ c.in-Passed.is)
+passed c = paint_passed _ _ _ _ _ (sym (checked c.before) ∙ c.in-Passed.is)
 
 -- refused
 pub returns-in_default : goal.returns-in_default

@@ -25,11 +25,10 @@ In-Symmetric = Lts.Past-After-known_told Tie.the-claims Reads.Pre Reads.Post Tie
 pub paint_box_rows-requires : goal.paint_box_rows-requires
 paint_box_rows-requires c =
     let pre = c.requires in
-    let near = pre.1.1.1.0 in record { canvas_len = pre.0; width_le_wide_side = pre.1.0; ready_styled_box = pre.1.1.0; near = (rw (to_z-of_z near.fits) near, pre.1.1.1.1) }
+    let near = c.requires.near.0 in record { canvas_len = c.requires.canvas_len; width_le_wide_side = c.requires.width_le_wide_side; ready_styled_box = c.requires.ready_styled_box; near = (rw (to_z-of_z near.fits) near, c.requires.near.1) }
 
 pub returns-in_default : goal.returns-in_default
 returns-in_default c =
-    let entry = c.before.before.before.before.before.before.before.before in
     let a = c.args in
     c.paint_box_rows.ensures
     ∙ ap (λ (z : ℤ). rows_by (box_styled_row (stroke_box a.b) (fill_box a.b)) a.style a.size.width a.size.height z
@@ -48,11 +47,10 @@ whole c =
 
 pub paint_symmetric_box-requires : goal.paint_symmetric_box-requires
 paint_symmetric_box-requires c =
-    let pre = c.requires in record { canvas_len = pre.0; width_le_wide_side = pre.1.0; ready_symmetric = (whole c.before).0.2 }
+    let pre = c.requires in record { canvas_len = c.requires.canvas_len; width_le_wide_side = c.requires.width_le_wide_side; ready_symmetric = (whole c.before).0.2 }
 
 pub returns : goal.returns
 returns c =
-    let at = c.before.before.before.before.before in
     let entry = entry_of c.before.before.before.before.before in
     let a = entry.args in
     let is = whole c.before.before.before.before.before in

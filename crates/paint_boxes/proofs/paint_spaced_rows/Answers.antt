@@ -32,7 +32,7 @@ here_near c =
 pub loop-left-init : goal.loop-left-init
 loop-left-init c =
     let pre = c.requires in
-    record { size = pre.0; near = rw (to_z-of_z pre.1.1.0.fits) pre.1.1.2; rest = refl }
+    record { size = c.requires.canvas_len; near = rw (to_z-of_z c.requires.near.0.fits) c.requires.near.2; rest = refl }
 
 pub paint_row_on-requires : goal.paint_row_on-requires
 paint_row_on-requires c = record { canvas_len = c.loop-left.invariant.size; width_le_wide_side = c.requires.width_le_wide_side; near = painted_near (here_near c.before) }
@@ -59,7 +59,6 @@ loop-left-smaller c = omega arith
 
 pub loop-left-preserved : goal.loop-left-preserved
 loop-left-preserved c =
-    let test = c.before.before.before.before.before.before.before in
     let loop = c.loop-left in
     let a = c.args in
     let call = c.paint_row_on in
@@ -76,7 +75,6 @@ loop-left-preserved c =
 
 pub returns : goal.returns
 returns c =
-    let start = c.before.before.before in
     let a = c.args in
     spaced_end a.row a.style a.size.width a.size.height (to_z w32 (of_z w32 a.y)) a.step a.count
     a.canvas.now _ c.loop-left.left c.loop-left.canvas c.loop-left-test.false c.loop-left.invariant

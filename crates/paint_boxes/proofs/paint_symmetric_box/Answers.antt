@@ -77,7 +77,6 @@ turn_at-turn-requires c = (c.requires.ready_symmetric.half, c.loop-dy-test.true)
 
 pub paint_spaced_rows-requires : goal.paint_spaced_rows-requires
 paint_spaced_rows-requires c =
-    let at = c.before.before.before.before in
     let b = c.args.b in
     let ready = c.requires.ready_symmetric in
     let turn = c.turn_at-turn in
@@ -85,28 +84,26 @@ paint_spaced_rows-requires c =
     let near = ready.area.at.y in
     let low = ready.area.size.height in
     let y_is = to_z-of_z c.add-row_y.ensures.fits ∙ row_is c.before.before.before.before in record { canvas_len = c.loop-dy.invariant.size; width_le_wide_side = c.requires.width_le_wide_side; near = (
-          subst (Near wide_painted) (sym y_is) (row_near (first at) (done at) near (omega (arith, low, c.loop-dy-test.true))),
-          step_small (first at) b.area.size.height b.corner_rows (done at) near low ready.half c.loop-dy-test.true c.turn_at-turn.result
+          subst (Near wide_painted) (sym y_is) (row_near (first c.before.before.before.before) (done c.before.before.before.before) near (omega (arith, low, c.loop-dy-test.true))),
+          step_small (first c.before.before.before.before) b.area.size.height b.corner_rows (done c.before.before.before.before) near low ready.half c.loop-dy-test.true c.turn_at-turn.result
               c.turn_at-turn.ensures,
           subst (λ (z : ℤ). SpacedNear z c.turn_at-turn.result.step c.turn_at-turn.result.count) (sym y_is)
-              (rows_near (first at) b.area.size.height b.corner_rows (done at) near low ready.half c.loop-dy-test.true
+              (rows_near (first c.before.before.before.before) b.area.size.height b.corner_rows (done c.before.before.before.before) near low ready.half c.loop-dy-test.true
               c.turn_at-turn.result c.turn_at-turn.ensures),
         ) }
 
 pub loop-dy-smaller : goal.loop-dy-smaller
 loop-dy-smaller c =
-    let at = c.before.before.before.before.before.before.before.before in
     let b = c.args.b in
     let ready = c.requires.ready_symmetric in
     let turn = c.turn_at-turn in
     let more = c.loop-dy-test.true in
-    let on = turn_further (first at) b.area.size.height b.corner_rows (done at) ready.area.at.y
+    let on = turn_further (first c.before.before.before.before.before.before.before.before) b.area.size.height b.corner_rows (done c.before.before.before.before.before.before.before.before) ready.area.at.y
     ready.area.size.height ready.half c.loop-dy-test.true c.turn_at-turn.result c.turn_at-turn.ensures in
     omega (arith, on.0, on.1)
 
 pub loop-dy-preserved : goal.loop-dy-preserved
 loop-dy-preserved c =
-    let at = c.before.before.before.before.before.before.before.before in
     let a = c.args in
     let b = a.b in
     let ready = c.requires.ready_symmetric in
@@ -121,21 +118,20 @@ loop-dy-preserved c =
     c.paint_spaced_rows.ensures
     ∙ ap (λ (z : ℤ). spaced_by c.row-found.result.row a.style a.size.width a.size.height z c.turn_at-turn.result.step
     c.turn_at-turn.result.count c.loop-dy.canvas) (to_z-of_z c.add-row_y.ensures.fits ∙ row_is c.before.before.before.before.before.before.before.before) in
-    by_order (done at) b.corner_rows
+    by_order (done c.before.before.before.before.before.before.before.before) b.corner_rows
     (λ pair.
-    turn_pair row_at a.style a.size.width a.size.height (first at) b.area.size.height b.corner_rows
-    a.canvas.now (done at) c.loop-dy.canvas c.loop-dy-test.true ready.half c.loop-dy.invariant c.turn_at-turn.result c.turn_at-turn.ensures c.row-found.result.row
+    turn_pair row_at a.style a.size.width a.size.height (first c.before.before.before.before.before.before.before.before) b.area.size.height b.corner_rows
+    a.canvas.now (done c.before.before.before.before.before.before.before.before) c.loop-dy.canvas c.loop-dy-test.true ready.half c.loop-dy.invariant c.turn_at-turn.result c.turn_at-turn.ensures c.row-found.result.row
     c.paint_spaced_rows.new.canvas same c.row-found.ensures is pair
-    (row_mirrored b ready (done at) (upper at)))
+    (row_mirrored b ready (done c.before.before.before.before.before.before.before.before) (upper c.before.before.before.before.before.before.before.before)))
     (λ past.
-    turn_rest row_at a.style a.size.width a.size.height (first at) b.area.size.height b.corner_rows
-    a.canvas.now (done at) c.loop-dy.canvas c.loop-dy-test.true ready.half c.loop-dy.invariant c.turn_at-turn.result c.turn_at-turn.ensures c.row-found.result.row
+    turn_rest row_at a.style a.size.width a.size.height (first c.before.before.before.before.before.before.before.before) b.area.size.height b.corner_rows
+    a.canvas.now (done c.before.before.before.before.before.before.before.before) c.loop-dy.canvas c.loop-dy-test.true ready.half c.loop-dy.invariant c.turn_at-turn.result c.turn_at-turn.ensures c.row-found.result.row
     c.paint_spaced_rows.new.canvas same c.row-found.ensures is past
-    (rows_between b ready (done at) (upper at) past))
+    (rows_between b ready (done c.before.before.before.before.before.before.before.before) (upper c.before.before.before.before.before.before.before.before) past))
 
 pub returns : goal.returns
 returns c =
-    let entry = c.before.before.before.before.before.before.before.before in
     let a = c.args in
     let b = a.b in
     let loop = c.loop-dy in

@@ -9,8 +9,6 @@ use Rattle.paint_boxes.proofs.whole_symmetric_box.Goals as goal
 
 pub returns : goal.returns
 returns c =
-    let tested = c.before.before in
-    let entry = c.before.before.before.before.before.before.before.before.before.before.before.before.before in
     let top_fits : SFits w32 c.args.b.area.top_left.y = c.requires.area.at.y.fits in
     let not_above = c.if-y-top_left.false in
     let not_below = c.if-top_left-y.false in (

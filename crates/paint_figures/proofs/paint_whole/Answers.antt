@@ -52,23 +52,20 @@ new-requires c = record { bounded_shape = c.stroke_shape-stroke.ensures.1; bound
 
 pub paint_ellipse-requires : goal.paint_ellipse-requires
 paint_ellipse-requires c =
-    let made = c.before.before.before.before in
     let pre = c.requires in
     let seen = c.visible-seen.ensures.near in
     let near = c.visible-seen.ensures.near.0 in
-    let ready = subst Ready c.in-Ellipse.is c.new.ensures.0 in record { canvas_len = pre.0; width_le_wide_side = pre.1.0.0; ready_ellipse = ready; near = (rw (to_z-of_z near.fits) near, c.visible-seen.ensures.near.1) }
+    let ready = subst Ready c.in-Ellipse.is c.new.ensures.0 in record { canvas_len = c.requires.canvas_len; width_le_wide_side = c.requires.width_le_wide_side.0; ready_ellipse = ready; near = (rw (to_z-of_z near.fits) near, c.visible-seen.ensures.near.1) }
 
 pub paint_box-requires : goal.paint_box-requires
 paint_box-requires c =
-    let made = c.before.before.before.before in
     let pre = c.requires in
     let seen = c.visible-seen.ensures.near in
     let near = c.visible-seen.ensures.near.0 in
-    let ready = subst Ready c.in-RoundedBox.is c.new.ensures.0 in record { canvas_len = pre.0; width_le_wide_side = pre.1.0.0; ready_styled_box = ready; near = (rw (to_z-of_z near.fits) near, c.visible-seen.ensures.near.1) }
+    let ready = subst Ready c.in-RoundedBox.is c.new.ensures.0 in record { canvas_len = c.requires.canvas_len; width_le_wide_side = c.requires.width_le_wide_side.0; ready_styled_box = ready; near = (rw (to_z-of_z near.fits) near, c.visible-seen.ensures.near.1) }
 
 pub returns-in-Ellipse : goal.returns-in-Ellipse
 returns-in-Ellipse c =
-    let made = c.before.before.before.before.before.before.before in
     let a = c.args in
     let seen = c.visible-seen in
     let known = c.in-Ellipse.given in
@@ -77,11 +74,10 @@ returns-in-Ellipse c =
     ∙ ap (λ (z : ℤ). rows_by (row_of shape) a.style a.size.width a.size.height z c.visible-seen.result.count a.canvas.now)
     (to_z-of_z c.visible-seen.ensures.near.0.fits)
     ∙ visible_rows_whole (row_of shape) a.figure a.style a.size.width a.size.height (rows_of c.before.before.before.before.before.before.before shape known.1)
-    c.shape_rows.result (rows_are made) a.canvas.now c.visible-seen.result c.visible-seen.ensures.value
+    c.shape_rows.result (rows_are c.before.before.before.before.before.before.before) a.canvas.now c.visible-seen.result c.visible-seen.ensures.value
 
 pub returns-in-RoundedBox : goal.returns-in-RoundedBox
 returns-in-RoundedBox c =
-    let made = c.before.before.before.before.before.before.before in
     let a = c.args in
     let seen = c.visible-seen in
     let known = c.in-RoundedBox.given in
@@ -90,12 +86,11 @@ returns-in-RoundedBox c =
     ∙ ap (λ (z : ℤ). rows_by (row_of shape) a.style a.size.width a.size.height z c.visible-seen.result.count a.canvas.now)
     (to_z-of_z c.visible-seen.ensures.near.0.fits)
     ∙ visible_rows_whole (row_of shape) a.figure a.style a.size.width a.size.height (rows_of c.before.before.before.before.before.before.before shape known.1)
-    c.shape_rows.result (rows_are made) a.canvas.now c.visible-seen.result c.visible-seen.ensures.value
+    c.shape_rows.result (rows_are c.before.before.before.before.before.before.before) a.canvas.now c.visible-seen.result c.visible-seen.ensures.value
 
 pub returns-in-Neither : goal.returns-in-Neither
 returns-in-Neither c =
-    let made = c.before.before in
     let a = c.args in
     lacking_whole (row_of styled.Neither) a.figure a.style a.size.width a.size.height
-    (rows_of c.before.before styled.Neither c.in-Neither.is) c.shape_rows.result (rows_are made)
+    (rows_of c.before.before styled.Neither c.in-Neither.is) c.shape_rows.result (rows_are c.before.before)
     a.canvas.now (λ _. refl)

@@ -81,7 +81,6 @@ sub-requires-2 c = omega (arith, int)
 
 pub returns : goal.returns
 returns c =
-    let back_8 = c.before.before.before.before.before.before.before.before in
     let a = c.args in
     let fits = c.add-first.ensures.fits in
     let few = c.requires.1 in record { value = λ i. record {
@@ -90,4 +89,4 @@ returns c =
             (c.least.ensures ∙ (λ j. min (a.rows.count - above_is c.before.before.before.before.before.before.before.before j)
             ((room_is c.before.before ∙ ap (λ (z : ℤ). floor0 (pos a.height -ℤ z))
             (first_is c.before.before.before.before.before)) j))) i;
-      }; near = (rw (to_z-of_z fits) (first_near c.before.before.before.before.before), omega (arith, c.least.ensures)) }
+      }; near = (rw (to_z-of_z c.add-first.ensures.fits) (first_near c.before.before.before.before.before), omega (arith, c.least.ensures)) }

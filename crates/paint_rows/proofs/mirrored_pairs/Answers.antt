@@ -17,7 +17,6 @@ returns-then-count-sides c = record { half = omega arith; from_top = λ p. absur
 
 pub returns : goal.returns
 returns c =
-    let entry = c.before.before.before.before.before.before.before.before.before.before.before in
     let top_fits : SFits w32 c.args.ellipse.area.top_left.y = search rules in
     let not_above = c.if-y-top_left.false in
     let not_below = c.if-top_left-y.false in

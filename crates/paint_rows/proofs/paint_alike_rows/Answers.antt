@@ -72,7 +72,6 @@ pub loop-dy-preserved : goal.loop-dy-preserved
 loop-dy-preserved c =
     let at_loop_test = c.loop-dy-test in
     let at_loop = c.loop-dy in
-    let at = c.before.before.before.before.before in
     let a = c.args in
     let call = c.paint_row_on in
     let before = c.loop-dy.canvas in
@@ -88,7 +87,6 @@ shape_of-canvas c = omega (arith, int)
 
 pub returns : goal.returns
 returns c =
-    let start = c.before.before.before in
     let a = c.args in
     rows_end (λ _. a.row) a.style a.size.width a.size.height (to_z w32 (of_z w32 a.y)) a.count a.canvas.now
     c.loop-dy.dy c.loop-dy.canvas c.loop-dy-test.false c.loop-dy.invariant

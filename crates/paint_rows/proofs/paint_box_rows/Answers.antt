@@ -70,7 +70,7 @@ row-found-requires c = record { ready_styled_box = c.requires.ready_styled_box; 
 
 pub rows_alike-requires : goal.rows_alike-requires
 rows_alike-requires c =
-    let at_pre = c.requires in record { ready_styled_box = at_pre.1.1.0; near = rw (to_z-of_z c.add-row_y.ensures.fits) (painted_near (row_near c.before)) }
+    let at_pre = c.requires in record { ready_styled_box = c.requires.ready_styled_box; near = rw (to_z-of_z c.add-row_y.ensures.fits) (painted_near (row_near c.before)) }
 
 -- how many rows this turn paints
 turn_rows : (c : After-least-alike)
@@ -85,13 +85,12 @@ pub paint_alike_rows-requires : goal.paint_alike_rows-requires
 paint_alike_rows-requires c =
     let at_add = c.add-row_y in
     let at_loop = c.loop-dy in
-    let start = c.before.before.before.before.before.before.before.before.before.before in
     let n = (turn_rows c.before).1 in
     let few = c.requires.near.1 in record { canvas_len = c.loop-dy.invariant.size; width_le_wide_side = c.requires.width_le_wide_side; near = (rw (to_z-of_z c.add-row_y.ensures.fits) (row_near c.before.before.before.before), omega (arith, n, few)) }
 
 pub overflow_add-dy : goal.overflow_add-dy
 overflow_add-dy c =
-    let n = (turn_rows c.before.before.before.before.before).1 in
+    let n = (turn_rows c.before.before.before.before.before.before).1 in
     omega (arith, n)
 
 pub loop-dy-smaller : goal.loop-dy-smaller
@@ -102,7 +101,6 @@ loop-dy-smaller c =
 pub loop-dy-preserved : goal.loop-dy-preserved
 loop-dy-preserved c =
     let at_loop_test = c.loop-dy-test in
-    let at = c.before.before.before.before.before.before.before.before.before in
     let a = c.args in
     let call = c.paint_alike_rows in
     let before = c.loop-dy.canvas in
@@ -117,7 +115,7 @@ loop-dy-preserved c =
     let row_found = c.row-found.ensures ∙ ap row_at y_is in
     let counted = c.least-alike.ensures in
     rows_turns row_at _ _ _ _ _ _ c.loop-dy.dy c.least-alike.result c.loop-dy.canvas c.paint_alike_rows.new.canvas c.loop-dy-test.true
-    (turn_rows c.before.before.before.before.before).1 same
+    (turn_rows c.before.before.before.before.before.before).1 same
     (c.paint_alike_rows.ensures
     ∙ ap (λ (z : ℤ). rows_by (λ _. row) a.style a.size.width a.size.height z c.least-alike.result c.loop-dy.canvas) y_is
     ∙ rows_by_alike row_at a.style a.size.width a.size.height row c.least-alike.result y c.loop-dy.canvas
@@ -133,7 +131,6 @@ shape_of-canvas c = omega (arith, int)
 
 pub returns : goal.returns
 returns c =
-    let entry = c.before.before.before.before in
     let a = c.args in
     rows_end (box_styled_row (stroke_box a.b) (fill_box a.b)) a.style a.size.width a.size.height (to_z w32 (of_z w32 a.y))
     a.count a.canvas.now c.loop-dy.dy c.loop-dy.canvas c.loop-dy-test.false c.loop-dy.invariant

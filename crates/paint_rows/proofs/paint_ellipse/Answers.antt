@@ -119,11 +119,10 @@ pub row-found-requires : goal.row-found-requires
 row-found-requires c = record { ready_ellipse = c.requires.ready_ellipse; near = rw (to_z-of_z c.add-row_y.ensures.fits) (painted_near (row_near c)) }
 
 pub paint_twice-requires : goal.paint_twice-requires
-paint_twice-requires c =
-    let at = c.before.before in record { canvas_len = c.loop-dy.invariant.size; width_le_wide_side = c.requires.width_le_wide_side; near = (
-          rw (to_z-of_z c.add-row_y.ensures.fits) (row_near at),
+paint_twice-requires c = record { canvas_len = c.loop-dy.invariant.size; width_le_wide_side = c.requires.width_le_wide_side; near = (
+          rw (to_z-of_z c.add-row_y.ensures.fits) (row_near c.before.before),
           rw (to_z-of_z c.add-mirrored_y.ensures.fits)
-              (mirror_near at),
+              (mirror_near c.before.before),
         ) }
 
 pub overflow_add-dy : goal.overflow_add-dy
@@ -134,7 +133,6 @@ loop-dy-smaller c = omega (arith, int)
 
 pub loop-dy-preserved : goal.loop-dy-preserved
 loop-dy-preserved c =
-    let at = c.before.before.before.before.before.before.before in
     let a = c.args in
     let call = c.paint_twice in
     let loop = c.loop-dy in
@@ -144,16 +142,15 @@ loop-dy-preserved c =
     let row_y = to_z-of_z c.add-row_y.ensures.fits ∙ row_is c.before.before.before.before.before.before.before in
     let mirrored_y = to_z-of_z c.add-mirrored_y.ensures.fits ∙ mirror_is c.before.before.before.before.before.before.before in
     let same : length c.paint_twice.new.canvas ≡ length c.loop-dy.canvas = search rules in
-    between_turn row_at _ _ _ _ _ _ _ (done at) c.loop-dy.canvas c.loop-dy-test.true c.mirrored_pairs-pairs.ensures.half
+    between_turn row_at _ _ _ _ _ _ _ (done c.before.before.before.before.before.before.before) c.loop-dy.canvas c.loop-dy-test.true c.mirrored_pairs-pairs.ensures.half
     c.loop-dy.invariant c.row-found.result.row c.paint_twice.new.canvas same
     (c.row-found.ensures ∙ ap row_at row_y)
-    (alike at)
+    (alike c.before.before.before.before.before.before.before)
     (c.paint_twice.ensures ∙ (λ i. twice_by c.row-found.result.row a.style a.size.width a.size.height (row_y i) (mirrored_y i)
-    (ltb (done at) c.mirrored_pairs-pairs.result) c.loop-dy.canvas))
+    (ltb (done c.before.before.before.before.before.before.before) c.mirrored_pairs-pairs.result) c.loop-dy.canvas))
 
 pub returns : goal.returns
 returns c =
-    let start = c.before.before.before.before in
     let a = c.args in
     let loop = c.loop-dy in
     let row_at = ellipse_styled_row a.ellipse.area a.ellipse.sides in

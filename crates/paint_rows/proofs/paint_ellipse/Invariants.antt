@@ -2,8 +2,6 @@
 -- make
 -- the whole.
 use Prim.Native.Nat.{◌-◌}
-use mir.Syntax.{w32}
-use mir.Val.{to_z}
 use Rattle.ellipse_styled.specs.EllipseStyled.{ellipse_styled_row}
 use Rattle.paint_rows.proofs.Mirror.{RowsBetween}
 use Rattle.paint_rows.proofs.paint_ellipse.Given as goal
@@ -11,7 +9,7 @@ use Rattle.paint_rows.proofs.paint_ellipse.Given as goal
 abbrev pub invariant-loop-dy : goal.invariant-loop-dy
 invariant-loop-dy l =
     RowsBetween (ellipse_styled_row l.ellipse.area l.ellipse.sides) l.style l.size.width l.size.height
-    (to_z w32 l.y) l.count l.pairs l.initial.canvas l.dy l.canvas
+    l.y l.count l.pairs l.initial.canvas l.dy l.canvas
 
 abbrev pub decreases-loop-dy : goal.decreases-loop-dy
 decreases-loop-dy l = l.turns - l.dy

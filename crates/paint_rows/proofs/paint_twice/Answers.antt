@@ -36,12 +36,10 @@ once_is c =
 
 pub paint_row_on-requires : goal.paint_row_on-requires
 paint_row_on-requires c =
-    let start = c.before.before in
     let near = c.requires.near.0 in record { canvas_len = c.requires.canvas_len; width_le_wide_side = c.requires.width_le_wide_side; near = rw (to_z-of_z near.fits) (painted_near near) }
 
 pub returns-then-not-twice : goal.returns-then-not-twice
 returns-then-not-twice c =
-    let after = c.before.before.before.before in
     let a = c.args in
     once_is c.before.before.before.before
     ∙ ap (λ (t : Bool). twice_by a.row a.style a.size.width a.size.height a.y a.other t a.canvas.now)
@@ -49,7 +47,6 @@ returns-then-not-twice c =
 
 pub paint_row_on-requires-2 : goal.paint_row_on-requires-2
 paint_row_on-requires-2 c =
-    let after = c.before.before.before.before in
     let start = entry c.before.before.before.before in
     let near = start.pre.1.1.1 in
     let same : length c.paint_row_on.new.canvas ≡ length start.args.canvas.now = search rules in record { canvas_len = same ∙ start.pre.0; width_le_wide_side = start.pre.1.0; near = rw (to_z-of_z near.fits) (painted_near near) }
@@ -57,11 +54,10 @@ paint_row_on-requires-2 c =
 pub returns : goal.returns
 returns c =
     let at_if1 = c.if-not-twice in
-    let after = c.before.before.before.before.before.before.before.before in
     let a = c.args in
     c.paint_row_on-2.ensures
     ∙ ap (λ (z : ℤ). paint_by (λ _. a.row) a.style a.size.width a.size.height z c.paint_row_on.new.canvas)
     (to_z-of_z c.requires.near.1.fits)
-    ∙ ap (paint_by (λ _. a.row) a.style a.size.width a.size.height a.other) (once_is after)
+    ∙ ap (paint_by (λ _. a.row) a.style a.size.width a.size.height a.other) (once_is c.before.before.before.before.before.before.before.before)
     ∙ ap (λ (t : Bool). twice_by a.row a.style a.size.width a.size.height a.y a.other t a.canvas.now)
     (sym (not-false a.twice c.if-not-twice.false))

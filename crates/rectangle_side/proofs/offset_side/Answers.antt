@@ -11,4 +11,4 @@ pub add-grown-requires : goal.add-grown-requires
 add-grown-requires c = omega (arith, int)
 
 pub returns : goal.returns
-returns c = let entry = c.before.before.before.before in omega (arith, int, offset_side_by_parts c.args.side c.args.k)
+returns c = omega (arith, int, offset_side_by_parts c.args.side c.args.k)

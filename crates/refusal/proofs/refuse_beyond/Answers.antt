@@ -8,7 +8,6 @@ use Rattle.refusal.proofs.refuse_beyond.Goals as goal
 
 pub returns : goal.returns
 returns c =
-    let entry = c.before.before in
     c.refuse_above.ensures
     ∙ ap (λ (n : ℕ). refuse_if (above c.args.limit n) c.args.refusal)
     (c.magnitude.ensures ∙ ap nat_abs (to_z-of_z c.ranges.value))

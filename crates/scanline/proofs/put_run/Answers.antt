@@ -59,7 +59,6 @@ loop-k-smaller c = omega (arith, int)
 
 pub loop-k-preserved : goal.loop-k-preserved
 loop-k-preserved c =
-    let entry = c.before.before.before.before in
     let turn = c.loop-k in (
       omega arith,
       omega arith,
@@ -72,7 +71,6 @@ shape_of-list c = c.loop-k.invariant.2.long
 
 pub returns : goal.returns
 returns c =
-    let entry = c.before.before in
     let still = c.loop-k.invariant.2 in (
       omega arith,
       sym (c.loop-k.invariant.2.whole ∙ ap (sets _ _) (run_points_none _ _ _ (omega arith)))

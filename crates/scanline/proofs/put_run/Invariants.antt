@@ -3,8 +3,6 @@
 use mathlib.Core.Path.{◌≡◌}
 use Prim.Native.Nat.{◌+◌, ◌-◌, ◌*◌, ◌≤◌}
 use lib.IntN.{pos, ◌+ℤ◌}
-use mir.Syntax.{w32}
-use mir.Val.{to_z}
 use Rattle.scanline.specs.Points.{run_points, entries}
 use Rattle.scanline.proofs.Listing.{StillTo}
 use Rattle.scanline.proofs.put_run.Given as goal
@@ -12,8 +10,8 @@ use Rattle.scanline.proofs.put_run.Given as goal
 abbrev pub invariant-loop-k : goal.invariant-loop-k
 invariant-loop-k l =
     (l.k ≤ l.n) × (l.i ≡ l.at + 2 * l.k)
-    × StillTo l.initial.list l.at (entries (run_points (to_z w32 l.y) (to_z w32 l.start) l.n))
-    l.list l.i (entries (run_points (to_z w32 l.y) (to_z w32 l.start +ℤ pos l.k) (l.n - l.k)))
+    × StillTo l.initial.list l.at (entries (run_points l.y l.start l.n))
+    l.list l.i (entries (run_points l.y (l.start +ℤ pos l.k) (l.n - l.k)))
 
 abbrev pub decreases-loop-k : goal.decreases-loop-k
 decreases-loop-k l = l.n - l.k

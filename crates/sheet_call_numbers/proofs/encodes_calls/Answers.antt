@@ -65,13 +65,11 @@ slice_bounds-is_call-end c = omega arith
 
 pub is_call-requires : goal.is_call-requires
 is_call-requires c =
-    let walk = c.before.before in
     let here = c.loop-j-test.true in
     call_part_length c.args.numbers.now c.loop-j.j (omega arith)
 
 pub returns-then-not-is_call : goal.returns-then-not-is_call
 returns-then-not-is_call c =
-    let walk = c.before.before.before.before in
     sym (encodes c.before.before.before.before.before ∙ sym c.loop-j.invariant.1 ∙ step c.before false (not-true c.is_call.result c.if-not-is_call.true))
 
 pub loop-j-smaller : goal.loop-j-smaller
@@ -79,12 +77,10 @@ loop-j-smaller c = omega arith
 
 pub loop-j-preserved : goal.loop-j-preserved
 loop-j-preserved c =
-    let walk = c.before.before.before.before in
     (omega arith, sym (step c.before true (not-false c.is_call.result c.if-not-is_call.false)) ∙ c.loop-j.invariant.1)
 
 pub returns : goal.returns
 returns c =
-    let walk = c.before in
     let numbers = c.args.numbers.now in
     sym (encodes c.before.before ∙ sym c.loop-j.invariant.1 ∙ all_from_past (λ k. is_call (call_numbers numbers k)) (call_count numbers)
     c.loop-j.j c.loop-j-test.false)

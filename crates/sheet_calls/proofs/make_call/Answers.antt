@@ -85,28 +85,26 @@ adds : (c : After-style_of)
     ≡ call_add (styled_figure c.figure_of.result c.style_of.result)
 unfolding call_of
 adds c =
-    let at_if22 = c.before.before.before.before.before in
     rw (not_removed c.before.before.before.before.before, paints_by_kind c.before.before.before.before.before c.if-numbers-ge-PAINT.false)
     (ap call_add (sym (ap₂ styled_figure c.figure_of.ensures c.style_of.ensures)))
 
 pub returns-then-numbers-ge-REMOVE : goal.returns-then-numbers-ge-REMOVE
 returns-then-numbers-ge-REMOVE c =
     let done = c.remove.ensures in
-    rw (removes c.before.before.before.before)
+    rw (removes c.before.before.before.before.before)
     (record { answer = c.remove.ensures.answer_value; sheet = c.remove.ensures.sheet_value; bytes = c.remove.ensures.canvas_after })
 
 pub returns-then-numbers-ge-PAINT : goal.returns-then-numbers-ge-PAINT
 returns-then-numbers-ge-PAINT c =
     let done = c.paint.ensures in
-    rw (paints c.before.before.before.before)
+    rw (paints c.before.before.before.before.before)
     (record { answer = c.paint.ensures.answer_value; sheet = c.paint.ensures.sheet_value; bytes = c.paint.ensures.canvas_after })
 
 pub returns : goal.returns
 returns c =
-    let start = c.before.before.before.before.before.before.before.before.before.before.before.before in
     let item = styled_figure c.figure_of.result c.style_of.result in
     let any = add_takes_no_canvas c.args.sheet c.args.canvas.now item in
-    rw (adds c.before)
+    rw (adds c.before.before)
     (record {
       answer = c.add.ensures.answer_value ∙ any.same_answer;
       sheet = c.add.ensures.sheet_value ∙ any.same_sheet;

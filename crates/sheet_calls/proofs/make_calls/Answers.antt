@@ -33,7 +33,6 @@ slice_bounds-make_call-end c = omega arith
 
 pub make_call-made-requires : goal.make_call-made-requires
 make_call-made-requires c =
-    let walk = c.before.before.before.before in
     let here = c.loop-j-test.true in
     call_part_length c.args.numbers.now c.loop-j.j (omega arith)
 
@@ -51,8 +50,6 @@ loop-j-smaller c = omega arith
 
 pub loop-j-preserved : goal.loop-j-preserved
 loop-j-preserved c =
-    let called = c.before.before.before.before.before in
-    let walk = c.before.before.before.before.before.before.before.before.before in
     let a = c.args in
     let inv = c.loop-j.invariant in (
       omega arith,
@@ -73,7 +70,6 @@ shape_of-answers c = c.loop-j.invariant.1
 
 pub returns : goal.returns
 returns c =
-    let walk = c.before.before in
     let a = c.args in
     let all =
     none_left_lem a.background.now a.numbers.now a.count a.sheet a.canvas.now a.answers.now c.loop-j.j

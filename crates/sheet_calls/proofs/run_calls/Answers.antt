@@ -48,7 +48,7 @@ passed : (c : In-Passed)
     → lent_check c.args.width c.args.height c.args.calls.now (length c.args.canvas.now)
     (length c.args.answers.now)
     ≡ Passed
-passed c = sym (checked c.before.before) ∙ c.in-Passed.is
+passed c = sym (checked c.before) ∙ c.in-Passed.is
 
 sizes_passed : (c : In-Passed)
     → first_of (canvas_size_check c.args.width c.args.height)
@@ -69,18 +69,16 @@ room_passed c =
 -- 6, 8 or 13
 pub returns-in_default : goal.returns-in_default
 returns-in_default c =
-    let check = c.before.before.before in
     let a = c.args in
     let told = c.in_default.is in record { answer_value = ap (λ (r : Refusal). refused_by (number r)) (refusal_found c.refusal.ensures c.in_default.is)
           ∙ sym (run_refused a.width a.height a.calls.now (length a.canvas.now) (length a.answers.now) _
-          (sym (checked check) ∙ c.in_default.is)); run_leaves = record { sheet = c.open-opened.ensures.sheet_value; kept_canvas = refl; kept_answers = refl }; background_value = refl }
+          (sym (checked c.before.before.before) ∙ c.in_default.is)); run_leaves = record { sheet = c.open-opened.ensures.sheet_value; kept_canvas = refl; kept_answers = refl }; background_value = refl }
 
 -- no list of calls
 pub returns-then-not-encodes_calls : goal.returns-then-not-encodes_calls
 returns-then-not-encodes_calls c =
-    let told = c.before.before.before in
     let a = c.args in
-    let none = sym c.encodes_calls.ensures ∙ not-true _ c.if-not-encodes_calls.true in record { answer_value = sym (run_not_calls a.width a.height a.calls.now (length a.canvas.now) (length a.answers.now) (passed told) none); run_leaves = record {
+    let none = sym c.encodes_calls.ensures ∙ not-true _ c.if-not-encodes_calls.true in record { answer_value = sym (run_not_calls a.width a.height a.calls.now (length a.canvas.now) (length a.answers.now) (passed c.before.before.before) none); run_leaves = record {
           sheet = c.open-opened.ensures.sheet_value;
           kept_canvas = refl;
           kept_answers = refl;
@@ -91,15 +89,12 @@ make_calls-made-requires c = record { count_in_bounds = omega arith; count_in_bo
 
 pub returns : goal.returns
 returns c =
-    let made = c.before.before.before.before.before in
-    let told = c.before.before.before.before.before.before.before.before.before.before in
     let a = c.args in
     let calls = sym c.encodes_calls.ensures ∙ not-false _
     c.if-not-encodes_calls.false in
-    let opened = c.before.before.before.before.before.before.before.before.before.before.before.before.before.before.before.before.before in
     let size = passed_first (canvas_size_check a.width a.height) (canvas_length_check a.width a.height (length a.canvas.now))
-    (sizes_passed told) in
+    (sizes_passed c.before.before.before.before.before.before.before.before.before.before) in
     let long = passed_next (canvas_size_check a.width a.height) (canvas_length_check a.width a.height (length a.canvas.now))
-    (sizes_passed told) in record { answer_value = sym (run_accepted a.width a.height a.calls.now (length a.canvas.now) (length a.answers.now) (passed told) calls); run_leaves = run_from_lem a.width a.height a.canvas.now a.answers.now (calls_of a.background.now a.calls.now) size long
+    (sizes_passed c.before.before.before.before.before.before.before.before.before.before) in record { answer_value = sym (run_accepted a.width a.height a.calls.now (length a.canvas.now) (length a.answers.now) (passed c.before.before.before.before.before.before.before.before.before.before) calls); run_leaves = run_from_lem a.width a.height a.canvas.now a.answers.now (calls_of a.background.now a.calls.now) size long
             c.open-opened.result.sheet c.open-opened.ensures.sheet_value
             c.make_calls-made.ensures.answers_after c.make_calls-made.ensures.value c.make_calls-made.ensures.canvas_after; background_value = refl }

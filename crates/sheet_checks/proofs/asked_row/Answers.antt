@@ -107,70 +107,55 @@ owed : (c : After-some_owes)
     (layer_rows (layer c.before.before.before.before.before)).next
     ≡ c.some_owes.result
 owed c =
-    let mine = c.before.before.before.before.before in
     let a = (start c.before.before.before.before.before.before.before.before.before).args in
     let i = c.args.layer in
     let rows = c.test_rules-tested.result.rows in
     sym (c.some_owes.ensures
-    ∙ ap₂ some_rows_owe (rows_before a.count i c.if-count-layer.false c.test_rules-tested.result.rows a.places (found mine))
-    (to_z-of_z (own_fits mine).next ∙ ap (λ (r : LayerRows). r.next) (own_is mine)))
+    ∙ ap₂ some_rows_owe (rows_before a.count i c.if-count-layer.false c.test_rules-tested.result.rows a.places (found c.before.before.before.before.before))
+    (to_z-of_z (own_fits c.before.before.before.before.before).next ∙ ap (λ (r : LayerRows). r.next) (own_is c.before.before.before.before.before)))
 
 -- 7
 pub returns-then-not-tested : goal.returns-then-not-tested
 returns-then-not-tested c =
-    let entry = c.before.before.before.before in
-    let a = c.args in record { by_index = λ canvas long. sym (paint_broken a.size.width a.size.height a.count a.places (sixteen entry) a.layer canvas
+    let a = c.args in record { by_index = λ canvas long. sym (paint_broken a.size.width a.size.height a.count a.places (sixteen c.before.before.before.before) a.layer canvas
           (sym c.test_rules-tested.ensures.kept_value ∙ not-true _ c.if-not-tested.true)); next_row = tt }
 
 -- 8
 pub returns-in_default : goal.returns-in_default
 returns-in_default c =
-    let kept = c.before.before.before in
-    let entry = c.before.before.before.before.before.before.before in
     let a = c.args in
     let told = c.in_default.is in record { by_index = λ canvas long. ap Refused (refusal_found c.refusal.ensures c.in_default.is) ∙ sym
-          (paint_length a.size.width a.size.height a.count a.places (sixteen entry) a.layer canvas
-          (rules kept) _
+          (paint_length a.size.width a.size.height a.count a.places (sixteen c.before.before.before.before.before.before.before) a.layer canvas
+          (rules c.before.before.before) _
           (ap (canvas_length_check a.size.width a.size.height) long ∙ sym c.check_length-sized.ensures ∙ c.in_default.is)); next_row = tt }
 
 -- 10
 pub returns-then-count-layer : goal.returns-then-count-layer
 returns-then-count-layer c =
-    let told = c.before in
-    let kept = c.before.before.before in
-    let entry = c.before.before.before.before.before.before.before in
-    let a = c.args in record { by_index = λ canvas long. sym (paint_no_layer a.size.width a.size.height a.count a.places (sixteen entry) a.layer canvas
-          (rules kept) (size c.before canvas long) c.if-count-layer.true); next_row = tt }
+    let a = c.args in record { by_index = λ canvas long. sym (paint_no_layer a.size.width a.size.height a.count a.places (sixteen c.before.before.before.before.before.before.before) a.layer canvas
+          (rules c.before.before.before) (size c.before canvas long) c.if-count-layer.true); next_row = tt }
 
 pub bounds-rows-place : goal.bounds-rows-place
 bounds-rows-place c =
-    let kept = c.before.before.before in
     let within = c.if-count-layer.false in
     omega (arith, few c.before.before.before)
 
 pub returns-then-own-next : goal.returns-then-own-next
 returns-then-own-next c =
-    let own = c.before.before.before.before in
-    let told = c.before.before.before.before.before.before in
-    let entry = c.before.before.before.before.before.before.before.before.before.before.before.before in
     let a = c.args in record { by_index = λ canvas long.
-          sym (paint_finished a.size.width a.size.height a.count a.places (sixteen entry) a.layer canvas
+          sym (paint_finished a.size.width a.size.height a.count a.places (sixteen c.before.before.before.before.before.before.before.before.before.before.before.before) a.layer canvas
           (rules c.before.before.before.before.before.before.before.before) (size c.before.before.before.before.before.before canvas long)
           c.if-count-layer.false (by_end c.before.before.before.before c.if-own-next.true)); next_row = tt }
 
 pub some_owes-requires : goal.some_owes-requires
 some_owes-requires c =
-    let own = c.before.before.before.before in
     let within = c.if-count-layer.false in
     omega (arith, few c.before.before.before.before.before.before.before.before)
 
 pub returns-then-some_owes : goal.returns-then-some_owes
 returns-then-some_owes c =
-    let own = c.before.before.before.before.before.before in
-    let told = c.before.before.before.before.before.before.before.before in
-    let entry = c.before.before.before.before.before.before.before.before.before.before.before.before.before.before in
     let a = c.args in record { by_index = λ canvas long.
-          sym (paint_owed a.size.width a.size.height a.count a.places (sixteen entry) a.layer canvas
+          sym (paint_owed a.size.width a.size.height a.count a.places (sixteen c.before.before.before.before.before.before.before.before.before.before.before.before.before.before) a.layer canvas
           (rules c.before.before.before.before.before.before.before.before.before.before) (size c.before.before.before.before.before.before.before.before canvas long)
           c.if-count-layer.false (by_end c.before.before.before.before.before.before c.if-own-next.false) (owed c.before ∙ c.if-some_owes.true)); next_row = tt }
 
@@ -178,10 +163,7 @@ returns-then-some_owes c =
 pub returns : goal.returns
 unfolding layer_rows
 returns c =
-    let own = c.before.before.before.before.before.before in
-    let told = c.before.before.before.before.before.before.before.before in
-    let entry = c.before.before.before.before.before.before.before.before.before.before.before.before.before.before in
     let a = c.args in record { by_index = λ canvas long.
-          sym (paint_free a.size.width a.size.height a.count a.places (sixteen entry) a.layer canvas
+          sym (paint_free a.size.width a.size.height a.count a.places (sixteen c.before.before.before.before.before.before.before.before.before.before.before.before.before.before) a.layer canvas
           (rules c.before.before.before.before.before.before.before.before.before.before) (size c.before.before.before.before.before.before.before.before canvas long)
-          c.if-count-layer.false (by_end c.before.before.before.before.before.before c.if-own-next.false) (owed c.before ∙ c.if-some_owes.false)); next_row = to_z-of_z (own_fits own).next ∙ ap (λ (r : LayerRows). r.next) (own_is own) }
+          c.if-count-layer.false (by_end c.before.before.before.before.before.before c.if-own-next.false) (owed c.before ∙ c.if-some_owes.false)); next_row = to_z-of_z (own_fits c.before.before.before.before.before.before).next ∙ ap (λ (r : LayerRows). r.next) (own_is c.before.before.before.before.before.before) }

@@ -13,24 +13,21 @@ sixteen c = omega arith
 -- 7
 pub returns-then-not-tested : goal.returns-then-not-tested
 returns-then-not-tested c =
-    let entry = c.before.before.before in
     let a = c.args in
     let broken = sym c.test_rules-tested.ensures.kept_value ∙ not-true _ c.if-not-tested.true in
-    λ item canvas. add_broken a.size.width a.size.height a.count a.places (sixteen entry) item canvas broken
+    λ item canvas. add_broken a.size.width a.size.height a.count a.places (sixteen c.before.before.before) item canvas broken
 
 -- 9
 pub returns-then-count-ge-MAX_LAYERS : goal.returns-then-count-ge-MAX_LAYERS
 returns-then-count-ge-MAX_LAYERS c =
-    let entry = c.before.before.before.before in
     let a = c.args in
     let rules = sym c.test_rules-tested.ensures.kept_value ∙ not-false _ c.if-not-tested.false in
     λ item canvas.
-    add_full a.size.width a.size.height a.count a.places (sixteen entry) item canvas rules c.if-count-ge-MAX_LAYERS.true
+    add_full a.size.width a.size.height a.count a.places (sixteen c.before.before.before.before) item canvas rules c.if-count-ge-MAX_LAYERS.true
 
 pub returns : goal.returns
 returns c =
-    let entry = c.before.before.before.before in
     let a = c.args in
     let rules = sym c.test_rules-tested.ensures.kept_value ∙ not-false _ c.if-not-tested.false in
     λ item canvas.
-    add_free a.size.width a.size.height a.count a.places (sixteen entry) item canvas rules c.if-count-ge-MAX_LAYERS.false
+    add_free a.size.width a.size.height a.count a.places (sixteen c.before.before.before.before) item canvas rules c.if-count-ge-MAX_LAYERS.false

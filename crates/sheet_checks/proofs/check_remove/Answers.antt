@@ -51,18 +51,15 @@ returns-then-not-kept c = rw (not-true c.args.kept c.if-not-kept.true)
 pub returns-in_default : goal.returns-in_default
 unfolding remove_check
 returns-in_default c =
-    let lent = c.before in
     rw (not-false c.args.kept c.if-not-kept.false, found c.before _, c.in_default.is)
 
 -- 10
 pub returns-then-layers-layer : goal.returns-then-layers-layer
 unfolding remove_check
 returns-then-layers-layer c =
-    let lent = c.before.before in
     rw (not-false c.args.kept c.if-not-kept.false, found c.before.before _, c.in-Passed.is, le-leb _ _ c.if-layers-layer.true)
 
 pub returns : goal.returns
 unfolding remove_check
 returns c =
-    let lent = c.before.before in
     rw (not-false c.args.kept c.if-not-kept.false, found c.before.before _, c.in-Passed.is, lt-leb _ _ c.if-layers-layer.false)

@@ -21,13 +21,11 @@ returns-in_default c =
 -- too many layers
 pub returns-then-count-gt-MAX_LAYERS : goal.returns-then-count-gt-MAX_LAYERS
 returns-then-count-gt-MAX_LAYERS c =
-    let entry = c.before.before.before.before in
     let a = c.args in
-    let broken = broken_count a.size.width a.size.height a.count a.places (sixteen entry) c.if-count-gt-MAX_LAYERS.true in record { kept_value = not_kept c.broken-then-count-gt-MAX_LAYERS.ensures ∙ sym broken; rows_value = λ kept. absurd (false≢true (sym (not_kept c.broken-then-count-gt-MAX_LAYERS.ensures) ∙ kept)) }
+    let broken = broken_count a.size.width a.size.height a.count a.places (sixteen c.before.before.before.before) c.if-count-gt-MAX_LAYERS.true in record { kept_value = not_kept c.broken-then-count-gt-MAX_LAYERS.ensures ∙ sym broken; rows_value = λ kept. absurd (false≢true (sym (not_kept c.broken-then-count-gt-MAX_LAYERS.ensures) ∙ kept)) }
 
 pub returns : goal.returns
 returns c =
-    let entry = c.before.before.before.before in
     let a = c.args in
     let passed = sym c.check.ensures ∙ c.in-Passed.is in record { kept_value = c.test_rules.ensures.kept_value
-          ∙ kept_by_layers a.size.width a.size.height a.count a.places (sixteen entry) passed c.if-count-gt-MAX_LAYERS.false; rows_value = c.test_rules.ensures.rows_value }
+          ∙ kept_by_layers a.size.width a.size.height a.count a.places (sixteen c.before.before.before.before) passed c.if-count-gt-MAX_LAYERS.false; rows_value = c.test_rules.ensures.rows_value }

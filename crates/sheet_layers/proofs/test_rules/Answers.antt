@@ -40,11 +40,10 @@ bounds-layers-i c = omega arith
 
 pub returns-in_default : goal.returns-in_default
 returns-in_default c =
-    let found = c.before.before in
     let a = c.args in
     let whole =
-    broken_here a.t1 a.count (c.loop-i.i - 1) _ (step found) (here found)
-    (enough found.before.before.before.before) (sym c.in_default.is ∙ c.rows.ensures) in record { kept_value = not_kept c.broken.ensures ∙ sym whole; rows_value = λ kept. absurd (false≢true (sym (not_kept c.broken.ensures) ∙ kept)) }
+    broken_here a.t1 a.count (c.loop-i.i - 1) _ (step c.before.before) (here c.before.before)
+    (enough c.before.before.before.before.before.before) (sym c.in_default.is ∙ c.rows.ensures) in record { kept_value = not_kept c.broken.ensures ∙ sym whole; rows_value = λ kept. absurd (false≢true (sym (not_kept c.broken.ensures) ∙ kept)) }
 
 pub offset_bounds-rows-i : goal.offset_bounds-rows-i
 offset_bounds-rows-i c = record { fits = omega arith }
@@ -57,13 +56,12 @@ loop-i-smaller c = omega arith
 
 pub loop-i-preserved : goal.loop-i-preserved
 loop-i-preserved c =
-    let found = c.before in
     let a = c.args in
     let inv = c.loop-i.invariant in (
       omega arith,
       simp length-set c.loop-i.invariant.1,
-      found_here a.t1 a.count (c.loop-i.i - 1) _ (step found) (here found)
-          (enough found.before.before.before.before) c.loop-i.rows (omega arith) c.loop-i.invariant.2 _
+      found_here a.t1 a.count (c.loop-i.i - 1) _ (step c.before) (here c.before)
+          (enough c.before.before.before.before.before) c.loop-i.rows (omega arith) c.loop-i.invariant.2 _
           (sym c.in-Kept.is ∙ c.rows.ensures),
     )
 
@@ -72,7 +70,6 @@ in_order-requires c = c.requires
 
 pub returns : goal.returns
 returns c =
-    let walk = c.before.before in
     let a = c.args in
     let none : c.loop-i.i ≡ 0 = omega arith in
     let all = subst (λ (n : ℕ). FoundFrom a.t1 a.count c.loop-i.rows n) none c.loop-i.invariant.2 in record { kept_value = c.in_order.ensures ∙ found_all a.t1 a.count c.loop-i.rows all; rows_value = λ kept. all.rows_are }

@@ -26,10 +26,6 @@ Start = Lts.Start Tie.the-claims Reads.Pre Reads.Post goal.the-invariant-loop-j 
 sixteen : (c : Start) → length c.args.layers ≡ 16
 sixteen c = omega arith
 
--- ---- one layer of the walk
-abbrev start : goal.After-least-bottom → Start
-start c = c.before.before.before.before.before.before.before.before.before.before
-
 abbrev place : goal.After-least-bottom → ℕ
 place c = c.loop-j.j
 
@@ -73,34 +69,32 @@ bounds-layers-j c = let few = c.requires.end_le_max_layers.0 in omega arith
 
 pub paint_rows-requires : goal.paint_rows-requires
 paint_rows-requires c =
-    let at = c.before.before in
     let walk = c.loop-j in
     let pre = c.requires in
-    let high = pre.1.0.1 in record { canvas_len = c.loop-j.invariant.1 ∙ pre.0; width_le_max_canvas_side = (pre.1.0.0, omega (arith, bottom_is c.before.before)); layer_within = within c.before.before }
+    let high = c.requires.width_le_max_canvas_side.1 in record { canvas_len = c.loop-j.invariant.1 ∙ c.requires.canvas_len; width_le_max_canvas_side = (c.requires.width_le_max_canvas_side.0, omega (arith, bottom_is c.before.before)); layer_within = within c.before.before }
 
 pub loop-j-smaller : goal.loop-j-smaller
 loop-j-smaller c = omega arith
 
 pub loop-j-preserved : goal.loop-j-preserved
 loop-j-preserved c =
-    let at = c.before.before.before.before.before.before in
     let walk = c.loop-j in
     let a = c.args in
     let W = a.size.width in
     let H = a.size.height in
-    let item = styled_figure (layer at).figure (layer at).style in
+    let item = styled_figure (layer c.before.before.before.before.before.before).figure (layer c.before.before.before.before.before.before).style in
     let rest = map layer_of (drop (c.loop-j.j + 1) (take a.end a.t3)) in
     let size = c.loop-j.invariant.1 ∙ c.requires.canvas_len in
     let few = c.requires.end_le_max_layers.0 in
-    let done : c.paint_rows.new.canvas ≡ painted W H a.from a.to (layer at) c.loop-j.canvas =
+    let done : c.paint_rows.new.canvas ≡ painted W H a.from a.to (layer c.before.before.before.before.before.before) c.loop-j.canvas =
     c.paint_rows.ensures
-    ∙ ap₂ (λ (t b : ℕ). paint_rows drawing W H item (pos t) (b - t) c.loop-j.canvas) (top_is at) (bottom_is at) in (
+    ∙ ap₂ (λ (t b : ℕ). paint_rows drawing W H item (pos t) (b - t) c.loop-j.canvas) (top_is c.before.before.before.before.before.before) (bottom_is c.before.before.before.before.before.before) in (
       ap (laid_over W H a.from a.to rest) done
-          ∙ sym (laid_over_one W H a.from a.to (layer at) rest c.loop-j.canvas size)
+          ∙ sym (laid_over_one W H a.from a.to (layer c.before.before.before.before.before.before) rest c.loop-j.canvas size)
           ∙ ap (λ (l : List Layer). laid_over W H a.from a.to (map layer_of l) c.loop-j.canvas)
-          (sym (place_here a.t3 a.end c.loop-j.j blank_layer (left at) (omega (arith, sixteen c.before.before.before.before.before.before.before.before.before.before.before.before.before.before.before.before))))
+          (sym (place_here a.t3 a.end c.loop-j.j blank_layer (left c.before.before.before.before.before.before) (omega (arith, sixteen c.before.before.before.before.before.before.before.before.before.before.before.before.before.before.before.before))))
           ∙ c.loop-j.invariant.0,
-      ap length done ∙ painted_length W H a.from a.to (layer at) rest c.loop-j.canvas size ∙ sym c.requires.canvas_len,
+      ap length done ∙ painted_length W H a.from a.to (layer c.before.before.before.before.before.before) rest c.loop-j.canvas size ∙ sym c.requires.canvas_len,
     )
 
 pub shape_of-canvas : goal.shape_of-canvas
@@ -109,7 +103,6 @@ shape_of-canvas c = c.loop-j.invariant.1
 pub returns : goal.returns
 returns c =
     let walk = c.loop-j in
-    let start = c.before.before.before in
     let a = c.args in
     sym (laid_over_none a.size.width a.size.height a.from a.to c.loop-j.canvas (c.loop-j.invariant.1 ∙ c.requires.canvas_len))
     ∙ ap (λ (l : List Layer). laid_over a.size.width a.size.height a.from a.to (map layer_of l) c.loop-j.canvas)

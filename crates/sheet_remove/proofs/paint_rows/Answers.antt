@@ -44,7 +44,6 @@ from_u32-requires c = let high = c.requires.width_le_max_canvas_side.1 in omega 
 
 pub paint_row-requires : goal.paint_row-requires
 paint_row-requires c =
-    let start = c.before.before.before.before.before.before in
     let walk = c.loop-y in
     let layer = c.requires.layer_within in
     let wide = c.requires.width_le_max_canvas_side.0 in
@@ -55,7 +54,6 @@ loop-y-smaller c = omega arith
 
 pub loop-y-preserved : goal.loop-y-preserved
 loop-y-preserved c =
-    let start = c.before.before.before.before.before.before.before.before.before.before in
     let walk = c.loop-y in
     let a = c.args in
     let W = a.size.width in
@@ -63,7 +61,7 @@ loop-y-preserved c =
     let item = styled_figure a.layer.figure a.layer.style in
     let painted =
     c.paint_row.ensures
-    ∙ ap (λ (y : ℤ). paint_row drawing W H item y c.loop-y.canvas) (row_is c.before.before.before) in (
+    ∙ ap (λ (y : ℤ). paint_row drawing W H item y c.loop-y.canvas) (row_is c.before.before.before.before) in (
       ap (paint_rows drawing W H item (pos (c.loop-y.y + 1)) (a.to - (c.loop-y.y + 1))) painted
           ∙ sym (step W H item c.loop-y.y a.to c.loop-y.canvas c.loop-y-test.true)
           ∙ c.loop-y.invariant.0,

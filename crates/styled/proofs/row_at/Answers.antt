@@ -17,7 +17,6 @@ After-straight_row_of = Lts.After-straight_row_of Tie.the-claims Reads.Pre Reads
 -- by both areas
 pub returns-in_default : goal.returns-in_default
 returns-in_default c =
-    let entry = c.before.before.before in
     c.row_by_areas.ensures ∙ ap (styled_row c.args.figure c.args.style) (to_z-of_z c.requires.near.fits)
 
 -- without the corners

@@ -76,20 +76,17 @@ from_u32-outward-requires c =
 
 pub from_u32-requires : goal.from_u32-requires
 from_u32-requires c =
-    let begin = c.before.before.before in
     let small = c.requires.stroke_width_bound in
     omega (arith, c.inside_stroke_width-inside.ensures, inside_within_stroke c.args.style)
 
 pub sub-inward-requires : goal.sub-inward-requires
 sub-inward-requires c =
-    let begin = c.before.before.before.before in
     let small = c.requires.stroke_width_bound in
     let is = c.from_u32.ensures.is in
     omega (arith, int, c.inside_stroke_width-inside.ensures, inside_within_stroke c.args.style)
 
 pub ellipse_row_at-requires : goal.ellipse_row_at-requires
 ellipse_row_at-requires c =
-    let after = c.before in
     let begin = start c.before in
     let small = begin.pre.1.0 in
     let near = begin.pre.1.1 in record { own_rectangle = subst OwnFigure c.in-Ellipse.is begin.pre.0; outside_le_wide_offset = (
@@ -101,14 +98,12 @@ ellipse_row_at-requires c =
 
 pub crate_row_at-requires : goal.crate_row_at-requires
 crate_row_at-requires c =
-    let after = c.before in
     let near = c.requires.near in
     let out = outward_near c.before in
     let inw = inward_near c.before in record { own_box = subst OwnFigure c.in-CrateBox.is c.requires.own_figure; near = (rw (to_z-of_z out.fits) out, rw (to_z-of_z inw.fits) inw); near_2 = rw (to_z-of_z near.fits) near }
 
 pub w3c_row_at-requires : goal.w3c_row_at-requires
 w3c_row_at-requires c =
-    let after = c.before in
     let near = c.requires.near in
     let out = outward_near c.before in
     let inw = inward_near c.before in record { own_box = subst OwnFigure c.in-W3cBox.is c.requires.own_figure; near = (rw (to_z-of_z out.fits) out, rw (to_z-of_z inw.fits) inw); near_2 = rw (to_z-of_z near.fits) near }
@@ -116,7 +111,6 @@ w3c_row_at-requires c =
 pub returns-in-Ellipse : goal.returns-in-Ellipse
 unfolding styled_row_of_shapes
 returns-in-Ellipse c =
-    let after = c.before.before in
     let figure = c.in-Ellipse.given in
     let args = c.args in
     c.ellipse_row_at.ensures
@@ -137,7 +131,6 @@ inward_held c = to_z-of_z (inward_near c).ranges ∙ inward_is c
 pub returns-in-CrateBox : goal.returns-in-CrateBox
 unfolding styled_row_of_shapes
 returns-in-CrateBox c =
-    let after = c.before.before in
     let figure = c.in-CrateBox.given in
     let args = c.args in
     c.crate_row_at.ensures
@@ -148,7 +141,6 @@ returns-in-CrateBox c =
 pub returns-in-W3cBox : goal.returns-in-W3cBox
 unfolding styled_row_of_shapes
 returns-in-W3cBox c =
-    let after = c.before.before in
     let figure = c.in-W3cBox.given in
     let args = c.args in
     c.w3c_row_at.ensures

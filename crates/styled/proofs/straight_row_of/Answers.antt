@@ -39,7 +39,6 @@ is_box c =
 
 pub straight_row-requires : goal.straight_row-requires
 straight_row-requires c =
-    let entry = c.before.before.before in
     let near = c.requires.near in record { own_box = own_box _ _ (is_box c) c.requires.own_figure; outside_le_wide_offset = widths c.before; near = rw (to_z-of_z near.fits) near }
 
 -- what is told of the box, of the figure
@@ -47,7 +46,6 @@ straight_told : (c : goal.After-straight_row)
     → Told c.straight_row.result (styled_row c.args.figure c.args.style
     c.args.y)
 straight_told c =
-    let entry = c.before.before.before.before in
     subst (λ (z : ℤ). Told c.straight_row.result (styled_row c.args.figure c.args.style z))
     (to_z-of_z c.requires.near.fits)
     (figure_told c.match-figure.b c.args.style _ c.straight_row.result _ _

@@ -31,13 +31,12 @@ checked c = c.or_else-checked.ensures ∙ ap₂ or_else c.check.ensures c.check-
 
 -- refused
 pub returns-in_default : goal.returns-in_default
-returns-in_default c = rw (sym (checked c.before.before.before) ∙ c.in_default.is)
+returns-in_default c = rw (sym (checked c.before.before) ∙ c.in_default.is)
     (refused_early refused c.refusal.ensures c.in_default.is)
 
 pub from_u32-outside-requires : goal.from_u32-outside-requires
 from_u32-outside-requires c =
-    let entry = c.before.before.before.before.before in
-    let passed = sym (checked c.before.before.before) ∙ c.in-Passed.is in
+    let passed = sym (checked c.before.before) ∙ c.in-Passed.is in
     omega (
       arith,
       c.outside_stroke_width.ensures,
@@ -47,8 +46,7 @@ from_u32-outside-requires c =
 
 pub offset-requires : goal.offset-requires
 offset-requires c =
-    let entry = c.before.before.before.before.before.before.before in
-    let passed = sym (checked c.before.before.before.before.before) ∙ c.in-Passed.is in
+    let passed = sym (checked c.before.before.before.before) ∙ c.in-Passed.is in
     let f = c.args.figure in
     let is = c.from_u32-outside.ensures.is in
     let own = own_rectangle_bounded f (figure_passed f (passed_first (figure_check f) (style_check c.args.style) passed)) in record { bounded = subst Bounded (sym c.own_rectangle-rectangle.ensures) own; near = omega (
@@ -63,6 +61,6 @@ pub returns : goal.returns
 returns c =
     let wide = c.from_u32-outside.ensures in
     let by = to_z-of_z c.from_u32-outside.ensures.fits ∙ c.from_u32-outside.ensures.is ∙ ap pos c.outside_stroke_width.ensures in
-    rw (sym (checked c.before.before.before.before.before.before) ∙ c.in-Passed.is)
+    rw (sym (checked c.before.before.before.before.before) ∙ c.in-Passed.is)
     (ap (λ (r : Rectangle). answered (rectangle_values r))
     (c.offset.ensures ∙ (λ i. rectangle_offset (c.own_rectangle-rectangle.ensures i) (by i))))

@@ -42,15 +42,14 @@ checked c =
 
 -- refused
 pub returns-in_default : goal.returns-in_default
-returns-in_default c = rw (sym (checked c.before.before.before) ∙ c.in_default.is)
+returns-in_default c = rw (sym (checked c.before.before) ∙ c.in_default.is)
     (refused_early refused c.refusal.ensures c.in_default.is)
 
 pub row_at-requires : goal.row_at-requires
 row_at-requires c =
-    let entry = c.before.before.before.before.before.before in
     let f = c.args.figure in
     let style = c.args.style in
-    let passed = sym (checked c.before.before) ∙ c.in-Passed.is in
+    let passed = sym (checked c.before) ∙ c.in-Passed.is in
     let given = passed_first (or_else (figure_check f) (asked_check c.args.y)) (style_check style) passed in
     let stroke = style_passed style (passed_next (or_else (figure_check f) (asked_check c.args.y)) (style_check style) passed) in
     let near = asked_passed c.args.y (passed_next (figure_check f) _ given) in record { own_figure = figure_passed f (passed_first (figure_check f) (asked_check c.args.y) given); stroke_width_bound = omega arith; near = omega (arith, int) }
@@ -60,20 +59,15 @@ runs_are : (c : After-row_at)
     → c.row_at.result
     ≡ styled_row c.args.figure c.args.style c.args.y
 runs_are c =
-    let entry = c.before.before.before.before.before.before.before in
     c.row_at.ensures ∙ ap (styled_row c.args.figure c.args.style) (to_z-of_z c.ranges.y)
 
 -- no row
 pub returns-in_default-row_at : goal.returns-in_default-row_at
 returns-in_default-row_at c =
-    let found = c.before in
-    let entry = c.before.before.before.before.before.before.before.before in
-    rw (sym (checked found.before.before.before) ∙ c.in-Passed.is)
+    rw (sym (checked c.before.before.before) ∙ c.in-Passed.is)
     (ap (λ (r : StyledRow). answered (styled_row_values c.args.y r)) (sym c.in_default-row_at.is ∙ runs_are c.before))
 
 pub returns : goal.returns
 returns c =
-    let found = c.before.before.before.before in
-    let entry = c.before.before.before.before.before.before.before.before.before.before.before in
-    rw (sym (checked found.before.before.before) ∙ c.in-Passed.is)
+    rw (sym (checked c.before.before.before.before.before.before) ∙ c.in-Passed.is)
     (ap₂ (λ (z : ℤ) (r : StyledRow). answered (styled_row_values z r)) (to_z-of_z c.ranges.y) (sym c.in-Runs.is ∙ runs_are c.before.before.before.before))

@@ -13,12 +13,10 @@ use Rattle.styled_areas.proofs.area.Goals as goal
 
 pub offset-requires : goal.offset-requires
 offset-requires c =
-    let entry = c.before in
     let near = c.requires.near in record { bounded = area_bounded _ (own_area _ (subst OwnFigure c.in-Ellipse.is c.requires.own_figure)); near = omega (arith, int) }
 
 pub offset_box-requires : goal.offset_box-requires
 offset_box-requires c =
-    let entry = c.before in
     let near = c.requires.near in record { own_box = subst OwnFigure c.in-CrateBox.is c.requires.own_figure; near = omega (arith, int) }
 
 -- the crate box offset, and that its area is bounded
@@ -30,7 +28,6 @@ offset_is c =
 
 offset_bounded : (c : goal.After-offset_box) → AreaBox c.offset_box.result
 offset_bounded c =
-    let entry = c.before.before in
     subst AreaBox (sym (offset_is c))
     (offset_box_bounded _ c.args.k (subst OwnFigure c.in-CrateBox.is c.requires.own_figure) c.requires.near)
 
@@ -39,14 +36,12 @@ confined-requires c = offset_bounded c
 
 pub offset_w3c_box-requires : goal.offset_w3c_box-requires
 offset_w3c_box-requires c =
-    let entry = c.before in
     let near = c.requires.near in record { own_box = subst OwnFigure c.in-W3cBox.is c.requires.own_figure; near = omega (arith, int) }
 
 pub returns-in-Ellipse : goal.returns-in-Ellipse
 returns-in-Ellipse c =
-    let entry = c.before.before in
     let r = c.in-Ellipse.rectangle in
-    let is = c.offset.ensures ∙ ap (rectangle_offset r) (to_z-of_z c.ranges.k) in (
+    let is = c.offset.ensures ∙ ap (rectangle_offset c.in-Ellipse.rectangle) (to_z-of_z c.ranges.k) in (
       rw c.in-Ellipse.is (ap shape_of.Ellipse is),
       subst AreaRectangle (sym is) (offset_area c.in-Ellipse.rectangle c.args.k (subst OwnFigure c.in-Ellipse.is c.requires.own_figure)
           c.requires.near),
@@ -61,7 +56,6 @@ returns-in-CrateBox c =
 
 pub returns-in-W3cBox : goal.returns-in-W3cBox
 returns-in-W3cBox c =
-    let entry = c.before.before in
     let made = c.offset_w3c_box.ensures in
     let is = c.offset_w3c_box.ensures.0 ∙ ap (offset_w3c_box c.in-W3cBox.b) (to_z-of_z c.ranges.k) in
     (rw c.in-W3cBox.is (ap shape_of.RoundedBox is), c.offset_w3c_box.ensures.1)

@@ -24,20 +24,17 @@ opposite c =
 
 pub from_u32-inside-requires : goal.from_u32-inside-requires
 from_u32-inside-requires c =
-    let start = c.before in
     let small = c.requires.stroke_width_bound in
     omega (arith, c.inside_stroke_width.ensures, inside_within_stroke c.args.style)
 
 pub sub-requires : goal.sub-requires
 sub-requires c =
-    let start = c.before.before in
     let small = c.requires.stroke_width_bound in
     let is = c.from_u32-inside.ensures.is in
     omega (arith, int, c.inside_stroke_width.ensures, inside_within_stroke c.args.style)
 
 pub area-requires : goal.area-requires
 area-requires c =
-    let start = c.before.before.before in
     let small = c.requires.stroke_width_bound in record { own_figure = c.requires.own_figure; near = omega (
         arith,
         int,
@@ -50,7 +47,6 @@ area-requires c =
 pub returns : goal.returns
 returns c =
     let at_inside_stroke_width = c.inside_stroke_width in
-    let start = c.before.before.before.before in
     let by = to_z-of_z c.sub.ensures.fits ∙ opposite c.before ∙ ap (λ (n : ℕ). neg_ℤ (pos n))
     c.inside_stroke_width.ensures in
     (c.area.ensures.0 ∙ ap (area c.args.figure) by, c.area.ensures.1)

@@ -10,20 +10,17 @@ use Rattle.styled_areas.proofs.stroke_shape.Goals as goal
 
 pub from_u32-requires : goal.from_u32-requires
 from_u32-requires c =
-    let start = c.before in
     let small = c.requires.stroke_width_bound in
     omega (arith, c.outside_stroke_width.ensures, outside_within_stroke c.args.style)
 
 pub area-requires : goal.area-requires
 area-requires c =
-    let start = c.before.before in
     let small = c.requires.stroke_width_bound in
     let is = c.from_u32.ensures.is in record { own_figure = c.requires.own_figure; near = omega (arith, int, c.outside_stroke_width.ensures, outside_within_stroke c.args.style) }
 
 pub returns : goal.returns
 returns c =
     let at_outside_stroke_width = c.outside_stroke_width in
-    let start = c.before.before.before in
     let by = to_z-of_z c.from_u32.ensures.fits ∙ c.from_u32.ensures.is ∙ ap pos
     c.outside_stroke_width.ensures in
     (c.area.ensures.0 ∙ ap (area c.args.figure) by, c.area.ensures.1)

@@ -36,7 +36,6 @@ returns-in_default c =
 pub fill_alone-requires : goal.fill_alone-requires
 fill_alone-requires c =
     let at_row = c.row in
-    let entry = c.before.before in
     let area = c.requires.confined_area_box.rectangle in
     let near = c.requires.near in
     let r = c.args.area.rectangle in
@@ -49,7 +48,6 @@ fill_alone-requires c =
 pub returns : goal.returns
 unfolding box_styled_row
 returns c =
-    let entry = c.before.before.before.before in
     let args = c.args in
     let run = c.in-Run.given in
     let fill = plain_box args.fill in

@@ -39,9 +39,8 @@ box_row-requires c =
 
 pub returns : goal.returns
 returns c =
-    let made = c.before in
     c.box_row.ensures
     ∙ (λ i.
-    box_styled_row (plain_box ((c.confined-area.ensures ∙ ap confined (outer_is made.before.before.before)) i))
-    (plain_box ((c.confined-inner.ensures ∙ ap confined (inner_is made.before)) i))
+    box_styled_row (plain_box ((c.confined-area.ensures ∙ ap confined (outer_is c.before.before.before.before)) i))
+    (plain_box ((c.confined-inner.ensures ∙ ap confined (inner_is c.before.before)) i))
     (to_z-of_z c.requires.near_2.fits i))

@@ -104,7 +104,6 @@ first_is c =
 -- off the stroke area's rows
 pub returns-in_default : goal.returns-in_default
 returns-in_default c =
-    let first = c.before.before.before.before.before in
     styled_out c.args.area c.args.sides c.args.y
     (placed_told _ _ _ c.requires.bounded.at.y.fits c.requires.near.fits c.place_of.ensures
     c.in_default.is)
@@ -113,31 +112,27 @@ returns-in_default c =
 pub returns-in_default-row : goal.returns-in_default-row
 unfolding ellipse_styled_row
 returns-in_default-row c =
-    let after = c.before in
     let args = c.args in
     ap (λ (r : Row). styled_by r (ellipse_fill args.sides args.area args.y)) (row_is c.before _ c.in_default-row.is)
 
 pub sub-requires : goal.sub-requires
 sub-requires c =
-    let at = c.before.before.before in
     let area = c.requires.bounded in
-    rw (to_z-of_z (run_start_fits at), to_z-of_z area.at.x.fits)
-    (difference_fits _ _ _ area.at.x area.size.width (run_ends at).start_from (run_ends at).start_to)
+    rw (to_z-of_z (run_start_fits c.before.before.before), to_z-of_z area.at.x.fits)
+    (difference_fits _ _ _ area.at.x area.size.width (run_ends c.before.before.before).start_from (run_ends c.before.before.before).start_to)
 
 pub gap-distance-requires : goal.gap-distance-requires
 gap-distance-requires c = ((row_place (found c.before.before.before.before.before).before).1, (entry c.before.before.before.before.before).requires.0.size.height)
 
 pub ellipse_runs-requires : goal.ellipse_runs-requires
 ellipse_runs-requires c =
-    let after = c.before.before.before in
     let area = (entry c.before.before.before.before.before.before.before).requires.0 in
-    let half = first_inside_half _ _ _ _ (first_is after) in
+    let half = first_inside_half _ _ _ _ (first_is c.before.before.before) in
     let near = area.at.x in
     let tall = area.size.height in record { near = rw (to_z-of_z near.fits) near; width_le_wide_side = (area.size.width, omega arith, omega arith); size_up_to = (entry c.before.before.before.before.before.before.before).requires.1.0 }
 
 pub returns : goal.returns
 returns c =
-    let after = c.before.before.before in
     let args = (entry c.before.before.before.before.before.before.before).args in
     let run = c.in-Run.given in
     let w = args.area.size.width in
@@ -148,4 +143,4 @@ returns c =
     (find_from (column_inside (contains_of args.sides.width args.sides.height) w (c.gap-distance.ensures.0 i))
     (w - 2 * c.floor0-s.result) c.floor0-s.result)))
     ∙ styled_found args.area args.sides args.y _ (row_place (found c.before.before.before.before.before.before.before).before)
-    (rows_there args.area args.y run.0.0 (row_is (found c.before.before.before.before.before.before.before) _ run.1)) c.floor0-s.result (first_is after)
+    (rows_there args.area args.y run.0.0 (row_is (found c.before.before.before.before.before.before.before) _ run.1)) c.floor0-s.result (first_is c.before.before.before)

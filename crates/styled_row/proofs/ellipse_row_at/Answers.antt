@@ -64,16 +64,15 @@ ellipse_row-requires c =
     let small = entry.pre.1.0 in
     let near = entry.pre.1.1 in
     let inside = entry.args.inside in record { bounded = area_bounded _
-          (subst AreaRectangle (sym (area_is c.before.before.before))
+          (subst AreaRectangle (sym (area_is c.before.before.before.before))
           (offset_area entry.args.rectangle (pos entry.args.outside) entry.pre.0 (omega (arith, int)))); size_up_to = (area_bounded _
-            (subst AreaRectangle (sym (inner_is c))
+            (subst AreaRectangle (sym (inner_is c.before))
             (offset_area entry.args.rectangle (neg_ℤ (pos inside)) entry.pre.0
             (omega (arith, int, positive_of_opposite (pos inside), negative_of_opposite (pos inside)))))
             ).size; near = rw (to_z-of_z near.fits) near }
 
 pub returns : goal.returns
 returns c =
-    let after = c.before in
     c.ellipse_row.ensures
     ∙ (λ i. ellipse_styled_row (area_is c.before.before.before.before.before i) (inner_is c.before.before i).size
     (to_z-of_z c.requires.near.fits i))

@@ -39,7 +39,6 @@ answer_is c told is =
 
 pub returns-in_default : goal.returns-in_default
 returns-in_default c =
-    let after = c.before.before in
     let start = entry c.before.before in
     c.hollow_runs.ensures
     ∙ ap (λ (z : ℤ). runs_from z start.args.width start.args.s Nowhere) (to_z-of_z start.fits.left)
@@ -47,13 +46,11 @@ returns-in_default c =
 
 pub filled_runs-requires : goal.filled_runs-requires
 filled_runs-requires c =
-    let after = c.before in
     let start = entry c.before in
     let below = (found_at _ _ _ _ (sym (answer_is c.before _ c.in-At.is))).below in record { near = rw (to_z-of_z start.fits.left) start.pre.0; width_le_wide_side = (omega arith, omega arith, omega arith) }
 
 pub returns : goal.returns
 returns c =
-    let after = c.before.before in
     let start = entry c.before.before in
     let found = c.in-At.given in
     c.filled_runs.ensures

@@ -31,14 +31,12 @@ row_place c told is = placed_told _ _ _ c.requires.bounded_box.at.y.fits c.requi
 
 pub place_of-requires : goal.place_of-requires
 place_of-requires c =
-    let start = c.before.before.before.before.before in
     let tall = c.requires.bounded_box.size.height in
     let first = c.requires.bounded_box.at.y in record { near = rw (to_z-of_z first.fits) first; n_le_wide_side = omega arith; near_2 = rw (to_z-of_z c.requires.near.fits) c.requires.near }
 
 -- off the fill area's rows
 pub returns-in_default : goal.returns-in_default
 returns-in_default c =
-    let after = c.before.before in
     let args = c.args in
     let end = to_z-of_z c.requires.near_run.end.fits in
     range_by_fields end end
@@ -46,14 +44,12 @@ returns-in_default c =
 
 pub row_fill-found-requires : goal.row_fill-found-requires
 row_fill-found-requires c =
-    let after = c.before.before.before.before.before in
     let dy = c.in-At.given in
     let made = c.new.ensures in
     let first = c.requires.bounded_box.at.x in record { near = rw (to_z-of_z first.fits) first; ready_box = c.new.ensures.2; dy_lt_height = subst (λ (s : Size). dy.0.0 < s.height) (sym c.new.ensures.0) (row_place c.before.before.before.before.before (At dy.0.0) dy.1).1; near_run = c.requires.near_run }
 
 pub returns : goal.returns
 returns c =
-    let after = c.before.before.before.before.before.before in
     let dy = c.in-At.given in
     let made = c.new.ensures in
     let args = c.args in

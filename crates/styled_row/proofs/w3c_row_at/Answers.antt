@@ -16,7 +16,6 @@ area_is b k z made is number =
 
 pub returns : goal.returns
 returns c =
-    let entry = c.before.before.before in
     let offsets = c.requires.near in
     let outer = area_is _ c.args.outward _ _ c.offset_w3c_box-area.ensures.0 (to_z-of_z offsets.0.fits) in
     let inner = area_is _ c.args.inward _ _ c.offset_w3c_box-inner.ensures.0 (to_z-of_z offsets.1.fits) in

@@ -96,7 +96,7 @@ pub is_past-requires : goal.is_past-requires
 is_past-requires c = (row_place c.before.before.before.before.before.before).1
 
 pub is_past-requires-2 : goal.is_past-requires-2
-is_past-requires-2 c = (inner_place c.before.before).1
+is_past-requires-2 c = (inner_place c.before.before.before).1
 
 pub run_between-run-requires : goal.run_between-run-requires
 run_between-run-requires c =
@@ -104,12 +104,11 @@ run_between-run-requires c =
 
 pub filled_between-requires : goal.filled_between-requires
 filled_between-requires c =
-    let after = c.before.before in
     let entry = start (outer c.before.before.before.before.before.before.before.before) in
     let area = entry.pre.0 in
     let inner = area_bounded _ entry.pre.1.0 in
     let a = entry.args.area in
-    let ends = subst (EndsWithin a.top_left.x a.size.width) (sym (run_is after))
+    let ends = subst (EndsWithin a.top_left.x a.size.width) (sym (run_is c.before.before))
     (between_within a.top_left.x a.size.width (record { left = 0; right = 0 }) (omega arith) (omega arith)) in record { near = rw (to_z-of_z inner.at.x.fits) inner.at.x; width_le_wide_stroke_side = (entry.pre.1.0.size.width, omega arith); near_run = record {
           start = start_is_near _ _ _ area.at.x
               area.size.width ends;
@@ -118,7 +117,6 @@ filled_between-requires c =
 
 pub returns : goal.returns
 returns c = λ c₁ d reach_c reach_d.
-    let after = c.before.before.before in
     let at = placed c.before.before.before in
     let entry = start (outer at) in
     let a = entry.args in
@@ -131,7 +129,7 @@ returns c = λ c₁ d reach_c reach_d.
     (c.filled_between.ensures
     ∙ ap (λ (x : _). fill_between x a.inner.size.width c.run_between-run.result 0)
     (to_z-of_z entry.pre.1.0.at.x.fits))
-    ∙ ap (λ (r : Range). around_fill r (fill_between a.inner.top_left.x a.inner.size.width r 0)) (run_is after))
+    ∙ ap (λ (r : Range). around_fill r (fill_between a.inner.top_left.x a.inner.size.width r 0)) (run_is c.before.before.before))
     ∙ straight_row_is a.area a.inner c₁ d a.y _ _ (row_place (outer at)) (inner_place at)
     (straight c₁ a.area.size _ a.stroke (row_place (outer at)).1 past reach_c)
     (straight d a.inner.size _ a.fill (inner_place at).1 past₂ reach_d)

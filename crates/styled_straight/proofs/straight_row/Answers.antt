@@ -54,7 +54,6 @@ inner_is c =
 
 pub offset-area-requires : goal.offset-area-requires
 offset-area-requires c =
-    let entry = c.before.before.before.before.before.before.before.before.before in
     let small = c.requires.outside_le_wide_offset in
     let is = c.from_u32.ensures.is in record { bounded = area_bounded _ (own_area _ c.requires.own_box.rectangle); near = omega (arith, int) }
 
@@ -94,13 +93,12 @@ overflow_add-lower c =
 
 pub row_past-requires : goal.row_past-requires
 row_past-requires c =
-    let after = c.before.before in
     let entry = start c.before.before.before.before.before in
     let own = entry.pre.0.rectangle in
     let small = entry.pre.1.0 in
     let near = entry.pre.1.1 in
-    let inside = entry.args.inside in record { area_rectangle = subst AreaRectangle (sym (area_is after.before.before.before))
-          (offset_area entry.args.b.rectangle (pos entry.args.outside) own (omega (arith, int))); area_rectangle_2 = subst AreaRectangle (sym (inner_is after))
+    let inside = entry.args.inside in record { area_rectangle = subst AreaRectangle (sym (area_is c.before.before.before.before.before))
+          (offset_area entry.args.b.rectangle (pos entry.args.outside) own (omega (arith, int))); area_rectangle_2 = subst AreaRectangle (sym (inner_is c.before.before))
             (offset_area entry.args.b.rectangle (neg_ℤ (pos inside)) own
             (omega (arith, int, positive_of_opposite (pos inside), negative_of_opposite (pos inside)))); near = rw (to_z-of_z near.fits) near }
 

@@ -14,7 +14,6 @@ returns-then-n-eq0 c =
 
 pub first_in_corner-requires : goal.first_in_corner-requires
 first_in_corner-requires c =
-    let entry = c.before.before.before in
     let r = c.args.corner.radius in
     let n_is = c.covered-n.ensures in
     let some = c.if-n-eq0.false in
@@ -27,7 +26,7 @@ unfolding left_out
 returns-in_default c =
     let a = c.args in
     let n = c.covered-n.result in
-    ap (place_else n) (sym c.in_default.is ∙ c.first_in_corner.ensures)
+    ap (place_else c.covered-n.result) (sym c.in_default.is ∙ c.first_in_corner.ensures)
     ∙ ap (left_out a.corner.radius a.e) c.covered-n.ensures
 
 pub returns : goal.returns
@@ -35,5 +34,5 @@ unfolding left_out
 returns c =
     let a = c.args in
     let n = c.covered-n.result in
-    ap (place_else n) (sym c.in-At.is ∙ c.first_in_corner.ensures)
+    ap (place_else c.covered-n.result) (sym c.in-At.is ∙ c.first_in_corner.ensures)
     ∙ ap (left_out a.corner.radius a.e) c.covered-n.ensures

@@ -15,12 +15,10 @@ returns-then-first-eq0 c = record { value = tighter_only_radii _ _ (omega arith)
 
 pub overflow_mul-next : goal.overflow_mul-next
 overflow_mul-next c =
-    let entry = c.before.before.before.before.before.before in
     record { fits = omega (arith, mul-le-mul c.requires.bounded_edge_2.length c.requires.bounded_edge.sum) }
 
 pub overflow_mul-first : goal.overflow_mul-first
 overflow_mul-first c =
-    let entry = c.before.before.before.before.before.before.before.before in
     record { fits = omega (arith, mul-le-mul c.requires.bounded_edge.length c.requires.bounded_edge_2.sum) }
 
 -- radii along both

@@ -10,27 +10,23 @@ use Rattle.corner_quadrant.proofs.EllipseQuadrant.contains.Goals as goal
 
 pub gap-requires : goal.gap-requires
 gap-requires c =
-    let entry = c.before.before.before in
     let column = in_quadrant_column _ _ _ c.requires.e_value in
     let wide = c.requires.ready.small.width in
     (omega arith, omega arith)
 
 pub gap-requires-2 : goal.gap-requires-2
 gap-requires-2 c =
-    let entry = c.before.before.before.before.before in
     let row = in_quadrant_row _ _ _ c.requires.e_value in
     let tall = c.requires.ready.small.height in
     (omega arith, omega arith)
 
 pub contains-requires : goal.contains-requires
 contains-requires c =
-    let entry = c.before.before.before.before.before.before in
     let wide = c.requires.ready.small.width in
     let tall = c.requires.ready.small.height in record { small_weights = c.requires.ready.weights; x_le_wide_distance = (omega arith, omega arith) }
 
 pub returns : goal.returns
 unfolding inside_corner column_inside
 returns c =
-    let entry = c.before.before.before.before.before.before.before in
     c.contains.ensures
     ∙ (λ i. below_threshold (c.requires.ready.test i) (c.gap.ensures.0 i) (c.gap-2.ensures.0 i))

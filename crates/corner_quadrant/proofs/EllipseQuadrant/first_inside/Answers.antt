@@ -11,8 +11,7 @@ use Rattle.corner_quadrant.proofs.EllipseQuadrant.first_inside.Goals as goal
 pub returns : goal.returns
 unfolding inside_corner
 returns c =
-    let entry = c.before.before.before.before.before.before in
     let test = c.requires.ready.test in
     let far = c.gap-y.ensures.0 in
     c.find_inside.ensures
-    ∙ (λ i. find_from (column_inside (test i) (2 * c.args.self.radius.width) (far i)) c.args.n 0)
+    ∙ (λ i. find_from (column_inside (test i) (2 * c.args.self.radius.width) (c.gap-y.ensures.0 i)) c.args.n 0)

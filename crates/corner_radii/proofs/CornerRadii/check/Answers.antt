@@ -7,8 +7,6 @@ use Rattle.corner_radii.proofs.CornerRadii.check.Goals as goal
 pub returns : goal.returns
 unfolding radii_check
 returns c =
-    let bottom = c.before in
-    let top = c.before.before.before.before in
     c.or_else.ensures
     ∙ ap₂ or_else
     (c.or_else-top.ensures

@@ -8,7 +8,6 @@ use Rattle.corner_radii.proofs.CornerRadii.confine.Goals as goal
 pub returns : goal.returns
 unfolding confine
 returns c =
-    let entry = c.before.before.before in
     c.reduce.ensures
     ∙ ap (λ (e : Edge). reduced e c.args.self)
     (c.most_over-edge.ensures.value ∙ ap most_over c.edges.ensures.value)

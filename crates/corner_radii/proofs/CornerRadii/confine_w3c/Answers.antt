@@ -9,7 +9,6 @@ use Rattle.corner_radii.proofs.CornerRadii.confine_w3c.Goals as goal
 
 pub returns : goal.returns
 returns c =
-    let entry = c.before.before.before in
     c.reduce.ensures
     ∙ ap (λ (e : Edge). reduced e c.args.self)
     (c.tightest-edge.ensures.value ∙ ap tightest c.edges.ensures.value)

@@ -19,12 +19,11 @@ offset_corner-requires-3 c = record { size_up_to = c.requires.radii_up_to.bottom
 pub offset_corner-requires-4 : goal.offset_corner-requires-4
 offset_corner-requires-4 c =
     let at_pre = c.requires in
-    let at_fits = c.ranges in record { size_up_to = at_pre.0.bottom_left; near = rw (to_z-of_z at_fits.k) at_pre.1 }
+    let at_fits = c.ranges in record { size_up_to = c.requires.radii_up_to.bottom_left; near = rw (to_z-of_z at_fits.k) c.requires.near }
 
 pub returns : goal.returns
 unfolding offset
 returns c =
-    let entry = c.before.before.before.before in
     let k_back = to_z-of_z c.ranges.k in
     let radii = c.args.self in
     corner_radii_by_fields

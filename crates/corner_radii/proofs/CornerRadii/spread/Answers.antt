@@ -13,7 +13,6 @@ offset-requires c = let near = c.requires.near in record { radii_up_to = c.requi
 -- inward, and by 0
 pub returns-then-k-le0 : goal.returns-then-k-le0
 returns-then-k-le0 c =
-    let entry = c.before.before in
     let inward = c.if-k-le0.true in
     c.offset.ensures
     ∙ ap (offset c.args.self) (to_z-of_z c.ranges.k)
@@ -28,6 +27,5 @@ pub returns : goal.returns
 returns c =
     let growth = c.floor0 in
     let outward = c.if-k-le0.false in
-    let entry = c.before.before.before in
     c.grow.ensures
     ∙ spread_outward c.args.self c.args.k c.floor0.result (omega (arith, int, c.floor0.ensures))

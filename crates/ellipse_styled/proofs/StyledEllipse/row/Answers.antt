@@ -39,7 +39,6 @@ row_place : (c : In-At) →
     c.args.y (At c.in-At.dy)
 row_place c =
     let at_place_of = c.place_of in
-    let entry = c.before.before.before.before.before.before in
     placed_told _ _ _ c.requires.ready_ellipse.area.at.y.fits c.requires.near.fits c.place_of.ensures c.in-At.is
 
 rows_there : (c : Else-not-self) → first_row_inside c.args.self.area.size.width c.args.self.area.size.height
@@ -55,37 +54,34 @@ stroke_start : (c : After-scan_inside) → first_inside c.args.self.area.size.wi
     c.in-At.dy ≡ c.scan_inside.result
 stroke_start c =
     let at_pre = c.requires in
-    first_inside_found _ _ _ _ _ _ at_pre.0.stroke c.gap-distance.ensures.0 c.scan_inside.ensures
+    first_inside_found _ _ _ _ _ _ c.requires.ready_ellipse.stroke c.gap-distance.ensures.0 c.scan_inside.ensures
 
 pub returns-in_default : goal.returns-in_default
 returns-in_default c =
-    let entry = c.before.before.before.before.before.before in
     styled_out c.args.self.area c.args.self.sides c.args.y
     (placed_told _ _ _ c.requires.ready_ellipse.area.at.y.fits c.requires.near.fits c.place_of.ensures
     c.in_default.is)
 
 pub returns-then-not-self : goal.returns-then-not-self
 returns-then-not-self c =
-    let entry = c.before.before.before.before.before.before.before.before in
     styled_lacking c.args.self.area c.args.self.sides c.args.y
     (sym c.requires.ready_ellipse.rows ∙ not-true _ c.if-not-self.true)
 
 pub gap-distance-requires : goal.gap-distance-requires
 gap-distance-requires c =
     let at_pre = c.requires in
-    ((row_place c.before.before).1, at_pre.0.area.size.height)
+    ((row_place c.before.before.before).1, c.requires.ready_ellipse.area.size.height)
 
 pub scan_inside-requires : goal.scan_inside-requires
 scan_inside-requires c =
-    let entry = c.before.before.before.before.before.before.before.before.before.before.before in
-    let wide = first_row_wide _ _ (rows_there c.before.before) in
+    let wide = first_row_wide _ _ (rows_there c.before.before.before) in
     let tall = c.requires.ready_ellipse.area.size.height in record { small_weights = c.requires.ready_ellipse.stroke_weights; width_nonzero = (wide, c.requires.ready_ellipse.area.size.width, omega arith); from_bound = (omega arith, c.requires.ready_ellipse.area.size.width) }
 
 pub returns-in_default-scan_inside : goal.returns-in_default-scan_inside
 returns-in_default-scan_inside c =
     let entry = asked c.before in
     styled_none entry.args.self.area entry.args.self.sides entry.args.y _
-    (row_place c.before.before.before.before.before.before.before) (rows_there c.before.before.before.before.before)
+    (row_place c.before.before.before.before.before.before) (rows_there c.before.before.before.before)
     (stroke_start c.before ∙ c.in_default-scan_inside.is)
 
 pub runs_at-found-requires : goal.runs_at-found-requires
@@ -98,8 +94,6 @@ runs_at-found-requires c =
 pub returns : goal.returns
 returns c =
     let at_gap = c.gap-distance in
-    let back_10 = c.before.before.before.before.before.before.before.before in
-    let back_12 = c.before.before.before.before.before.before.before.before.before.before in
     let entry = asked c.before.before.before.before.before in
     let w = entry.args.self.area.size.width in
     let s = c.in-At-scan_inside.s in
@@ -107,5 +101,5 @@ returns c =
     (c.runs_at-found.ensures
     ∙ (λ i. runs_from (to_z-of_z entry.pre.0.area.at.x.fits i) w s
     (find_from (column_inside (entry.pre.0.fill i) w (c.gap-distance.ensures.0 i)) (w - 2 * s) s)))
-    ∙ styled_found entry.args.self.area entry.args.self.sides entry.args.y _ (row_place back_12) (rows_there back_10) s
+    ∙ styled_found entry.args.self.area entry.args.self.sides entry.args.y _ (row_place c.before.before.before.before.before.before.before.before.before.before) (rows_there c.before.before.before.before.before.before.before.before) s
     (stroke_start c.before.before.before.before.before ∙ c.in-At-scan_inside.is)

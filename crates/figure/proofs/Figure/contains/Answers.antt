@@ -27,25 +27,22 @@ checked c = c.or_else-checked.ensures ∙ ap₂ or_else c.check.ensures c.check_
 
 -- refused
 pub returns-in_default : goal.returns-in_default
-returns-in_default c = rw (sym (checked c.before.before.before) ∙ c.in_default.is)
+returns-in_default c = rw (sym (checked c.before.before) ∙ c.in_default.is)
     (refused_early refused c.refusal.ensures c.in_default.is)
 
 pub shape-requires : goal.shape-requires
 shape-requires c =
-    let entry = c.before.before.before.before in
     let f = c.args.self in
     own_figure_bounded f (figure_passed f
-    (passed_first (figure_check f) (point_check c.args.point) (sym (checked c.before.before) ∙ c.in-Passed.is)))
+    (passed_first (figure_check f) (point_check c.args.point) (sym (checked c.before) ∙ c.in-Passed.is)))
 
 pub contains-requires : goal.contains-requires
-contains-requires c =
-    let entry = c.before.before.before.before.before in record { bounded_shape = c.shape.ensures.1; point_near = point_wider (omega arith)
+contains-requires c = record { bounded_shape = c.shape.ensures.1; point_near = point_wider (omega arith)
           (point_passed c.args.point (passed_next (figure_check c.args.self) _
-          (sym (checked c.before.before.before) ∙ c.in-Passed.is))) }
+          (sym (checked c.before.before) ∙ c.in-Passed.is))) }
 
 pub returns : goal.returns
 returns c =
-    let entry = c.before.before.before.before.before.before in
-    rw (sym (checked c.before.before.before.before) ∙ c.in-Passed.is)
+    rw (sym (checked c.before.before.before) ∙ c.in-Passed.is)
     (ap (λ (b : Bool). answered (flag b ∷ []))
     (c.contains.ensures ∙ ap (λ (s : Shape). contains_shape s c.args.point) c.shape.ensures.0))

@@ -10,7 +10,6 @@ use Rattle.figure.proofs.Figure.ellipse_with_center.Goals as goal
 -- refused
 pub returns-in_default : goal.returns-in_default
 returns-in_default c =
-    let made = c.before.before in
     let a = c.args in
     let told = c.in_default.is in
     let own = sym (ap rectangle_outcome c.in_default.is) ∙ c.with_center-made.ensures in
@@ -19,7 +18,6 @@ returns-in_default c =
 
 pub returns : goal.returns
 returns c =
-    let made = c.before in
     let a = c.args in
     let own = sym (ap rectangle_outcome c.in-Answered.is) ∙ c.with_center-made.ensures in
     ellipse_outcome_answered (center_answer a.center a.size) (with_center a.center a.size) _ own

@@ -30,19 +30,17 @@ checked c =
 
 -- refused
 pub returns-in_default : goal.returns-in_default
-returns-in_default c = rw (sym (checked c.before.before.before) ∙ c.in_default.is)
+returns-in_default c = rw (sym (checked c.before.before) ∙ c.in_default.is)
     (refused_early refused c.refusal.ensures c.in_default.is)
 
 pub offset_by-requires : goal.offset_by-requires
 offset_by-requires c =
-    let entry = c.before.before.before.before in
-    let told = sym (checked c.before.before) ∙ c.in-Passed.is in
+    let told = sym (checked c.before) ∙ c.in-Passed.is in
     let near = offset_passed c.args.k (passed_next (figure_check c.args.self) _ told) in record { own_figure = figure_passed c.args.self (passed_first (figure_check c.args.self) (offset_check c.args.k) told); near = omega
           (arith, int) }
 
 pub returns : goal.returns
 returns c =
-    let entry = c.before.before.before.before.before in
-    rw (sym (checked c.before.before.before) ∙ c.in-Passed.is)
+    rw (sym (checked c.before.before) ∙ c.in-Passed.is)
     (ap (λ (f : Figure). answered (figure_values f))
     (c.offset_by.ensures.0 ∙ ap (figure_offset c.args.self) (to_z-of_z c.ranges.k)))

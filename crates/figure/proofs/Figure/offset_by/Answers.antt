@@ -15,24 +15,20 @@ use Rattle.figure.proofs.Figure.offset_by.Goals as goal
 
 pub offset-requires : goal.offset-requires
 offset-requires c =
-    let entry = c.before in
     let near = c.requires.near in record { bounded = area_bounded _ (own_area _ (subst OwnFigure c.in-Ellipse.is c.requires.own_figure)); near = omega (arith, int) }
 
 pub offset_box-requires : goal.offset_box-requires
 offset_box-requires c =
-    let entry = c.before in
     let near = c.requires.near in record { own_box = subst OwnFigure c.in-CrateBox.is c.requires.own_figure; near = omega (arith, int) }
 
 pub offset_w3c_box-requires : goal.offset_w3c_box-requires
 offset_w3c_box-requires c =
-    let entry = c.before in
     let near = c.requires.near in record { own_box = subst OwnFigure c.in-W3cBox.is c.requires.own_figure; near = omega (arith, int) }
 
 pub returns-in-Ellipse : goal.returns-in-Ellipse
 returns-in-Ellipse c =
-    let entry = c.before.before in
     let r = c.in-Ellipse.rectangle in
-    let is = c.offset.ensures ∙ ap (rectangle_offset r) (to_z-of_z c.ranges.k) in (
+    let is = c.offset.ensures ∙ ap (rectangle_offset c.in-Ellipse.rectangle) (to_z-of_z c.ranges.k) in (
       rw c.in-Ellipse.is (ap Ellipse is),
       subst AreaRectangle (sym is) (offset_area c.in-Ellipse.rectangle c.args.k (subst OwnFigure c.in-Ellipse.is c.requires.own_figure)
           c.requires.near),
@@ -40,9 +36,8 @@ returns-in-Ellipse c =
 
 pub returns-in-CrateBox : goal.returns-in-CrateBox
 returns-in-CrateBox c =
-    let entry = c.before.before in
     let b = c.in-CrateBox.b in
-    let is = c.offset_box.ensures ∙ ap (offset_box b) (to_z-of_z c.ranges.k) in (
+    let is = c.offset_box.ensures ∙ ap (offset_box c.in-CrateBox.b) (to_z-of_z c.ranges.k) in (
       rw c.in-CrateBox.is (ap CrateBox is),
       subst AreaBox (sym is) (offset_box_bounded c.in-CrateBox.b c.args.k (subst OwnFigure c.in-CrateBox.is c.requires.own_figure)
           c.requires.near),
@@ -50,10 +45,9 @@ returns-in-CrateBox c =
 
 pub returns-in-W3cBox : goal.returns-in-W3cBox
 returns-in-W3cBox c =
-    let entry = c.before.before.before in
     let b = c.in-W3cBox.b in
     let made = c.offset_w3c_box.ensures in
-    let is = c.offset_w3c_box.ensures.0 ∙ ap (offset_w3c_box b) (to_z-of_z c.ranges.k) in (
+    let is = c.offset_w3c_box.ensures.0 ∙ ap (offset_w3c_box c.in-W3cBox.b) (to_z-of_z c.ranges.k) in (
       rw c.in-W3cBox.is (ap W3cBox (c.plain.ensures ∙ ap (λ (q : ConfinedBox). plain_box q) is)),
       subst AreaBox (sym c.plain.ensures) c.offset_w3c_box.ensures.1,
     )

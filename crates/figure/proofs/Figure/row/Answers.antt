@@ -34,39 +34,32 @@ checked c =
 
 -- refused
 pub returns-in_default : goal.returns-in_default
-returns-in_default c = rw (sym (checked c.before.before.before) ∙ c.in_default.is)
+returns-in_default c = rw (sym (checked c.before.before) ∙ c.in_default.is)
     (refused_early refused c.refusal.ensures c.in_default.is)
 
 pub shape-requires : goal.shape-requires
 shape-requires c =
-    let entry = c.before.before.before.before in
     let f = c.args.self in
     own_figure_bounded f (figure_passed f
-    (passed_first (figure_check f) (asked_check c.args.y) (sym (checked c.before.before) ∙ c.in-Passed.is)))
+    (passed_first (figure_check f) (asked_check c.args.y) (sym (checked c.before) ∙ c.in-Passed.is)))
 
 pub row-requires : goal.row-requires
 row-requires c =
-    let entry = c.before.before.before.before.before in
     let near = asked_passed c.args.y
-    (passed_next (figure_check c.args.self) _ (sym (checked c.before.before.before) ∙ c.in-Passed.is)) in record { bounded_shape = c.shape.ensures.1; near = omega (arith, int) }
+    (passed_next (figure_check c.args.self) _ (sym (checked c.before.before) ∙ c.in-Passed.is)) in record { bounded_shape = c.shape.ensures.1; near = omega (arith, int) }
 
 -- the run found is the shape's
 run_is : (c : After-row) → c.row.result ≡ row c.args.self c.args.y
 run_is c =
-    let entry = c.before.before.before.before.before.before in
     c.row.ensures.0 ∙ (λ i. row_of_shape (c.shape.ensures.0 i) (to_z-of_z c.ranges.y i))
 
 -- no row
 pub returns-in_default-row : goal.returns-in_default-row
 returns-in_default-row c =
-    let found = c.before in
-    let entry = c.before.before.before.before.before.before.before in
-    rw (sym (checked found.before.before.before.before) ∙ c.in-Passed.is)
+    rw (sym (checked c.before.before.before.before) ∙ c.in-Passed.is)
     (ap (λ (r : Row). answered (row_values c.args.y r)) (sym c.in_default-row.is ∙ run_is c.before))
 
 pub returns : goal.returns
 returns c =
-    let found = c.before in
-    let entry = c.before.before.before.before.before.before.before in
-    rw (sym (checked found.before.before.before.before) ∙ c.in-Passed.is)
+    rw (sym (checked c.before.before.before.before) ∙ c.in-Passed.is)
     (ap₂ (λ (z : ℤ) (r : Row). answered (row_values z r)) (to_z-of_z c.ranges.y) (sym c.in-Run.is ∙ run_is c.before))

@@ -10,7 +10,6 @@ use Rattle.geometry_range.proofs.Range.contains.Goals as goal
 
 pub returns-then-self-v : goal.returns-then-self-v
 returns-then-self-v c =
-    let entry = c.before.before.before.before.before in
     let start_fits : SFits w32 c.args.self.start = search rules in
     let end_fits : SFits w32 c.args.self.end = search rules in
     let from_start : le_z c.args.self.start c.args.v ≡ true = omega (arith, int) in
@@ -18,7 +17,6 @@ returns-then-self-v c =
 
 pub returns-else-self-v : goal.returns-else-self-v
 returns-else-self-v c =
-    let entry = c.before.before.before in
     let start_fits : SFits w32 c.args.self.start = search rules in
     let before_start : le_z c.args.self.start c.args.v ≡ false = omega (arith, int) in
     rw before_start c.if-self-v.false

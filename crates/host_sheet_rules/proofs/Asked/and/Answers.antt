@@ -25,7 +25,6 @@ returns-then-layer-i c =
 
 pub returns-then-i-layer : goal.returns-then-i-layer
 returns-then-i-layer c =
-    let entry = c.before.before.before.before in
     let a = c.args in
     let earlier = c.if-i-layer.true in
     let y_fits : SFits w32 a.y = fits c.before.before.before.before in
@@ -38,13 +37,12 @@ returns-then-i-layer c =
 
 pub returns : goal.returns
 returns c =
-    let entry = c.before.before.before.before.before in
     let a = c.args in
     let not_later = c.if-layer-i.false in
     let not_earlier = c.if-i-layer.false in
     rw (eq-eqb a.i a.layer (omega arith), le-ltb a.i a.layer c.if-i-layer.false)
     (asked_by_fields
-    (ap (λ (t : Bool). t || a.self.left) (ap₂ lt_z (to_z-of_z (next_fits entry)) (to_z-of_z (end_fits entry)))) refl)
+    (ap (λ (t : Bool). t || a.self.left) (ap₂ lt_z (to_z-of_z (next_fits c.before.before.before.before.before)) (to_z-of_z (end_fits c.before.before.before.before.before)))) refl)
   where
     next_fits : (e : tie.Start) → SFits w32 e.args.rows.next
     next_fits e = search rules

@@ -29,16 +29,14 @@ end_fits c = search rules
 pub returns-then-rows : goal.returns-then-rows
 unfolding also_painted
 returns-then-rows c =
-    let entry = c.before.before.before in
-    rw (le_held (rows_fit entry).next (rows_fit entry).first c.if-rows.true)
+    rw (le_held (rows_fit c.before.before.before).next (rows_fit c.before.before.before).first c.if-rows.true)
 
 pub returns : goal.returns
 unfolding also_painted
 returns c =
-    let entry = c.before.before.before.before.before.before.before.before.before in
     let low = c.smaller.ensures in
     let high = c.larger.ensures in
-    let first = to_z-of_z c.smaller.ensures.fits ∙ c.smaller.ensures.is ∙ ap₂ smaller (to_z-of_z (first_fits entry)) (to_z-of_z (rows_fit entry).first) in
-    let end = to_z-of_z c.larger.ensures.fits ∙ c.larger.ensures.is ∙ ap₂ larger (to_z-of_z (end_fits entry)) (to_z-of_z (rows_fit entry).next) in
-    rw (le_held (rows_fit entry).next (rows_fit entry).first c.if-rows.false)
+    let first = to_z-of_z c.smaller.ensures.fits ∙ c.smaller.ensures.is ∙ ap₂ smaller (to_z-of_z (first_fits c.before.before.before.before.before.before.before.before.before)) (to_z-of_z (rows_fit c.before.before.before.before.before.before.before.before.before).first) in
+    let end = to_z-of_z c.larger.ensures.fits ∙ c.larger.ensures.is ∙ ap₂ larger (to_z-of_z (end_fits c.before.before.before.before.before.before.before.before.before)) (to_z-of_z (rows_fit c.before.before.before.before.before.before.before.before.before).next) in
+    rw (le_held (rows_fit c.before.before.before.before.before.before.before.before.before).next (rows_fit c.before.before.before.before.before.before.before.before.before).first c.if-rows.false)
     (λ i. record { first = first i; end = end i })

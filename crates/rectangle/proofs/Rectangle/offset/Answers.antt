@@ -31,18 +31,16 @@ checked c =
 
 -- refused
 pub returns-in_default : goal.returns-in_default
-returns-in_default c = rw (sym (checked c.before.before.before) ∙ c.in_default.is)
+returns-in_default c = rw (sym (checked c.before.before) ∙ c.in_default.is)
     (refused_early refused c.refusal.ensures c.in_default.is)
 
 pub offset-requires : goal.offset-requires
 offset-requires c =
-    let entry = c.before.before.before.before in
-    let told = sym (checked c.before.before) ∙ c.in-Passed.is in
+    let told = sym (checked c.before) ∙ c.in-Passed.is in
     let near = offset_passed c.args.k (passed_next (rectangle_check c.args.self) _ told) in record { bounded = rectangle_bounded c.args.self (passed_first _ _ told); near = omega (arith, int) }
 
 pub returns : goal.returns
 returns c =
-    let entry = c.before.before.before.before.before in
-    rw (sym (checked c.before.before.before) ∙ c.in-Passed.is)
+    rw (sym (checked c.before.before) ∙ c.in-Passed.is)
     (ap (λ (r : Rectangle). answered (rectangle_values r))
     (c.offset.ensures ∙ ap (offset_rectangle c.args.self) (to_z-of_z c.ranges.k)))

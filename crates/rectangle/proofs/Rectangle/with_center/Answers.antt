@@ -26,21 +26,18 @@ checked c = c.or_else-checked.ensures ∙ ap₂ or_else c.check_size.ensures c.c
 -- refused
 pub returns-in_default : goal.returns-in_default
 returns-in_default c =
-    let entry = c.before.before.before.before.before in
     rw (with_center_refused c.args.center c.args.size _
-    (sym (checked c.before.before.before) ∙ c.in_default.is))
+    (sym (checked c.before.before) ∙ c.in_default.is))
     (refused_early refused c.refusal.ensures c.in_default.is)
 
 pub with_center-requires : goal.with_center-requires
 with_center-requires c =
-    let entry = c.before.before.before.before in
-    let told = sym (checked c.before.before) ∙ c.in-Passed.is in
+    let told = sym (checked c.before) ∙ c.in-Passed.is in
     let small = size_passed c.args.size (passed_first _ _ told) in record { point_near = center_passed c.args.center (passed_next (size_check c.args.size) _ told); size_up_to = record { width = let h = small.width in omega arith; height = let h = small.height in omega arith } }
 
 pub returns : goal.returns
 returns c =
-    let entry = c.before.before.before.before.before.before in
-    let told = sym (checked c.before.before.before.before) ∙ c.in-Passed.is in
+    let told = sym (checked c.before.before.before) ∙ c.in-Passed.is in
     rw (passed_first (size_check c.args.size) _ told)
     (c.within_limits.ensures
     ∙ ap (λ (r : Rectangle). unless (position_check r.top_left) (rectangle_values r)) c.with_center.ensures)

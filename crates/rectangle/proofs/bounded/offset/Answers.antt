@@ -12,7 +12,6 @@ use Rattle.rectangle.proofs.bounded.offset.Goals as goal
 
 pub with_center-requires : goal.with_center-requires
 with_center-requires c =
-    let entry = c.before.before.before.before in
     let r = c.args.rectangle in
     let near = c.requires.near in
     let grown = offset_size_up_to wide_side wide_side r.size c.args.k c.requires.bounded.size near in
@@ -26,7 +25,6 @@ with_center-requires c =
 pub returns : goal.returns
 unfolding offset
 returns c =
-    let entry = c.before.before.before.before.before in
     let k_back = to_z-of_z c.ranges.k in
     c.with_center.ensures
     ∙ ap₂ with_center c.center.ensures

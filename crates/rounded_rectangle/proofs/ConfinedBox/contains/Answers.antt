@@ -25,8 +25,6 @@ column_place : (c : goal.After-corners-1) →
     c.args.point.x (At c.in-At.dx)
 column_place c =
     let at_place_of = c.place_of in
-    let half_entry = c.before.before.before.before.before in
-    let entry = c.before.before.before.before.before.before.before.before.before.before.before.before in
     placed_told _ _ _ c.requires.bounded_box.at.x.fits c.requires.point_near.x.fits c.place_of.ensures c.in-At.is
 
 row_place : (c : goal.After-corners-1) →
@@ -34,29 +32,23 @@ row_place : (c : goal.After-corners-1) →
     c.args.point.y (At c.in-At-place_of.dy)
 row_place c =
     let at_place_of2 = c.place_of-2 in
-    let half_entry = c.before.before.before.before.before in
-    let entry = c.before.before.before.before.before.before.before.before.before.before.before.before in
     placed_told _ _ _ c.requires.bounded_box.at.y.fits c.requires.point_near.y.fits c.place_of-2.ensures c.in-At-place_of.is
 
 pub place_of-requires : goal.place_of-requires
 place_of-requires c =
-    let entry = c.before.before.before.before.before.before in
     let wide = c.requires.bounded_box.size.width in record { near = omega (arith, int); n_le_wide_side = omega arith; near_2 = omega (arith, int) }
 
 pub returns-in_default : goal.returns-in_default
 returns-in_default c =
-    let entry = c.before.before.before.before.before.before.before in
     contains_no_column _ _ _ (placed_told _ _ _ c.requires.bounded_box.at.x.fits c.requires.point_near.x.fits c.place_of.ensures
     c.in_default.is)
 
 pub place_of-requires-2 : goal.place_of-requires-2
 place_of-requires-2 c =
-    let entry = c.before.before.before.before.before.before.before.before.before.before in
     let tall = c.requires.bounded_box.size.height in record { near = omega (arith, int); n_le_wide_side = omega arith; near_2 = omega (arith, int) }
 
 pub returns-in_default-place_of : goal.returns-in_default-place_of
 returns-in_default-place_of c =
-    let entry = c.before.before.before.before.before.before.before.before.before.before.before in
     contains_no_row _ _ _ (placed_told _ _ _ c.requires.bounded_box.at.y.fits c.requires.point_near.y.fits c.place_of-2.ensures
     c.in_default-place_of.is)
 
@@ -65,9 +57,9 @@ contains-requires c =
     let column = column_place c.before in
     let row = row_place c.before in
     let is = c.new.ensures.0 in record { ready_box = c.new.ensures.2; dx_lt_width = (
-        subst (λ (s : Size). c.in-At.dx < s.width) (sym is) column.1,
+        subst (λ (s : Size). c.in-At.dx < s.width) (sym c.new.ensures.0) column.1,
         subst
-            (λ (s : Size). c.in-At-place_of.dy < s.height) (sym is) row.1,
+            (λ (s : Size). c.in-At-place_of.dy < s.height) (sym c.new.ensures.0) row.1,
       ) }
 
 pub returns : goal.returns

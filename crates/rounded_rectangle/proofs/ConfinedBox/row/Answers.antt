@@ -30,7 +30,6 @@ row_place : (c : After-corners-1) →
     c.args.y (At c.in-At.dy)
 row_place c =
     let at_place_of = c.place_of in
-    let entry = c.before.before.before.before.before.before.before in
     placed_told _ _ _ c.requires.bounded_box.at.y.fits c.requires.near.fits c.place_of.ensures c.in-At.is
 
 pub place_of-requires : goal.place_of-requires
@@ -38,18 +37,17 @@ place_of-requires c = omega (arith, int)
 
 pub returns-in_default : goal.returns-in_default
 returns-in_default c =
-    let entry = c.before.before.before.before.before.before in (
+    (
       row_out _ _ (placed_told _ _ _ c.requires.bounded_box.at.y.fits c.requires.near.fits c.place_of.ensures
           c.in_default.is),
       tt,
     )
 
 pub insets-insets-requires : goal.insets-insets-requires
-insets-insets-requires c = record { ready_box = c.new.ensures.2; dy_lt_height = subst (λ (s : Size). c.in-At.dy < s.height) (sym c.new.ensures.0) (row_place c.before).1 }
+insets-insets-requires c = record { ready_box = c.new.ensures.2; dy_lt_height = subst (λ (s : Size). c.in-At.dy < s.height) (sym c.new.ensures.0) (row_place c.before.before).1 }
 
 pub run_between-requires : goal.run_between-requires
 run_between-requires c =
-    let entry = c.before.before.before.before.before.before.before.before.before.before.before in
     let near = c.requires.bounded_box.at.x in
     let wide = c.requires.bounded_box.size.width in
     let is = c.new.ensures.0 in record { near = rw (to_z-of_z near.fits) near; width_le_wide_side = omega arith; left_le_width = (
@@ -61,7 +59,6 @@ run_between-requires c =
 pub returns : goal.returns
 returns c =
     let at_new = c.new in
-    let entry = c.before.before.before.before.before.before.before.before.before.before.before in
     let b = c.args.self in
     let run =
     c.run_between.ensures

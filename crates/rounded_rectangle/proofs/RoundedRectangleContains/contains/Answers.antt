@@ -14,7 +14,7 @@ returns-then-in_quadrant c =
 
 pub contains-requires-then-in_quadrant-2 : goal.contains-requires-then-in_quadrant-2
 contains-requires-then-in_quadrant-2 c =
-    let at_pre = c.requires in record { ready = at_pre.0.top_right; e_value = sym c.in_quadrant-2.ensures ∙ c.if-in_quadrant-2.true }
+    let at_pre = c.requires in record { ready = c.requires.ready_box.top_right; e_value = sym c.in_quadrant-2.ensures ∙ c.if-in_quadrant-2.true }
 
 pub returns-then-in_quadrant-2 : goal.returns-then-in_quadrant-2
 returns-then-in_quadrant-2 c =
@@ -26,7 +26,7 @@ returns-then-in_quadrant-2 c =
 
 pub contains-requires-then-in_quadrant-3 : goal.contains-requires-then-in_quadrant-3
 contains-requires-then-in_quadrant-3 c =
-    let at_pre = c.requires in record { ready = at_pre.0.bottom_left; e_value = sym c.in_quadrant-3.ensures ∙ c.if-in_quadrant-3.true }
+    let at_pre = c.requires in record { ready = c.requires.ready_box.bottom_left; e_value = sym c.in_quadrant-3.ensures ∙ c.if-in_quadrant-3.true }
 
 pub returns-then-in_quadrant-3 : goal.returns-then-in_quadrant-3
 returns-then-in_quadrant-3 c =
@@ -39,8 +39,7 @@ returns-then-in_quadrant-3 c =
 
 pub contains-requires-then-in_quadrant-4 : goal.contains-requires-then-in_quadrant-4
 contains-requires-then-in_quadrant-4 c =
-    let early = c.before.before.before.before.before.before.before.before in
-    let at_pre = c.requires in record { ready = at_pre.0.bottom_right; e_value = sym c.in_quadrant-4.ensures ∙ c.if-in_quadrant-4.true }
+    let at_pre = c.requires in record { ready = c.requires.ready_box.bottom_right; e_value = sym c.in_quadrant-4.ensures ∙ c.if-in_quadrant-4.true }
 
 pub returns-then-in_quadrant-4 : goal.returns-then-in_quadrant-4
 returns-then-in_quadrant-4 c =

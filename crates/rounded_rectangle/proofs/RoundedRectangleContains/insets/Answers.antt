@@ -5,12 +5,10 @@ use Rattle.rounded_rectangle.proofs.RoundedRectangleContains.insets.Goals as goa
 
 pub side_inset-requires : goal.side_inset-requires
 side_inset-requires c =
-    let entry = c.before.before.before.before.before in
     let wide = c.requires.ready_box.size.width in record { ready = c.requires.ready_box.top_left; ready_2 = c.requires.ready_box.bottom_left; dy_lt_h = (c.requires.dy_lt_height, omega arith) }
 
 pub side_inset-requires-2 : goal.side_inset-requires-2
 side_inset-requires-2 c =
-    let entry = c.before.before.before.before.before.before in
     let wide = c.requires.ready_box.size.width in record { ready = c.requires.ready_box.top_right; ready_2 = c.requires.ready_box.bottom_right; dy_lt_h = (c.requires.dy_lt_height, omega arith) }
 
 pub returns : goal.returns

@@ -9,7 +9,7 @@ contains-requires c = record { bounded = area_bounded _ (subst BoundedShape c.in
 
 pub contains-requires-in-RoundedBox : goal.contains-requires-in-RoundedBox
 contains-requires-in-RoundedBox c =
-    let at_pre = c.requires in record { bounded_box = area_box_bounded _ (subst BoundedShape c.in-RoundedBox.is at_pre.0); point_near = at_pre.1 }
+    let at_pre = c.requires in record { bounded_box = area_box_bounded _ (subst BoundedShape c.in-RoundedBox.is c.requires.bounded_shape); point_near = c.requires.point_near }
 
 pub returns-in-Ellipse : goal.returns-in-Ellipse
 returns-in-Ellipse c = rw c.in-Ellipse.is c.contains.ensures

@@ -15,18 +15,15 @@ use Rattle.shape.proofs.box_rules.offset_box.Goals as goal
 
 pub offset-requires : goal.offset-requires
 offset-requires c =
-    let entry = c.before.before in
     let near = c.requires.near in record { bounded = area_bounded _ (own_area _ c.requires.own_box.rectangle); near = omega (arith, int) }
 
 pub offset-requires-2 : goal.offset-requires-2
 offset-requires-2 c =
-    let entry = c.before.before.before in
     let near = c.requires.near in record { radii_up_to = radii_up_to_wider wide_own_side wide_radius _ (omega arith) c.requires.own_box.corners; near = omega (arith, int) }
 
 pub returns : goal.returns
 unfolding offset_box
 returns c =
-    let entry = c.before.before.before.before in
     let b = c.args.b in
     let k_back = to_z-of_z c.ranges.k in
     box_by_fields (c.offset.ensures ∙ ap (rectangle_offset b.rectangle) k_back)

@@ -34,17 +34,11 @@ once_own c = subst OwnBox (sym (once_is c)) (confined_w3c_own _ c.requires.own_b
 
 pub offset-requires : goal.offset-requires
 offset-requires c =
-    let once = c.before.before in
-    let near = c.requires.near in record { bounded = area_bounded _ (own_area _ (once_own once).rectangle); near = omega (arith, int) }
+    let near = c.requires.near in record { bounded = area_bounded _ (own_area _ (once_own c.before.before).rectangle); near = omega (arith, int) }
 
 pub spread-requires : goal.spread-requires
 spread-requires c =
-    let once = c.before.before.before in
-    let near = c.requires.near in record { radii_up_to = radii_up_to_wider wide_own_side wide_radius _ (omega arith) (once_own once).corners; near = omega (arith, int) }
-
--- the box offset in between, by the definition
-abbrev once : goal.After-spread → After-plain-once
-once c = c.before.before.before.before
+    let near = c.requires.near in record { radii_up_to = radii_up_to_wider wide_own_side wide_radius _ (omega arith) (once_own c.before.before.before).corners; near = omega (arith, int) }
 
 abbrev spread_box_lem : goal.After-spread → RoundedRectangle
 spread_box_lem c = record { rectangle = c.offset.result; corners = c.spread.result }

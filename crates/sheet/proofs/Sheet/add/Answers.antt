@@ -66,9 +66,8 @@ room c =
 -- refused
 pub returns-in_default : goal.returns-in_default
 returns-in_default c =
-    let start = c.before.before.before.before.before.before in
     let told = c.in_default.is in
-    let says = checked c.before.before ∙ c.in_default.is in record { answer_value = ap Refused (refusal_found c.refusal.ensures c.in_default.is) ∙ sym says; sheet_value = sym (refused_record c.args.self (sixteen start) [] (call_add (item start)) _ says) }
+    let says = checked c.before.before ∙ c.in_default.is in record { answer_value = ap Refused (refusal_found c.refusal.ensures c.in_default.is) ∙ sym says; sheet_value = sym (refused_record c.args.self (sixteen c.before.before.before.before.before.before) [] (call_add (item c.before.before.before.before.before.before)) _ says) }
 
 pub stroke_rows-area-requires : goal.stroke_rows-area-requires
 stroke_rows-area-requires c = record { own_figure = checked_figure _ _ (figure_passed c); stroke_width_bound = checked_stroke _ _ (figure_passed c) }
@@ -82,9 +81,8 @@ overflow_add-sheet c = let free = room c.before.before.before.before in record {
 pub returns : goal.returns
 unfolding carried_out_sheet
 returns c =
-    let told = c.before.before.before.before in
     let a = c.args in
     let area = c.stroke_rows-area.ensures in
-    let first = to_z-of_z c.stroke_rows-area.ensures.near.0.fits ∙ ap (λ (r : StrokeRows). r.first) c.stroke_rows-area.ensures.value in record { answer_value = sym (passed told); sheet_value = ap (λ (z : ℤ). with_layer a.self (a.self.count + 1) a.self.count
+    let first = to_z-of_z c.stroke_rows-area.ensures.near.0.fits ∙ ap (λ (r : StrokeRows). r.first) c.stroke_rows-area.ensures.value in record { answer_value = sym (passed c.before.before.before.before); sheet_value = ap (λ (z : ℤ). with_layer a.self (a.self.count + 1) a.self.count
           (record { figure = a.figure; style = a.style; next_row = z })) first
-          ∙ sym (added_record a.self (sixteen c.before.before.before.before.before.before.before.before.before) [] (item c.before.before.before.before.before.before.before.before.before) (passed told)) }
+          ∙ sym (added_record a.self (sixteen c.before.before.before.before.before.before.before.before.before) [] (item c.before.before.before.before.before.before.before.before.before) (passed c.before.before.before.before)) }

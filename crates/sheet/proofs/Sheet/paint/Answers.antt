@@ -56,7 +56,7 @@ abbrev layer : In-Row → Layer
 layer c = get_or (sheet c).layers c.args.layer blank_layer
 
 passed : (c : In-Row) → sheet_answer (sheet c) c.args.canvas.now (call_paint c.args.layer) ≡ Passed
-passed c = sym (checked c.before.before) ∙ ap asked_answer c.in-Row.is
+passed c = sym (checked c.before) ∙ ap asked_answer c.in-Row.is
 
 told : (c : In-Row) → PaintAccepted (sheet c).width (sheet c).height (sheet c).count (sheet c).layers (sixteen c.before.before.before.before)
     c.args.layer c.args.canvas.now
@@ -98,25 +98,22 @@ row_held c = to_z-of_z (subst (SFits w32) (sym (row_is c)) (within c).next.range
 -- refused
 pub returns-in_default : goal.returns-in_default
 returns-in_default c =
-    let start = c.before.before.before.before.before.before in
     let a = c.args in
     let call = call_paint a.layer in
     let told = c.in_default.is in
-    let says = sym (checked c.before.before.before) ∙ ap asked_answer c.in_default.is in record { answer_value = ap Refused (c.refusal.ensures ∙ ap asked_refusal c.in_default.is) ∙ sym says; sheet_value = sym (refused_record a.self (sixteen start) a.canvas.now call _ says); canvas_after = sym (refused_canvas a.self (sixteen start) a.canvas.now call _ says) }
+    let says = sym (checked c.before.before.before) ∙ ap asked_answer c.in_default.is in record { answer_value = ap Refused (c.refusal.ensures ∙ ap asked_refusal c.in_default.is) ∙ sym says; sheet_value = sym (refused_record a.self (sixteen c.before.before.before.before.before.before) a.canvas.now call _ says); canvas_after = sym (refused_canvas a.self (sixteen c.before.before.before.before.before.before) a.canvas.now call _ says) }
 
 pub bounds-places-place : goal.bounds-places-place
 bounds-places-place c = has_place c.before
 
 pub paint_row-requires : goal.paint_row-requires
 paint_row-requires c =
-    let at = c.before.before.before in
-    let next = (within at).next in record { canvas_len = (told at).size; width_le_wide_side = narrow c.before.before.before; own_figure = (within at).figure; stroke_width_bound = (within at).stroke; near = rw (row_held at) next }
+    let next = (within c.before.before.before).next in record { canvas_len = (told c.before.before.before).size; width_le_wide_side = narrow c.before.before.before; own_figure = (within c.before.before.before).figure; stroke_width_bound = (within c.before.before.before).stroke; near = rw (row_held c.before.before.before) next }
 
 pub add-requires : goal.add-requires
 add-requires c =
-    let at = c.before.before.before.before.before.before.before in
-    let next = (within at).next in
-    rw (row_held at) (omega (arith, int))
+    let next = (within c.before.before.before.before.before.before.before).next in
+    rw (row_held c.before.before.before.before.before.before.before) (omega (arith, int))
 
 pub bounds-sheet-place : goal.bounds-sheet-place
 bounds-sheet-place c = has_place c.before.before.before.before.before.before.before.before
@@ -124,8 +121,7 @@ bounds-sheet-place c = has_place c.before.before.before.before.before.before.bef
 pub returns : goal.returns
 unfolding carried_out_sheet
 returns c =
-    let at = c.before.before.before.before.before.before.before.before in
     let a = c.args in
     let next = row_held c.before.before.before.before.before.before.before.before in
-    let moved = to_z-of_z c.add.ensures.fits ∙ c.add.ensures.is ∙ ap (λ (z : ℤ). z +ℤ pos 1) next in record { answer_value = sym (passed at); sheet_value = ap (put at) moved ∙ sym (painted_record a.self (sixteen c.before.before.before.before.before.before.before.before.before.before.before.before) a.canvas.now a.layer (passed at)); canvas_after = ◌∙◌ {b = written c.before.before.before.before.before.before.before.before (to_z w32 (of_z w32 c.in-Row.row))} c.paint_row.ensures
-            (ap (written at) next ∙ sym (painted_canvas a.self (sixteen c.before.before.before.before.before.before.before.before.before.before.before.before) a.canvas.now a.layer (passed at))) }
+    let moved = to_z-of_z c.add.ensures.fits ∙ c.add.ensures.is ∙ ap (λ (z : ℤ). z +ℤ pos 1) next in record { answer_value = sym (passed c.before.before.before.before.before.before.before.before); sheet_value = ap (put c.before.before.before.before.before.before.before.before) moved ∙ sym (painted_record a.self (sixteen c.before.before.before.before.before.before.before.before.before.before.before.before) a.canvas.now a.layer (passed c.before.before.before.before.before.before.before.before)); canvas_after = ◌∙◌ {b = written c.before.before.before.before.before.before.before.before (to_z w32 (of_z w32 c.in-Row.row))} c.paint_row.ensures
+            (ap (written c.before.before.before.before.before.before.before.before) next ∙ sym (painted_canvas a.self (sixteen c.before.before.before.before.before.before.before.before.before.before.before.before) a.canvas.now a.layer (passed c.before.before.before.before.before.before.before.before))) }

@@ -93,15 +93,13 @@ ready c =
 -- refused
 pub returns-in_default : goal.returns-in_default
 returns-in_default c =
-    let start = c.before.before.before.before.before.before.before.before in
     let a = c.args in
     let call = call_remove a.layer a.background.now in
     let found = c.in_default.is in
-    let says = sym (checked c.before.before.before) ∙ c.in_default.is in record { answer_value = ap Refused (refusal_found c.refusal.ensures c.in_default.is) ∙ sym says; sheet_value = sym (refused_record a.self (sixteen start) a.canvas.now call _ says); canvas_after = sym (refused_canvas a.self (sixteen start) a.canvas.now call _ says); background_value = refl }
+    let says = sym (checked c.before.before.before) ∙ c.in_default.is in record { answer_value = ap Refused (refusal_found c.refusal.ensures c.in_default.is) ∙ sym says; sheet_value = sym (refused_record a.self (sixteen c.before.before.before.before.before.before.before.before) a.canvas.now call _ says); canvas_after = sym (refused_canvas a.self (sixteen c.before.before.before.before.before.before.before.before) a.canvas.now call _ says); background_value = refl }
 
 pub restore-requires : goal.restore-requires
 restore-requires c =
-    let here = c.before.before.before in
     let s = sheet c.before.before.before.before in
     let accepted = told c.before.before.before in
     let long = sixteen (entry c.before.before.before.before) in record { canvas_len = accepted.size; background_len = accepted.long; width_le_max_canvas_side = (
@@ -110,22 +108,20 @@ restore-requires c =
           ); place_lt_count = (accepted.within, few c.before.before.before, ready c.before.before.before) }
 
 pub overflow_sub-result : goal.overflow_sub-result
-overflow_sub-result c = let within = (told c.before.before.before.before.before).within in omega arith
+overflow_sub-result c = let within = (told c.before.before.before.before.before.before).within in omega arith
 
 pub without-requires : goal.without-requires
 without-requires c =
-    let here = c.before.before.before.before.before.before in
-    omega (arith, (told here).within, few c.before.before.before.before.before.before)
+    omega (arith, (told c.before.before.before.before.before.before).within, few c.before.before.before.before.before.before)
 
 pub returns : goal.returns
 unfolding carried_out_sheet
 returns c =
-    let here = c.before.before.before.before.before.before.before in
     let start = entry c.before.before.before.before.before.before.before.before in
     let a = start.args in
     let s = a.self in
-    let own = layer_of (get_or s.layers a.layer blank_layer) in record { answer_value = sym (passed here); sheet_value = ap (λ (l : List Layer). record { width = s.width; height = s.height; count = s.count - 1; layers = l }) c.without.ensures
-            ∙ sym (removed_record s (sixteen start) a.canvas.now a.layer a.background.now (passed here)); canvas_after = c.restore.ensures
+    let own = layer_of (get_or s.layers a.layer blank_layer) in record { answer_value = sym (passed c.before.before.before.before.before.before.before); sheet_value = ap (λ (l : List Layer). record { width = s.width; height = s.height; count = s.count - 1; layers = l }) c.without.ensures
+            ∙ sym (removed_record s (sixteen start) a.canvas.now a.layer a.background.now (passed c.before.before.before.before.before.before.before)); canvas_after = c.restore.ensures
               ∙ ap (λ (l : Layers drawing). restored drawing s.width s.height (some own) (without a.layer l) a.background.now
-              a.canvas.now) (sym (layers_are s.count s.layers (sixteen start) (few here)))
-              ∙ sym (removed_canvas s (sixteen start) a.canvas.now a.layer a.background.now (passed here)); background_value = refl }
+              a.canvas.now) (sym (layers_are s.count s.layers (sixteen start) (few c.before.before.before.before.before.before.before)))
+              ∙ sym (removed_canvas s (sixteen start) a.canvas.now a.layer a.background.now (passed c.before.before.before.before.before.before.before)); background_value = refl }

@@ -39,7 +39,7 @@ abbrev self : After-add-end → Layer
 self c = c.args.self
 
 next_fits : (c : After-add-end) → SFits w32 (self c).next_row
-next_fits c = let entry = c.before.before.before.before.before.before.before.before in from_entry c.before.before.before.before.before.before.before.before
+next_fits c = from_entry c.before.before.before.before.before.before.before.before
   where
     from_entry : (e : Start) → SFits w32 e.args.self.next_row
     from_entry e = search rules
@@ -87,22 +87,19 @@ add-end-requires c =
 
 pub returns-then-next-first : goal.returns-then-next-first
 returns-then-next-first c =
-    let area = c.before in
-    rw (broken_above (self area) (passed area.before.before.before.before) (by_first c.before c.if-next-first.true))
+    rw (broken_above (self c.before) (passed c.before.before.before.before.before) (by_first c.before c.if-next-first.true))
 
 pub returns-then-end-next : goal.returns-then-end-next
 returns-then-end-next c =
-    let area = c.before.before in
-    rw (broken_below (self area) (passed area.before.before.before.before) (by_first c.before.before c.if-next-first.false)
+    rw (broken_below (self c.before.before) (passed c.before.before.before.before.before.before) (by_first c.before.before c.if-next-first.false)
     (by_end c.before.before c.if-end-next.true))
 
 pub returns : goal.returns
 unfolding layer_rows
 returns c =
-    let area = c.before.before in
-    let kept = kept_among (self area) (passed area.before.before.before.before) (by_first c.before.before c.if-next-first.false)
+    let kept = kept_among (self c.before.before) (passed c.before.before.before.before.before.before) (by_first c.before.before c.if-next-first.false)
     (by_end c.before.before c.if-end-next.false) in
     rw kept
     (ap Kept
-    (rows_by_fields (to_z-of_z c.stroke_rows-area.ensures.near.0.fits ∙ first_is c.before.before) (to_z-of_z (next_fits area))
+    (rows_by_fields (to_z-of_z c.stroke_rows-area.ensures.near.0.fits ∙ first_is c.before.before) (to_z-of_z (next_fits c.before.before))
     (to_z-of_z c.add-end.ensures.fits ∙ end_is c.before.before)))

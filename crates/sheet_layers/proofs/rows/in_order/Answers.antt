@@ -26,10 +26,9 @@ step : (c : After-none_overtakes) (t : Bool) → c.none_overtakes.result ≡ t
     (drop (c.loop-i.i + 1)
     (take c.args.count c.args.rows)))
 step c t found =
-    let walk = c.before.before.before in
     let a = c.args in
     sym c.loop-i.invariant.1
-    ∙ order_here a.t1 a.count c.loop-i.i c.loop-i-test.true (enough walk.before)
+    ∙ order_here a.t1 a.count c.loop-i.i c.loop-i-test.true (enough c.before.before.before.before)
     ∙ ap (λ (t : Bool). t && rows_in_order (drop (c.loop-i.i + 1) (take a.count a.t1))) (sym c.none_overtakes.ensures ∙ found)
 
 pub loop-i-init : goal.loop-i-init
@@ -52,6 +51,5 @@ loop-i-preserved c = (omega arith, sym (step c.before true (not-false _ c.if-not
 
 pub returns : goal.returns
 returns c =
-    let walk = c.before in
     let a = c.args in
     sym (sym c.loop-i.invariant.1 ∙ order_past a.t1 a.count c.loop-i.i c.loop-i-test.false)

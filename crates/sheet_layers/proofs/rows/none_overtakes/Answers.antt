@@ -39,18 +39,16 @@ step : (c : After-is_overtaken)
     (take c.args.count
     c.args.rows)))
 step c =
-    let walk = c.before.before.before in
     let a = c.args in
     overtake_here a.t2 a.count c.loop-i.i a.earlier c.loop-i-test.true
-    (enough walk.before.before.before.before)
+    (enough c.before.before.before.before.before.before.before)
     ∙ ap (λ (t : Bool). not t && no_rows_overtake a.earlier (drop (c.loop-i.i + 1) (take a.count a.t2)))
     (sym c.is_overtaken.ensures)
 
 pub returns-then-earlier : goal.returns-then-earlier
 returns-then-earlier c =
-    let entry = c.before.before.before in
     sym (none_owed c.args.earlier (drop c.args.from (take c.args.count c.args.rows))
-    (le_held (fits entry).end (fits entry).next c.if-earlier.true))
+    (le_held (fits c.before.before.before).end (fits c.before.before.before).next c.if-earlier.true))
 
 pub loop-i-init : goal.loop-i-init
 loop-i-init c = (omega arith, refl)
@@ -66,6 +64,5 @@ loop-i-preserved c = (omega arith, sym (step c.before.before ∙ rw c.if-is_over
 
 pub returns : goal.returns
 returns c =
-    let walk = c.before in
     let a = c.args in
     sym (sym c.loop-i.invariant.1 ∙ overtake_past a.t2 a.count c.loop-i.i a.earlier c.loop-i-test.false)

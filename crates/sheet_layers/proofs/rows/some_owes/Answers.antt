@@ -48,17 +48,14 @@ loop-i-init c = (omega arith, refl)
 
 pub returns-then-owes : goal.returns-then-owes
 returns-then-owes c =
-    let walk = c.before.before.before.before in
     sym (held_row c.before.before.before.before.before (sym c.loop-i.invariant.1 ∙ step c.before true c.if-owes.true))
 
 pub loop-i-preserved : goal.loop-i-preserved
 loop-i-preserved c =
-    let walk = c.before.before.before.before in
     (omega arith, sym (step c.before false c.if-owes.false) ∙ c.loop-i.invariant.1)
 
 pub returns : goal.returns
 returns c =
-    let walk = c.before in
     let a = c.args in
     sym (held_row c.before.before (sym c.loop-i.invariant.1 ∙ owe_past a.t1 a.layers c.loop-i.i (to_z w32 (of_z w32 a.y))
     c.loop-i-test.false))

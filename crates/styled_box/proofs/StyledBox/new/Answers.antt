@@ -13,7 +13,6 @@ new-requires-2 c =
 
 pub returns : goal.returns
 returns c =
-    let entry = c.before.before.before.before.before.before in
     let stroke = c.new.ensures in
     let fill = c.new-2.ensures in (
       λ i. record { rectangle = c.args.area.rectangle; corners = c.new.ensures.1 i },

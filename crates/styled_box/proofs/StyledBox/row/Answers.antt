@@ -42,7 +42,6 @@ row_place : (c : In-At) →
     c.args.y (At c.in-At.dy)
 row_place c =
     let at_place_of = c.place_of in
-    let entry = c.before.before.before.before.before.before in
     placed_told _ _ _ c.requires.ready_styled_box.area.at.y.fits c.requires.near.fits c.place_of.ensures c.in-At.is
 
 -- the stroke area's run, by its insets; it keeps to the area's columns, and is the row of the definition
@@ -51,7 +50,6 @@ run_is : (c : After-run_between-run) → c.run_between-run.result
     (row_insets (radii c.args.self.stroke) c.args.self.area.size.width
     c.args.self.area.size.height c.in-At.dy)
 run_is c =
-    let entry = c.before.before.before.before.before.before.before.before.before.before.before in
     let b = c.args.self in
     c.run_between-run.ensures
     ∙ (λ i. run_between (to_z-of_z c.requires.ready_styled_box.area.at.x.fits i) b.area.size.width (c.row_insets-insets.ensures.0 i))
@@ -78,7 +76,6 @@ place_of-requires c =
 pub returns-in_default : goal.returns-in_default
 unfolding box_styled_row
 returns-in_default c =
-    let entry = c.before.before.before.before.before.before in
     ap (λ (r : Row). styled_by r (fill_run (fill_box c.args.self) c.args.y))
     (row_out (stroke_box c.args.self) c.args.y
     (placed_told _ _ _ c.requires.ready_styled_box.area.at.y.fits c.requires.near.fits c.place_of.ensures
@@ -86,7 +83,7 @@ returns-in_default c =
 
 pub row_insets-insets-requires : goal.row_insets-insets-requires
 row_insets-insets-requires c =
-    let ready = c.requires.ready_styled_box in record { ready_box = ready.stroke; dy_lt_height = subst (λ (s : Size). c.in-At.dy < s.height) ready.stroke_size (row_place c.before.before).1 }
+    let ready = c.requires.ready_styled_box in record { ready_box = ready.stroke; dy_lt_height = subst (λ (s : Size). c.in-At.dy < s.height) ready.stroke_size (row_place c.before.before.before).1 }
 
 pub run_between-run-requires : goal.run_between-run-requires
 run_between-run-requires c =
@@ -101,8 +98,6 @@ run_between-run-requires c =
 
 pub fill_run-found-requires : goal.fill_run-found-requires
 fill_run-found-requires c =
-    let half_entry = c.before.before.before.before.before.before.before.before in
-    let entry = c.before.before.before.before.before.before.before.before.before.before.before.before.before.before in
     let near = c.requires.near in
     let area = c.requires.ready_styled_box.area in
     let ends = run_ends c.before.before.before in record { ready_fill = c.requires.ready_styled_box.fill; near = rw (to_z-of_z near.fits) near; near_run = record {
@@ -115,11 +110,9 @@ pub returns : goal.returns
 unfolding box_styled_row
 returns c =
     let at_fill_run = c.fill_run-found in
-    let half_entry = c.before.before.before.before.before.before.before.before.before.before in
-    let entry = c.before.before.before.before.before.before.before.before.before.before.before.before.before.before.before.before.before.before in
     let b = c.args.self in
     let run = c.run_between-run.result in
-    ap Runs (c.around_fill.ensures ∙ ap (around_fill run)
+    ap Runs (c.around_fill.ensures ∙ ap (around_fill c.run_between-run.result)
     (c.fill_run-found.ensures ∙ ap (λ (z : ℤ). fill_run (fill_box b) z c.run_between-run.result) (to_z-of_z c.requires.near.fits)))
     ∙ ap (λ (r : Row). styled_by r (fill_run (fill_box b) c.args.y))
     (row_is c.before.before.before.before.before.before.before)

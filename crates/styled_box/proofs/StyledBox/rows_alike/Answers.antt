@@ -57,7 +57,6 @@ place_of-requires c =
 
 pub returns-in_default : goal.returns-in_default
 returns-in_default c =
-    let entry = c.before.before.before.before.before.before in
     (omega arith, one_alike (box_styled_row (stroke_box c.args.self) (fill_box c.args.self)) c.args.y)
 
 pub place_of-requires-2 : goal.place_of-requires-2
@@ -69,7 +68,6 @@ place_of-requires-2 c =
 
 pub returns-in_default-place_of : goal.returns-in_default-place_of
 returns-in_default-place_of c =
-    let entry = c.before.before.before.before.before.before.before.before.before.before.before.before in
     (omega arith, one_alike (box_styled_row (stroke_box c.args.self) (fill_box c.args.self)) c.args.y)
 
 pub straight_rows-requires : goal.straight_rows-requires
@@ -79,12 +77,10 @@ straight_rows-requires c =
 
 pub straight_rows-requires-2 : goal.straight_rows-requires-2
 straight_rows-requires-2 c =
-    let inner = c.before.before.before in
-    let ready = (start c.before.before.before.before.before.before.before.before.before).requires.0.fill in record { ready_box = ready.ready; dy_lt_height = subst (λ (s : Size). c.in-At-place_of.inner_dy < s.height) ready.size (inner_place inner).1 }
+    let ready = (start c.before.before.before.before.before.before.before.before.before).requires.0.fill in record { ready_box = ready.ready; dy_lt_height = subst (λ (s : Size). c.in-At-place_of.inner_dy < s.height) ready.size (inner_place c.before.before.before).1 }
 
 pub returns : goal.returns
 returns c =
-    let inner = c.before.before.before.before.before in
     let at = outer c.before.before.before.before.before in
     let b = (start at).args.self in
     let ready = (start at).pre.0 in
@@ -96,9 +92,9 @@ returns c =
     let alike =
     rows_straight (stroke_box b) (fill_box b) (start at).args.y at.before.dy.given.0.0 c.in-At-place_of.inner_dy
     c.straight_rows.result c.straight_rows-2.result
-    (row_place at) (inner_place inner)
+    (row_place at) (inner_place c.before.before.before.before.before)
     (subst (λ (s : Size). StraightFor (radii b.stroke) s at.before.dy.given.0.0 c.straight_rows.result) (sym ready.stroke_size)
     c.straight_rows.ensures.1)
     (subst (λ (s : Size). StraightFor (radii b.fill) s c.in-At-place_of.inner_dy c.straight_rows-2.result) (sym ready.fill.size)
     c.straight_rows-2.ensures.1) in
-    (omega (arith, c.least.ensures, some₁, some₂), subst (Alike (box_styled_row (stroke_box b) (fill_box b)) (start at).args.y) (sym n_is) alike)
+    (omega (arith, c.least.ensures, some₁, some₂), subst (Alike (box_styled_row (stroke_box b) (fill_box b)) (start at).args.y) (sym c.least.ensures) alike)

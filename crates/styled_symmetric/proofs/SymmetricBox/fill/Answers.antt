@@ -21,7 +21,6 @@ After-corner_left_out-k = Lts.After-corner_left_out Tie.the-claims Reads.Pre Rea
 -- above the fill area's rows
 pub returns-then-dy-border : goal.returns-then-dy-border
 returns-then-dy-border c =
-    let entry = c.before.before in
     let end = to_z-of_z c.requires.near_run.end.fits in
     range_by_fields end end ∙ fill_lacking c.args.self c.requires.ready_symmetric c.args.dy c.requires.corner_rows_bound
     c.args.run c.if-dy-border.true
@@ -35,7 +34,6 @@ entry c = c.before.before.before
 
 pub filled_between-requires : goal.filled_between-requires
 filled_between-requires c =
-    let after = c.before.before.before.before.before in
     let start = entry c.before.before.before.before.before in
     let a = start.args in
     let ready = start.pre.0 in
@@ -45,7 +43,6 @@ filled_between-requires c =
 
 pub returns : goal.returns
 returns c =
-    let after = c.before.before.before.before.before in
     let start = entry c.before.before.before.before.before in
     let a = start.args in
     let k = c.corner_left_out-k.result in

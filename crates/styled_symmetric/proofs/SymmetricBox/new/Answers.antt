@@ -24,7 +24,7 @@ border_is : (c : goal.In-At)
     c.args.b.inner.top_left.y (At c.in-At.border)
 border_is c =
     let ready = c.requires in
-    placed_told _ _ _ ready.area.at.y.fits ready.fill.at.y.fits c.place_of.ensures
+    placed_told _ _ _ c.requires.area.at.y.fits c.requires.fill.at.y.fits c.place_of.ensures
     c.in-At.is
 
 border_small : (c : goal.In-At) → c.in-At.border ≤ wide_stroke_side
@@ -39,35 +39,31 @@ inner_small c = let fill = c.requires.fill in subst (SizeUpTo wide_stroke_side) 
 pub place_of-requires : goal.place_of-requires
 place_of-requires c =
     let ready = c.requires in
-    let area = area_bounded _ ready.area in
-    let inner = ready.fill.at.y in record { near = rw (to_z-of_z area.at.y.fits) area.at.y; n_le_wide_side = area.size.height; near_2 = rw (to_z-of_z inner.fits) inner }
+    let area = area_bounded _ c.requires.area in
+    let inner = c.requires.fill.at.y in record { near = rw (to_z-of_z area.at.y.fits) area.at.y; n_le_wide_side = area.size.height; near_2 = rw (to_z-of_z inner.fits) inner }
 
 pub overflow_mul-border : goal.overflow_mul-border
 overflow_mul-border c = let small = border_small c in record { fits = omega (arith, small) }
 
 pub overflow_add-inner_size : goal.overflow_add-inner_size
 overflow_add-inner_size c =
-    let at = c.before in
     let small = border_small c.before in
-    let low = (inner_small at).height in
+    let low = (inner_small c.before).height in
     record { fits = omega (arith, small, low) }
 
 pub overflow_mul-inner_radius : goal.overflow_mul-inner_radius
 overflow_mul-inner_radius c =
-    let at = c.before.before.before.before.before.before.before.before in
     let small = c.requires.fill.ready.top_left.small.width in
     record { fits = omega (arith, small) }
 
 pub overflow_add-border : goal.overflow_add-border
 overflow_add-border c =
-    let at = c.before.before.before.before.before.before.before.before.before.before.before in
     let small = border_small c.before.before.before.before.before.before.before.before.before.before.before in
     let low = c.requires.fill.ready.top_left.small.height in
     record { fits = omega (arith, small, low) }
 
 pub overflow_mul-corner_rows : goal.overflow_mul-corner_rows
 overflow_mul-corner_rows c =
-    let at = c.before.before.before.before.before.before.before.before.before.before.before.before in
     let small = border_small c.before.before.before.before.before.before.before.before.before.before.before.before in
     let low = c.requires.fill.ready.top_left.small.height in
     let tall = c.requires.stroke.top_left.small.height in
@@ -77,10 +73,8 @@ overflow_mul-corner_rows c =
 -- all tests passed
 pub returns : goal.returns
 returns c =
-    let at = c.before.before.before.before.before.before.before.before.before.before.before.before.before.before in
     let b = c.args.b in
     let ready = c.requires in
-    let second = c.before.before.before.before.before.before.before.before.before.before.before.before.before.before.before.before.before.before.before.before.before.before.before.before in
     let stroke = c.corners_alike.ensures (not-false _ c.if-not-corners_alike.false) in
     let fill = c.corners_alike-2.ensures (not-false _ c.if-not-corners_alike-2.false) in
     let rows = c.most-corner_rows.ensures in
@@ -88,11 +82,11 @@ returns c =
       λ i. record { rectangle = b.area; corners = stroke i },
       λ i. record { rectangle = b.inner; corners = fill i },
       record {
-        area = ready.area;
-        inner_at = ready.fill.at;
+        area = c.requires.area;
+        inner_at = c.requires.fill.at;
         inner_size = inner_small c.before.before.before.before.before.before.before.before.before.before.before.before.before.before;
-        corner = ready.stroke.top_left;
-        inner_corner = ready.fill.ready.top_left;
+        corner = c.requires.stroke.top_left;
+        inner_corner = c.requires.fill.ready.top_left;
         apart = c.if-inner_size-inner_radius.false;
         above = border.0;
         middle = omega (arith, c.if-inner_size-border.false);

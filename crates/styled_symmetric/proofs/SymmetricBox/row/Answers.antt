@@ -91,8 +91,7 @@ fill-filled-requires c =
 pub returns : goal.returns
 unfolding box_styled_row
 returns c =
-    let at = c.before.before.before in
     let a = c.args in
     let run = c.run_between-run.result in
-    ap Runs (c.around_fill.ensures ∙ ap (around_fill run) c.fill-filled.ensures)
-    ∙ ap (λ (r : Row). styled_by r (fill_run (symmetric_fill a.self) (a.self.area.top_left.y +ℤ pos a.dy))) (row_is at)
+    ap Runs (c.around_fill.ensures ∙ ap (around_fill c.run_between-run.result) c.fill-filled.ensures)
+    ∙ ap (λ (r : Row). styled_by r (fill_run (symmetric_fill a.self) (a.self.area.top_left.y +ℤ pos a.dy))) (row_is c.before.before.before)

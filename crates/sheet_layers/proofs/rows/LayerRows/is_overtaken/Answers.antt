@@ -29,8 +29,7 @@ later_fits c = record { first = search rules; next = search rules; end = search 
 -- the later layer has painted a row
 has_painted_lem : (c : Else-later) → le_z c.args.later.next c.args.later.first ≡ false
 has_painted_lem c =
-    let entry = c.before.before.before in
-    le_held (later_fits entry).next (later_fits entry).first c.if-later.false
+    le_held (later_fits c.before.before.before).next (later_fits c.before.before.before).first c.if-later.false
 
 -- it starts above the end of the earlier one
 starts_above : (c : Else-self-later)
@@ -38,34 +37,25 @@ starts_above : (c : Else-self-later)
     c.args.later.first
     ≡ false
 starts_above c =
-    let entry = c.before.before.before.before.before.before.before.before in
-    le_held (earlier_fits entry).end (later_fits entry).first c.if-self-later.false
+    le_held (earlier_fits c.before.before.before.before.before.before.before.before).end (later_fits c.before.before.before.before.before.before.before.before).first c.if-self-later.false
 
 pub returns-then-later : goal.returns-then-later
 returns-then-later c =
-    let entry = c.before.before.before in
     overtakes_none_painted c.args.self c.args.later
-    (le_held (later_fits entry).next (later_fits entry).first c.if-later.true)
+    (le_held (later_fits c.before.before.before).next (later_fits c.before.before.before).first c.if-later.true)
 
 pub returns-then-self-later : goal.returns-then-self-later
 returns-then-self-later c =
-    let entry = c.before.before.before.before.before.before.before.before in
     overtakes_none_reached c.args.self c.args.later (has_painted_lem c.before.before.before.before.before)
-    (le_held (earlier_fits entry).end (later_fits entry).first c.if-self-later.true)
+    (le_held (earlier_fits c.before.before.before.before.before.before.before.before).end (later_fits c.before.before.before.before.before.before.before.before).first c.if-self-later.true)
 
 pub returns-then-later-self : goal.returns-then-later-self
 returns-then-later-self c =
-    let second = c.before.before.before.before.before in
-    let first = c.before.before.before.before.before.before.before.before.before.before in
-    let entry = c.before.before.before.before.before.before.before.before.before.before.before.before.before in
-    overtakes_none_left c.args.self c.args.later (has_painted_lem first) (starts_above second)
-    (le_held (later_fits entry).next (earlier_fits entry).next c.if-later-self.true)
+    overtakes_none_left c.args.self c.args.later (has_painted_lem c.before.before.before.before.before.before.before.before.before.before) (starts_above c.before.before.before.before.before)
+    (le_held (later_fits c.before.before.before.before.before.before.before.before.before.before.before.before.before).next (earlier_fits c.before.before.before.before.before.before.before.before.before.before.before.before.before).next c.if-later-self.true)
 
 pub returns : goal.returns
 returns c =
-    let second = c.before.before.before.before.before.before.before in
-    let first = c.before.before.before.before.before.before.before.before.before.before.before.before in
-    let entry = c.before.before.before.before.before.before.before.before.before.before.before.before.before.before.before in
-    ap₂ lt_z (to_z-of_z (earlier_fits entry).next) (to_z-of_z (earlier_fits entry).end)
-    ∙ overtakes_by_left c.args.self c.args.later (has_painted_lem first) (starts_above second)
-    (le_held (later_fits entry).next (earlier_fits entry).next c.if-later-self.false)
+    ap₂ lt_z (to_z-of_z (earlier_fits c.before.before.before.before.before.before.before.before.before.before.before.before.before.before.before).next) (to_z-of_z (earlier_fits c.before.before.before.before.before.before.before.before.before.before.before.before.before.before.before).end)
+    ∙ overtakes_by_left c.args.self c.args.later (has_painted_lem c.before.before.before.before.before.before.before.before.before.before.before.before) (starts_above c.before.before.before.before.before.before.before)
+    (le_held (later_fits c.before.before.before.before.before.before.before.before.before.before.before.before.before.before.before).next (earlier_fits c.before.before.before.before.before.before.before.before.before.before.before.before.before.before.before).next c.if-later-self.false)

@@ -27,25 +27,21 @@ row_fits c = search rules
 -- from its first row on
 from_first : (c : Else-y-self) → lt_z c.args.y c.args.self.first ≡ false
 from_first c =
-    let entry = c.before.before.before in
-    lt_held (row_fits entry) (rows_fit entry).first c.if-y-self.false
+    lt_held (row_fits c.before.before.before) (rows_fit c.before.before.before).first c.if-y-self.false
 
 -- above its first row
 pub returns-then-y-self : goal.returns-then-y-self
 returns-then-y-self c =
-    let entry = c.before.before.before in
-    owes_none_above c.args.self c.args.y (lt_held (row_fits entry) (rows_fit entry).first c.if-y-self.true)
+    owes_none_above c.args.self c.args.y (lt_held (row_fits c.before.before.before) (rows_fit c.before.before.before).first c.if-y-self.true)
 
 -- below its last row
 pub returns-then-self-y : goal.returns-then-self-y
 returns-then-self-y c =
-    let entry = c.before.before.before.before.before.before in
     owes_none_below c.args.self c.args.y (from_first c.before.before.before)
-    (le_held (rows_fit entry).end (row_fits entry) c.if-self-y.true)
+    (le_held (rows_fit c.before.before.before.before.before.before).end (row_fits c.before.before.before.before.before.before) c.if-self-y.true)
 
 pub returns : goal.returns
 returns c =
-    let entry = c.before.before.before.before.before.before.before.before in
-    ap₂ le_z (to_z-of_z (rows_fit entry).next) (to_z-of_z (row_fits entry))
+    ap₂ le_z (to_z-of_z (rows_fit c.before.before.before.before.before.before.before.before).next) (to_z-of_z (row_fits c.before.before.before.before.before.before.before.before))
     ∙ owes_by_next c.args.self c.args.y (from_first c.before.before.before.before.before)
-    (le_held (rows_fit entry).end (row_fits entry) c.if-self-y.false)
+    (le_held (rows_fit c.before.before.before.before.before.before.before.before).end (row_fits c.before.before.before.before.before.before.before.before) c.if-self-y.false)
