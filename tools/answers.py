@@ -156,7 +156,7 @@ class Function:
             if best:
                 more = self.clauses(p, [best[0]] + rest[len(best[1]):], best[0])
                 return ("step", p, rest, ".".join([base, a[0]] + more))
-            if not rest:
+            if not rest or rest in (["given"], ["given", "0"]):
                 return ("step", p, rest, None)
             self.say(f"arm {a[0]} lacks {old}.{'.'.join(rest)}")
             return ("text", ".".join([base, a[0]] + rest))
@@ -210,8 +210,6 @@ class Function:
     def new_place(self, i):
         i = self.deepest(i)
         n = norm(self.places[i][0])
-        if n in self.asked_places and not self.typed[i]:
-            return "goal." + self.new[i]
         self.lts.add(i)
         return self.new[i]
 
@@ -545,6 +543,9 @@ def turn(crate, folder, path, d, muts):
         e = {v: {"kind": "place", "place": i, "base": v, "cur": fn.deepest(i) if last else i} for v, i in env.items()}
         fn.views = {v: not last and fn.typed[i] for v, i in env.items()}
         t = tokens_env(fn, t, e, funs)
+        # the test of `if !x` is known of x itself
+        t = re.sub(r"not-true _ ([\w.'-]+)\.true(?:-raw)?(?![\w-])", r"\1.true", t)
+        t = re.sub(r"not-false _ ([\w.'-]+)\.false(?:-raw)?(?![\w-])", r"\1.false", t)
         # names of places that nothing uses now
         while True:
             for m in re.finditer(r"let (\w[\w'-]*) = \w[\w'-]*(?:\.before)+ in\s*", t):

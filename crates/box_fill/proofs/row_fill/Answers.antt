@@ -25,6 +25,9 @@ Start = Lts.Start Tie.the-claims Reads.Pre Reads.Post Tie.handed_clauses
 abbrev After-first_contained : Type 0
 After-first_contained = Lts.After-first_contained Tie.the-claims Reads.Pre Reads.Post Tie.handed_clauses
 
+abbrev In-At : Type 0
+In-At = Lts.Past-After-known_told Tie.the-claims Reads.Pre Reads.Post Tie.handed_clauses
+
 -- ---- after the first search: the arguments, the places to look through, and how many are skipped
 abbrev entry : After-first_contained → Start
 entry c = c.before.before.before.before.before.before.before.before
@@ -68,13 +71,13 @@ answer_is c =
     c.first_contained.ensures ∙ ap (λ (k : ℕ). first_contained (corners c) (size c) (dy c) k (to c)) c.most.ensures
 
 -- ---- where it found a column
-abbrev searched : goal.In-At → After-first_contained
+abbrev searched : In-At → After-first_contained
 searched c = c.before
 
-abbrev first : goal.In-At → ℕ
+abbrev first : In-At → ℕ
 first c = c.in-At.first
 
-first_is : (c : goal.In-At) → At (first c) ≡ answer c.before
+first_is : (c : In-At) → At (first c) ≡ answer c.before
 first_is c = sym c.in-At.is ∙ answer_is c.before
 
 -- none is contained

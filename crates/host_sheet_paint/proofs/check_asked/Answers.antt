@@ -10,6 +10,9 @@ use Rattle.host_sheet_paint.proofs.check_asked.Tie
 use Rattle.host_sheet_paint.proofs.check_asked.Goals as goal
 
 -- the facts known at these places
+abbrev Start : Type 0
+Start = Lts.Start Tie.the-claims Reads.Pre Reads.Post Tie.handed_clauses
+
 abbrev In-Passed : Type 0
 In-Passed = Lts.Past-After-enum_told Tie.the-claims Reads.Pre Reads.Post Tie.handed_clauses
 

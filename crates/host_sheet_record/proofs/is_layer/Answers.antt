@@ -1,6 +1,5 @@
 -- `host_sheet_record::is_layer` meets its contract: the figure's numbers and then the style's.
 use mathlib.Core.Path.{◌≡◌, sym, ◌∙◌}
-use borrow.Author.Tests.{not-true, not-false}
 use lib.ListN.{take}
 use Rattle.host_records.specs.RecordNumbers.{figure_length, is_figure}
 use Rattle.host_sheet_record.proofs.is_layer.Lts
@@ -16,7 +15,7 @@ figure : (c : After-is_figure) → is_figure (take figure_length c.args.numbers.
 figure c = sym c.is_figure.ensures
 
 pub returns-then-not-is_figure : goal.returns-then-not-is_figure
-returns-then-not-is_figure c = rw (figure c.before ∙ not-true _ c.if-not-is_figure.true)
+returns-then-not-is_figure c = rw (figure c.before ∙ c.if-not-is_figure.true)
 
 pub returns : goal.returns
-returns c = rw (figure c.before.before.before ∙ not-false _ c.if-not-is_figure.false) c.is_style.ensures
+returns c = rw (figure c.before.before.before ∙ c.if-not-is_figure.false) c.is_style.ensures

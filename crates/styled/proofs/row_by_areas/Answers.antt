@@ -24,11 +24,14 @@ use Rattle.styled.proofs.row_by_areas.Tie
 use Rattle.styled.proofs.row_by_areas.Goals as goal
 
 -- the facts known at these places
+abbrev Start : Type 0
+Start = Lts.Start Tie.the-claims Reads.Pre Reads.Post Tie.handed_clauses
+
 abbrev After-sub-inward : Type 0
 After-sub-inward = Lts.After-sub Tie.the-claims Reads.Pre Reads.Post Tie.handed_clauses
 
 -- ---- the two offsets
-abbrev start : After-sub-inward → goal.Start
+abbrev start : After-sub-inward → Start
 start c = c.before.before.before.before.before
 
 outward_is : (c : After-sub-inward) → c.from_u32-outward.result ≡ pos (outside_stroke_width c.args.style)
@@ -111,14 +114,13 @@ w3c_row_at-requires c =
 pub returns-in-Ellipse : goal.returns-in-Ellipse
 unfolding styled_row_of_shapes
 returns-in-Ellipse c =
-    let figure = c.in-Ellipse.given in
     let args = c.args in
     c.ellipse_row_at.ensures
     ∙ (λ i. ellipse_styled_row
-    (rectangle_offset figure.0.0 (pos (c.outside_stroke_width-outside.ensures i)))
-    (rectangle_offset figure.0.0 (neg_ℤ (pos (c.inside_stroke_width-inside.ensures i)))).size
+    (rectangle_offset c.in-Ellipse.rectangle (pos (c.outside_stroke_width-outside.ensures i)))
+    (rectangle_offset c.in-Ellipse.rectangle (neg_ℤ (pos (c.inside_stroke_width-inside.ensures i)))).size
     (to_z-of_z c.requires.near.fits i))
-    ∙ ap (λ (f : Figure). styled_row f args.style args.y) (sym figure.1)
+    ∙ ap (λ (f : Figure). styled_row f args.style args.y) (sym c.in-Ellipse.is)
 
 -- the offsets as the callee reads them
 outward_held : (c : After-sub-inward)
@@ -131,19 +133,17 @@ inward_held c = to_z-of_z (inward_near c).ranges ∙ inward_is c
 pub returns-in-CrateBox : goal.returns-in-CrateBox
 unfolding styled_row_of_shapes
 returns-in-CrateBox c =
-    let figure = c.in-CrateBox.given in
     let args = c.args in
     c.crate_row_at.ensures
-    ∙ (λ i. box_styled_row (crate_area figure.0.0 (outward_held c.before.before i))
-    (crate_area figure.0.0 (inward_held c.before.before i)) (to_z-of_z c.requires.near.fits i))
-    ∙ ap (λ (f : Figure). styled_row f args.style args.y) (sym figure.1)
+    ∙ (λ i. box_styled_row (crate_area c.in-CrateBox.b (outward_held c.before.before i))
+    (crate_area c.in-CrateBox.b (inward_held c.before.before i)) (to_z-of_z c.requires.near.fits i))
+    ∙ ap (λ (f : Figure). styled_row f args.style args.y) (sym c.in-CrateBox.is)
 
 pub returns-in-W3cBox : goal.returns-in-W3cBox
 unfolding styled_row_of_shapes
 returns-in-W3cBox c =
-    let figure = c.in-W3cBox.given in
     let args = c.args in
     c.w3c_row_at.ensures
-    ∙ (λ i. box_styled_row (w3c_area figure.0.0 (outward_held c.before.before i)) (w3c_area figure.0.0 (inward_held c.before.before i))
+    ∙ (λ i. box_styled_row (w3c_area c.in-W3cBox.b (outward_held c.before.before i)) (w3c_area c.in-W3cBox.b (inward_held c.before.before i))
     (to_z-of_z c.requires.near.fits i))
-    ∙ ap (λ (f : Figure). styled_row f args.style args.y) (sym figure.1)
+    ∙ ap (λ (f : Figure). styled_row f args.style args.y) (sym c.in-W3cBox.is)

@@ -96,8 +96,7 @@ first_is : (c : After-floor0-s)
     (found c.before.before.before.before).before.before.dy.given.0.0 ≡ At c.floor0-s.result
 first_is c =
     let args = (entry c.before.before.before.before).args in
-    let run = c.in-Run.given in
-    run_first args.area args.y run.0.0 (row_is (found c.before.before.before.before) _ run.1) (found c.before.before.before.before).before.before.dy.given.0.0
+    run_first args.area args.y c.in-Run.run' (row_is (found c.before.before.before.before) _ c.in-Run.is) (found c.before.before.before.before).before.before.dy.given.0.0
     (row_place (found c.before.before.before.before).before)
     ∙ ap At (sym (place_is c))
 
@@ -134,7 +133,6 @@ ellipse_runs-requires c =
 pub returns : goal.returns
 returns c =
     let args = (entry c.before.before.before.before.before.before.before).args in
-    let run = c.in-Run.given in
     let w = args.area.size.width in
     let s = c.floor0-s.result in
     ap Runs
@@ -143,4 +141,4 @@ returns c =
     (find_from (column_inside (contains_of args.sides.width args.sides.height) w (c.gap-distance.ensures.0 i))
     (w - 2 * c.floor0-s.result) c.floor0-s.result)))
     ∙ styled_found args.area args.sides args.y _ (row_place (found c.before.before.before.before.before.before.before).before)
-    (rows_there args.area args.y run.0.0 (row_is (found c.before.before.before.before.before.before.before) _ run.1)) c.floor0-s.result (first_is c.before.before.before)
+    (rows_there args.area args.y c.in-Run.run' (row_is (found c.before.before.before.before.before.before.before) _ c.in-Run.is)) c.floor0-s.result (first_is c.before.before.before)

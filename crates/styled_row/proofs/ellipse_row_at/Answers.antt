@@ -14,21 +14,30 @@ use Rattle.styled_row.proofs.ellipse_row_at.Tie
 use Rattle.styled_row.proofs.ellipse_row_at.Goals as goal
 
 -- the facts known at these places
+abbrev Start : Type 0
+Start = Lts.Start Tie.the-claims Reads.Pre Reads.Post Tie.handed_clauses
+
+abbrev After-offset-area : Type 0
+After-offset-area = Lts.After-offset Tie.the-claims Reads.Pre Reads.Post Tie.handed_clauses
+
+abbrev After-sub : Type 0
+After-sub = Lts.After-sub Tie.the-claims Reads.Pre Reads.Post Tie.handed_clauses
+
 abbrev After-offset-inner : Type 0
 After-offset-inner = Lts.After-offset2 Tie.the-claims Reads.Pre Reads.Post Tie.handed_clauses
 
 -- the two areas' rectangles
-area_is : (c : goal.After-offset-area)
+area_is : (c : After-offset-area)
     → c.offset-area.result ≡ rectangle_offset c.args.rectangle (pos c.args.outside)
 area_is c =
     c.offset-area.ensures
     ∙ ap (rectangle_offset c.args.rectangle)
     (to_z-of_z c.from_u32.ensures.fits ∙ c.from_u32.ensures.is)
 
-abbrev start : goal.After-sub → goal.Start
+abbrev start : After-sub → Start
 start c = c.before.before.before.before
 
-opposite : (c : goal.After-sub) → c.sub.result ≡ neg_ℤ (pos c.args.inside)
+opposite : (c : After-sub) → c.sub.result ≡ neg_ℤ (pos c.args.inside)
 opposite c =
     let is = c.from_u32-2.ensures.is in
     let difference = c.sub.ensures.is in

@@ -17,11 +17,14 @@ use Rattle.styled_row.proofs.ellipse_runs.Tie
 use Rattle.styled_row.proofs.ellipse_runs.Goals as goal
 
 -- the facts known at these places
+abbrev Start : Type 0
+Start = Lts.Start Tie.the-claims Reads.Pre Reads.Post Tie.handed_clauses
+
 abbrev After-first_inside : Type 0
 After-first_inside = Lts.After-first_inside Tie.the-claims Reads.Pre Reads.Post Tie.handed_clauses
 
 -- the place found is the definition's
-abbrev entry : After-first_inside → goal.Start
+abbrev entry : After-first_inside → Start
 entry c = c.before.before
 
 abbrev answer : After-first_inside → Place
@@ -52,7 +55,6 @@ filled_runs-requires c =
 pub returns : goal.returns
 returns c =
     let start = entry c.before.before in
-    let found = c.in-At.given in
     c.filled_runs.ensures
-    ∙ ap (λ (z : ℤ). runs_from z start.args.width start.args.s (At found.0.0)) (to_z-of_z start.fits.left)
-    ∙ ap (runs_from start.args.left start.args.width start.args.s) (answer_is c.before.before (At found.0.0) found.1)
+    ∙ ap (λ (z : ℤ). runs_from z start.args.width start.args.s (At c.in-At.c)) (to_z-of_z start.fits.left)
+    ∙ ap (runs_from start.args.left start.args.width start.args.s) (answer_is c.before.before (At c.in-At.c) c.in-At.is)

@@ -1,7 +1,6 @@
 -- `styled_straight::row_past` meets its contract: a row that both tests let pass lies past the corners that reach no further than
 -- told, so
 -- its run is the whole area and its fill needs no test.
-use borrow.Author.Tests.{not-false}
 use mathlib.Core.Path.{◌≡◌, sym, ap, subst, ◌∙◌}
 use Prim.Native.Nat.{◌-◌, ◌≤◌, ◌<◌}
 use native.Mathlib.Omega.{arith}
@@ -121,8 +120,8 @@ returns c = λ c₁ d reach_c reach_d.
     let entry = start (outer at) in
     let a = entry.args in
     let past = c.is_past.ensures
-    (not-false _ c.if-not-is_past.false) in
-    let past₂ = c.is_past-2.ensures (not-false _ c.if-not-is_past-2.false) in
+    (c.if-not-is_past.false) in
+    let past₂ = c.is_past-2.ensures (c.if-not-is_past-2.false) in
     ap Runs
     (c.around_fill.ensures
     ∙ ap (around_fill c.run_between-run.result)

@@ -5,7 +5,6 @@ use mathlib.Core.Path.{◌≡◌, sym, ap, ◌∙◌}
 use mathlib.Core.Bool.{true}
 use Prim.Native.Nat.{◌-◌, ◌*◌}
 use mir.Facts.{to_z-of_z}
-use borrow.Author.Tests.{not-true, not-false}
 use Rattle.scanline.specs.declared.Place.TheVariants.{At}
 use Rattle.scanline.specs.declared.StyledRow.TheVariants.{Runs}
 use Rattle.scanline.specs.Places.{find_from, Placed}
@@ -44,7 +43,7 @@ row_place c =
 rows_there : (c : Else-not-self) → first_row_inside c.args.self.area.size.width c.args.self.area.size.height
     ≡ true
 rows_there c =
-    sym c.requires.ready_ellipse.rows ∙ not-false _ c.if-not-self.false
+    sym c.requires.ready_ellipse.rows ∙ c.if-not-self.false
 
 -- where the row is asked for
 abbrev asked : After-scan_inside → Start
@@ -65,7 +64,7 @@ returns-in_default c =
 pub returns-then-not-self : goal.returns-then-not-self
 returns-then-not-self c =
     styled_lacking c.args.self.area c.args.self.sides c.args.y
-    (sym c.requires.ready_ellipse.rows ∙ not-true _ c.if-not-self.true)
+    (sym c.requires.ready_ellipse.rows ∙ c.if-not-self.true)
 
 pub gap-distance-requires : goal.gap-distance-requires
 gap-distance-requires c =
