@@ -8,11 +8,12 @@ use Rattle.corner.proofs.Growth.{square_le, cube_le, square_above_zero, taken_at
 use native.Mathlib.Omega.{arith}
 use Rattle.corner.proofs.grow_radius.Lts
 use Rattle.corner.proofs.grow_radius.Reads
+use Rattle.corner.proofs.grow_radius.Tie
 use Rattle.corner.proofs.grow_radius.Goals as goal
 
 -- the facts known at these places
 abbrev Then-radius-k : Type 0
-Then-radius-k = Lts.Then1 Reads.Pre Reads.Post
+Then-radius-k = Lts.Then1 Reads.Pre Reads.Post Tie.handed_clauses
 
 -- k − radius is within the bound of k
 below_small : (c : Then-radius-k) → c.args.k - c.args.radius ≤ wide_offset

@@ -15,13 +15,13 @@ use Rattle.host_figures.proofs.confined_radii.Goals as goal
 
 -- the facts known at these places
 abbrev Start : Type 0
-Start = Lts.Start Tie.the-claims Reads.Pre Reads.Post Tie.handed_clauses
+Start = Lts.Start Tie.the-claims Reads.Pre Reads.Post
 
 abbrev Else-not-is_figure : Type 0
-Else-not-is_figure = Lts.Else1 Tie.the-claims Reads.Pre Reads.Post Tie.handed_clauses
+Else-not-is_figure = Lts.Else1 Tie.the-claims Reads.Pre Reads.Post
 
 abbrev After-confined_radii : Type 0
-After-confined_radii = Lts.After-confined_radii Tie.the-claims Reads.Pre Reads.Post Tie.handed_clauses
+After-confined_radii = Lts.After-confined_radii Tie.the-claims Reads.Pre Reads.Post
 
 -- the numbers are a figure
 is_one : (c : Else-not-is_figure) → is_figure c.args.figure.now ≡ true

@@ -18,13 +18,13 @@ use Rattle.host_figures.proofs.contains.Goals as goal
 
 -- the facts known at these places
 abbrev Start : Type 0
-Start = Lts.Start Tie.the-claims Reads.Pre Reads.Post Tie.handed_clauses
+Start = Lts.Start Tie.the-claims Reads.Pre Reads.Post
 
 abbrev Else-not-is_figure : Type 0
-Else-not-is_figure = Lts.Else1 Tie.the-claims Reads.Pre Reads.Post Tie.handed_clauses
+Else-not-is_figure = Lts.Else1 Tie.the-claims Reads.Pre Reads.Post
 
 abbrev After-contains : Type 0
-After-contains = Lts.After-contains Tie.the-claims Reads.Pre Reads.Post Tie.handed_clauses
+After-contains = Lts.After-contains Tie.the-claims Reads.Pre Reads.Post
 
 -- the numbers are a figure
 is_one : (c : Else-not-is_figure) → is_figure c.args.figure.now ≡ true

@@ -16,13 +16,13 @@ use Rattle.host_records.proofs.figure_of.Goals as goal
 
 -- the facts known at these places
 abbrev Start : Type 0
-Start = Lts.Start Tie.the-claims Reads.Pre Reads.Post Tie.handed_clauses
+Start = Lts.Start Tie.the-claims Reads.Pre Reads.Post
 
 abbrev After-t5-1 : Type 0
-After-t5-1 = Lts.After-if12 Tie.the-claims Reads.Pre Reads.Post Tie.handed_clauses
+After-t5-1 = Lts.After-if12 Tie.the-claims Reads.Pre Reads.Post
 
 abbrev After-t5-2-1 : Type 0
-After-t5-2-1 = Lts.After-if22 Tie.the-claims Reads.Pre Reads.Post Tie.handed_clauses
+After-t5-2-1 = Lts.After-if22 Tie.the-claims Reads.Pre Reads.Post
 
 -- the tests of the kind are the definition's
 abbrev kind : Start → ℤ

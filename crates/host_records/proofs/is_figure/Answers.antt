@@ -13,13 +13,13 @@ use Rattle.host_records.proofs.is_figure.Goals as goal
 
 -- the facts known at these places
 abbrev Start : Type 0
-Start = Lts.Start Tie.the-claims Reads.Pre Reads.Post Tie.handed_clauses
+Start = Lts.Start Tie.the-claims Reads.Pre Reads.Post
 
 abbrev Else-numbers-ne-FIGURE_LENGTH : Type 0
-Else-numbers-ne-FIGURE_LENGTH = Lts.Else1 Tie.the-claims Reads.Pre Reads.Post Tie.handed_clauses
+Else-numbers-ne-FIGURE_LENGTH = Lts.Else1 Tie.the-claims Reads.Pre Reads.Post
 
 abbrev After-is_within : Type 0
-After-is_within = Lts.After-is_within Tie.the-claims Reads.Pre Reads.Post Tie.handed_clauses
+After-is_within = Lts.After-is_within Tie.the-claims Reads.Pre Reads.Post
 
 -- the tests made are the definition's
 long : (c : Else-numbers-ne-FIGURE_LENGTH) → eqb (length c.args.numbers.now) figure_length ≡ true

@@ -19,28 +19,28 @@ use Rattle.host_records.proofs.is_style.Goals as goal
 
 -- the facts known at these places
 abbrev Start : Type 0
-Start = Lts.Start Tie.the-claims Reads.Pre Reads.Post Tie.handed_clauses
+Start = Lts.Start Tie.the-claims Reads.Pre Reads.Post
 
 abbrev Else-numbers-ne-STYLE_LENGTH : Type 0
-Else-numbers-ne-STYLE_LENGTH = Lts.Else1 Tie.the-claims Reads.Pre Reads.Post Tie.handed_clauses
+Else-numbers-ne-STYLE_LENGTH = Lts.Else1 Tie.the-claims Reads.Pre Reads.Post
 
 abbrev After-is_within : Type 0
-After-is_within = Lts.After-is_within Tie.the-claims Reads.Pre Reads.Post Tie.handed_clauses
+After-is_within = Lts.After-is_within Tie.the-claims Reads.Pre Reads.Post
 
 abbrev Else-not-is_within : Type 0
-Else-not-is_within = Lts.Else2 Tie.the-claims Reads.Pre Reads.Post Tie.handed_clauses
+Else-not-is_within = Lts.Else2 Tie.the-claims Reads.Pre Reads.Post
 
 abbrev After-is_within-2 : Type 0
-After-is_within-2 = Lts.After-is_within2 Tie.the-claims Reads.Pre Reads.Post Tie.handed_clauses
+After-is_within-2 = Lts.After-is_within2 Tie.the-claims Reads.Pre Reads.Post
 
 abbrev Else-not-is_within-2 : Type 0
-Else-not-is_within-2 = Lts.Else3 Tie.the-claims Reads.Pre Reads.Post Tie.handed_clauses
+Else-not-is_within-2 = Lts.Else3 Tie.the-claims Reads.Pre Reads.Post
 
 abbrev After-t5-1 : Type 0
-After-t5-1 = Lts.After-if42 Tie.the-claims Reads.Pre Reads.Post Tie.handed_clauses
+After-t5-1 = Lts.After-if42 Tie.the-claims Reads.Pre Reads.Post
 
 abbrev After-is_within-3 : Type 0
-After-is_within-3 = Lts.After-is_within3 Tie.the-claims Reads.Pre Reads.Post Tie.handed_clauses
+After-is_within-3 = Lts.After-is_within3 Tie.the-claims Reads.Pre Reads.Post
 
 -- the tests made are the definition's
 long : (c : Else-numbers-ne-STYLE_LENGTH) → eqb (length c.args.numbers.now) style_length ≡ true

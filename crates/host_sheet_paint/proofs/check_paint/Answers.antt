@@ -82,9 +82,6 @@ few_is c =
     ∙ ap (within (pos 0) (pos max_layers))
     (read_back c.args.numbers.now count_at c.is_within-arg-1.given))
 
-abbrev start : After-next_of-y → Start
-start c = c.before.before.before.before.before.before.before.before.before
-
 few : (c : After-next_of-y) → within (pos 0) (pos max_layers) (number_at c.args.numbers.now count_at) ≡ true
 few c = few_is c.before.before.before.before ∙ c.if-not-is_within.false
 
@@ -121,28 +118,25 @@ returns-then-not-is_within c =
     (broken_by_count c.args.numbers.now c.requires (few_is c.before ∙ c.if-not-is_within.true)))
 
 pub test_places-requires : goal.test_places-requires
-test_places-requires c =
-    let entry = start c in record { numbers_len = entry.pre; count_le_max_layers = omega (arith, count_is c, count_few entry.args.numbers.now entry.pre (passed c) (few c)) }
+test_places-requires c = record { numbers_len = c.requires; count_le_max_layers = omega (arith, count_is c, count_few c.args.numbers.now c.requires (passed c) (few c)) }
 
 pub returns-in_default-test_places : goal.returns-in_default-test_places
 returns-in_default-test_places c =
-    let entry = start c.before.before in
-    let n = entry.args.numbers.now in
-    let broken = tested_broken n (floor0 (number_at n count_at)) entry.args.layer (next_of n entry.args.layer)
+    let n = c.args.numbers.now in
+    let broken = tested_broken n (floor0 (number_at n count_at)) c.args.layer (next_of n c.args.layer)
     (sym c.in_default-test_places.is ∙ tested c.before) in
-    λ canvas long. sym (refused entry canvas (rules_by_places n entry.pre (passed c.before.before) (few c.before.before) ∙ broken))
+    λ canvas long. sym (refused c.before.before.before.before.before.before.before.before.before.before.before canvas (rules_by_places n c.requires (passed c.before.before) (few c.before.before) ∙ broken))
 
 pub returns : goal.returns
 returns c =
-    let entry = start c.before.before.before in
-    let a = entry.args in
+    let a = c.args in
     let n = a.numbers.now in
     let found = tested_kept n (floor0 (number_at n count_at)) a.layer (next_of n a.layer) c.in-Kept.asked
     (sym c.in-Kept.is ∙ tested c.before.before) in
-    let rules = rules_by_places n entry.pre (passed c.before.before.before) (few c.before.before.before) ∙ found.0 in
+    let rules = rules_by_places n c.requires (passed c.before.before.before) (few c.before.before.before) ∙ found.0 in
     let size = c.size_of-size.ensures in
     λ canvas long.
     c.check_asked.ensures
     ∙ (λ i. asked_check (c.size_of-size.ensures.0 i) (c.size_of-size.ensures.1 i) (sym long i) (count_is c.before.before.before i) a.layer (found.1 i))
-    ∙ answer_by_asked n entry.pre (floor0 (number_at n count_at)) a.layer canvas rules
-    (count_kept n entry.pre (passed c.before.before.before) (few c.before.before.before) rules) (count_few n entry.pre (passed c.before.before.before) (few c.before.before.before))
+    ∙ answer_by_asked n c.requires (floor0 (number_at n count_at)) a.layer canvas rules
+    (count_kept n c.requires (passed c.before.before.before) (few c.before.before.before) rules) (count_few n c.requires (passed c.before.before.before) (few c.before.before.before))

@@ -15,10 +15,10 @@ use Rattle.host_sheet_place.proofs.figure_kept.Goals as goal
 
 -- the facts known at these places
 abbrev Start : Type 0
-Start = Lts.Start Tie.the-claims Reads.Pre Reads.Post Tie.handed_clauses
+Start = Lts.Start Tie.the-claims Reads.Pre Reads.Post
 
 abbrev After-t5-1 : Type 0
-After-t5-1 = Lts.After-if22 Tie.the-claims Reads.Pre Reads.Post Tie.handed_clauses
+After-t5-1 = Lts.After-if22 Tie.the-claims Reads.Pre Reads.Post
 
 rectangle : (c : After-t5-1) → rectangle_kept c.args.numbers.now ≡ true
 rectangle c = sym c.rectangle_kept.ensures ∙ c.if-not-rectangle_kept.false

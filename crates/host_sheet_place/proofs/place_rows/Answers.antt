@@ -35,10 +35,6 @@ limits c =
     and_true_of (sym c.figure_kept.ensures ∙ c.if-not-figure_kept.false)
     (sym c.style_kept.ensures ∙ c.if-not-style_kept.false)
 
--- the tests made of the rows are those of the layer's
-abbrev start : After-rows_within-rows → Start
-start c = c.before.before.before.before.before
-
 by_first : (c : After-rows_within-rows) {t : Bool}
     → lt_z (to_z w32 (of_z w32 c.rows_within-rows.result.next)) (to_z w32 (of_z w32 c.rows_within-rows.result.first)) ≡ t
     → lt_z (layer_rows (layer_of c.args.numbers.now)).next (layer_rows (layer_of c.args.numbers.now)).first
@@ -72,17 +68,14 @@ rows_within-rows-requires c = record { numbers_len = c.requires; numbers_value =
 
 pub returns-then-rows : goal.returns-then-rows
 returns-then-rows c =
-    let entry = start c.before.before.before in
-    rw (place_above entry.args.numbers.now entry.pre (by_first c.before.before.before c.if-rows.true))
+    rw (place_above c.args.numbers.now c.requires (by_first c.before.before.before c.if-rows.true))
 
 pub returns-then-rows-2 : goal.returns-then-rows-2
 returns-then-rows-2 c =
-    let entry = start c.before.before.before.before.before.before in
-    rw (place_below entry.args.numbers.now entry.pre (by_end c.before.before.before.before.before.before c.if-rows-2.true))
+    rw (place_below c.args.numbers.now c.requires (by_end c.before.before.before.before.before.before c.if-rows-2.true))
 
 pub returns : goal.returns
 returns c =
-    let entry = start c.before.before.before.before.before.before in
-    rw (place_among entry.args.numbers.now entry.pre (limits c.before.before.before.before.before.before.before)
+    rw (place_among c.args.numbers.now c.requires (limits c.before.before.before.before.before.before.before)
     (by_first c.before.before.before.before.before.before c.if-rows.false) (by_end c.before.before.before.before.before.before c.if-rows-2.false))
     (ap Kept c.rows_within-rows.ensures.0)

@@ -18,10 +18,10 @@ use Rattle.host_sheet_place.proofs.radii_kept.Goals as goal
 
 -- the facts known at these places
 abbrev Start : Type 0
-Start = Lts.Start Tie.the-claims Reads.Pre Reads.Post goal.the-invariant-loop-k goal.the-decreases-loop-k Tie.handed_clauses
+Start = Lts.Start Tie.the-claims Reads.Pre Reads.Post goal.the-invariant-loop-k goal.the-decreases-loop-k
 
 abbrev After-is_within-kept : Type 0
-After-is_within-kept = Lts.After-is_within Tie.the-claims Reads.Pre Reads.Post goal.the-invariant-loop-k goal.the-decreases-loop-k Tie.handed_clauses
+After-is_within-kept = Lts.After-is_within Tie.the-claims Reads.Pre Reads.Post goal.the-invariant-loop-k goal.the-decreases-loop-k
 
 -- the test of the radius in place k
 abbrev test : List ℤ → Bool → ℕ → Bool

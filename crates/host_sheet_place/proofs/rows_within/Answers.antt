@@ -40,10 +40,6 @@ After-floor0 = Lts.After-floor02 Tie.the-claims Reads.Pre Reads.Post Tie.handed_
 abbrev After-area_rows-count : Type 0
 After-area_rows-count = Lts.After-area_rows Tie.the-claims Reads.Pre Reads.Post Tie.handed_clauses
 
--- what is read of the place
-abbrev start : After-outside_width-outside → Start
-start c = c.before.before.before.before.before
-
 limits : (c : Start) → PlaceLimits (number_at c.args.numbers.now)
 limits c = kept_limits c.args.numbers.now c.requires.numbers_len c.requires.numbers_value
 
@@ -83,19 +79,17 @@ count_is c =
 
 pub area_top-first-requires : goal.area_top-first-requires
 area_top-first-requires c =
-    let entry = start c.before in
-    let n = entry.args.numbers.now in
+    let n = c.args.numbers.now in
     let given = c.area_top-arg-1.given in
-    (rw (read_back n y_at c.area_top-arg-1.given) (top_near n (limits entry) c.area_top-arg-1.given), omega (arith, outside_small n (limits entry), outside_is c.before))
+    (rw (read_back n y_at c.area_top-arg-1.given) (top_near n (limits c.before.before.before.before.before.before) c.area_top-arg-1.given), omega (arith, outside_small n (limits c.before.before.before.before.before.before), outside_is c.before))
 
 pub area_rows-count-requires : goal.area_rows-count-requires
 area_rows-count-requires c =
-    let entry = start c.before.before.before.before.before in
-    let n = entry.args.numbers.now in
-    let sides = sides_small n (limits entry) in (
+    let n = c.args.numbers.now in
+    let sides = sides_small n (limits c.before.before.before.before.before.before.before.before.before.before) in (
       omega (arith, width_is c, sides.0),
       omega (arith, height_is c.before.before.before.before.before, sides.1),
-      omega (arith, outside_small n (limits entry), outside_is c.before.before.before.before.before),
+      omega (arith, outside_small n (limits c.before.before.before.before.before.before.before.before.before.before), outside_is c.before.before.before.before.before),
     )
 
 pub from_u32-requires : goal.from_u32-requires

@@ -21,16 +21,16 @@ use Rattle.host_sheet_record.proofs.holds_records.Goals as goal
 
 -- the facts known at these places
 abbrev Start : Type 0
-Start = Lts.Start Tie.the-claims Reads.Pre Reads.Post goal.the-invariant-loop-j goal.the-decreases-loop-j Tie.handed_clauses
+Start = Lts.Start Tie.the-claims Reads.Pre Reads.Post goal.the-invariant-loop-j goal.the-decreases-loop-j
 
 abbrev After-none_negative : Type 0
-After-none_negative = Lts.After-none_negative Tie.the-claims Reads.Pre Reads.Post goal.the-invariant-loop-j goal.the-decreases-loop-j Tie.handed_clauses
+After-none_negative = Lts.After-none_negative Tie.the-claims Reads.Pre Reads.Post goal.the-invariant-loop-j goal.the-decreases-loop-j
 
 abbrev After-least-used : Type 0
-After-least-used = Lts.After-least Tie.the-claims Reads.Pre Reads.Post goal.the-invariant-loop-j goal.the-decreases-loop-j Tie.handed_clauses
+After-least-used = Lts.After-least Tie.the-claims Reads.Pre Reads.Post goal.the-invariant-loop-j goal.the-decreases-loop-j
 
 abbrev After-is_layer : Type 0
-After-is_layer = Lts.After-is_layer Tie.the-claims Reads.Pre Reads.Post goal.the-invariant-loop-j goal.the-decreases-loop-j Tie.handed_clauses
+After-is_layer = Lts.After-is_layer Tie.the-claims Reads.Pre Reads.Post goal.the-invariant-loop-j goal.the-decreases-loop-j
 
 -- a place's test
 abbrev test : List ℤ → ℕ → Bool

@@ -9,7 +9,7 @@ use Rattle.host_sheet_record.proofs.is_layer.Goals as goal
 
 -- the facts known at these places
 abbrev After-is_figure : Type 0
-After-is_figure = Lts.After-is_figure Tie.the-claims Reads.Pre Reads.Post Tie.handed_clauses
+After-is_figure = Lts.After-is_figure Tie.the-claims Reads.Pre Reads.Post
 
 figure : (c : After-is_figure) → is_figure (take figure_length c.args.numbers.now) ≡ c.is_figure.result
 figure c = sym c.is_figure.ensures

@@ -47,13 +47,6 @@ After-in_order = Lts.After-in_order Tie.the-claims Reads.Pre Reads.Post goal.the
 held_row : (c : Start) → to_z w32 (of_z w32 c.args.y) ≡ c.args.y
 held_row c = let fits : SFits w32 c.args.y = search rules in to_z-of_z fits
 
--- the place that is looked at is one of the first
-abbrev walk : After-place_rows → At-loop-i
-walk c = c.before.before.before
-
-abbrev start : After-place_rows → Start
-start c = c.before.before.before.before.before
-
 abbrev place : After-place_rows → ℕ
 place c = c.loop-i.i - 1
 
@@ -74,9 +67,6 @@ found c =
     c.place_rows.ensures
     ∙ ap (λ (p : List ℤ). cond (place_kept p) (rows_found_cases.Kept (layer_rows (layer_of p))) rows_found_cases.Broken)
     (place_part c.args.numbers.now (place c))
-
-abbrev taken : After-in_order → After-place_rows
-taken c = c.before.before
 
 kept : (c : In-Kept)
     → (place_kept (place_numbers c.args.numbers.now (place c.before))
@@ -138,10 +128,9 @@ in_order-requires c =
 
 pub returns-then-not-in_order : goal.returns-then-not-in_order
 returns-then-not-in_order c =
-    let at = taken c.before in
-    let a = (start at).args in
-    overtaken_here a.numbers.now a.count a.layer a.y (place at) (walk at).loop.i (step at) (here at)
-    (ap (λ (r : LayerRows). no_rows_overtake r (rows_from a.numbers.now (walk at).loop.i (a.count - (walk at).loop.i)))
+    let a = c.args in
+    overtaken_here a.numbers.now a.count a.layer a.y (place c.before.before.before) c.loop-i.i (step c.before.before.before) (here c.before.before.before)
+    (ap (λ (r : LayerRows). no_rows_overtake r (rows_from a.numbers.now c.loop-i.i (a.count - c.loop-i.i)))
     (sym (kept c.before.before).1)
     ∙ sym c.in_order.ensures ∙ c.if-not-in_order.true)
 
@@ -150,24 +139,23 @@ loop-i-smaller c = omega arith
 
 pub loop-i-preserved : goal.loop-i-preserved
 loop-i-preserved c =
-    let at = taken c.before.before.before in
-    let a = (start at).args in
+    let a = c.args in
     let y = to_z w32 (of_z w32 a.y) in
-    let inv = (walk at).loop.inv in
+    let inv = c.loop-i.inv in
     let none = ap
-    (λ (r : LayerRows). no_rows_overtake r (rows_from a.numbers.now (walk at).loop.i (a.count - (walk at).loop.i)))
+    (λ (r : LayerRows). no_rows_overtake r (rows_from a.numbers.now c.loop-i.i (a.count - c.loop-i.i)))
     (sym (kept c.before.before.before.before).1)
     ∙ sym c.in_order.ensures ∙ c.if-not-in_order.false in
-    let next = one_more_lem a.numbers.now a.count a.layer y (place at) (walk at).loop.i (step at) (here at)
-    (walk at).loop.painted (walk at).loop.asked inv.1 (kept c.before.before.before.before).0 none in
-    let painted = c.and-painted.ensures ∙ ap (also_painted (walk at).loop.painted) (kept c.before.before.before.before).1 in
+    let next = one_more_lem a.numbers.now a.count a.layer y (place c.before.before.before.before.before) c.loop-i.i (step c.before.before.before.before.before) (here c.before.before.before.before.before)
+    c.loop-i.painted c.loop-i.asked c.loop-i.inv.1 (kept c.before.before.before.before).0 none in
+    let painted = c.and-painted.ensures ∙ ap (also_painted c.loop-i.painted) (kept c.before.before.before.before).1 in
     let asked = c.and-asked.ensures
-    ∙ ap (λ (r : LayerRows). asked_of (walk at).loop.asked r (place at) a.layer y) (kept c.before.before.before.before).1 in (
-      omega (arith, here at),
-      subst (λ (p : PaintedRows). WalkedTo a.numbers.now a.count a.layer y p c.and-asked.result (place at))
+    ∙ ap (λ (r : LayerRows). asked_of c.loop-i.asked r (place c.before.before.before.before.before) a.layer y) (kept c.before.before.before.before).1 in (
+      omega (arith, here c.before.before.before.before.before),
+      subst (λ (p : PaintedRows). WalkedTo a.numbers.now a.count a.layer y p c.and-asked.result (place c.before.before.before.before.before))
           (sym painted)
           (subst (λ (q : Asked). WalkedTo a.numbers.now a.count a.layer y
-          (also_painted (walk at).loop.painted (rows_at a.numbers.now (place at))) q (place at)) (sym asked) next),
+          (also_painted c.loop-i.painted (rows_at a.numbers.now (place c.before.before.before.before.before))) q (place c.before.before.before.before.before)) (sym asked) next),
     )
 
 pub returns : goal.returns

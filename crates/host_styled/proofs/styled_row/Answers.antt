@@ -19,16 +19,16 @@ use Rattle.host_styled.proofs.styled_row.Goals as goal
 
 -- the facts known at these places
 abbrev Start : Type 0
-Start = Lts.Start Tie.the-claims Reads.Pre Reads.Post Tie.handed_clauses
+Start = Lts.Start Tie.the-claims Reads.Pre Reads.Post
 
 abbrev Else-not-is_figure : Type 0
-Else-not-is_figure = Lts.Else1 Tie.the-claims Reads.Pre Reads.Post Tie.handed_clauses
+Else-not-is_figure = Lts.Else1 Tie.the-claims Reads.Pre Reads.Post
 
 abbrev Else-not-is_style : Type 0
-Else-not-is_style = Lts.Else2 Tie.the-claims Reads.Pre Reads.Post Tie.handed_clauses
+Else-not-is_style = Lts.Else2 Tie.the-claims Reads.Pre Reads.Post
 
 abbrev After-styled_row : Type 0
-After-styled_row = Lts.After-styled_row Tie.the-claims Reads.Pre Reads.Post Tie.handed_clauses
+After-styled_row = Lts.After-styled_row Tie.the-claims Reads.Pre Reads.Post
 
 -- the numbers are a figure, and a style
 is_one : (c : Else-not-is_figure) → is_figure c.args.figure.now ≡ true

@@ -17,10 +17,10 @@ use Rattle.sheet_call_numbers.proofs.encodes_calls.Goals as goal
 
 -- the facts known at these places
 abbrev Else-numbers-ne0 : Type 0
-Else-numbers-ne0 = Lts.Else1 Tie.the-claims Reads.Pre Reads.Post goal.the-invariant-loop-j goal.the-decreases-loop-j Tie.handed_clauses
+Else-numbers-ne0 = Lts.Else1 Tie.the-claims Reads.Pre Reads.Post goal.the-invariant-loop-j goal.the-decreases-loop-j
 
 abbrev After-is_call : Type 0
-After-is_call = Lts.After-is_call Tie.the-claims Reads.Pre Reads.Post goal.the-invariant-loop-j goal.the-decreases-loop-j Tie.handed_clauses
+After-is_call = Lts.After-is_call Tie.the-claims Reads.Pre Reads.Post goal.the-invariant-loop-j goal.the-decreases-loop-j
 
 -- the length is a multiple of a call's
 encodes : (c : Else-numbers-ne0) → encodes_calls c.args.numbers.now ≡ are_calls c.args.numbers.now 0

@@ -16,19 +16,19 @@ use Rattle.sheet_call_numbers.proofs.is_call.Goals as goal
 
 -- the facts known at these places
 abbrev Start : Type 0
-Start = Lts.Start Tie.the-claims Reads.Pre Reads.Post Tie.handed_clauses
+Start = Lts.Start Tie.the-claims Reads.Pre Reads.Post
 
 abbrev After-is_within : Type 0
-After-is_within = Lts.After-is_within Tie.the-claims Reads.Pre Reads.Post Tie.handed_clauses
+After-is_within = Lts.After-is_within Tie.the-claims Reads.Pre Reads.Post
 
 abbrev Else-not-is_within : Type 0
-Else-not-is_within = Lts.Else1 Tie.the-claims Reads.Pre Reads.Post Tie.handed_clauses
+Else-not-is_within = Lts.Else1 Tie.the-claims Reads.Pre Reads.Post
 
 abbrev After-t4-1 : Type 0
-After-t4-1 = Lts.After-if22 Tie.the-claims Reads.Pre Reads.Post Tie.handed_clauses
+After-t4-1 = Lts.After-if22 Tie.the-claims Reads.Pre Reads.Post
 
 abbrev After-is_figure : Type 0
-After-is_figure = Lts.After-is_figure Tie.the-claims Reads.Pre Reads.Post Tie.handed_clauses
+After-is_figure = Lts.After-is_figure Tie.the-claims Reads.Pre Reads.Post
 
 kind : (c : After-is_within) → within add_kind remove_kind (number_at c.args.numbers.now call_kind_at)
     ≡ c.is_within.result

@@ -6,6 +6,7 @@ use mathlib.Core.Bool.{Bool, true}
 use mathlib.Core.List.{List, map}
 use Prim.Native.Nat.{ℕ, ◌≤◌}
 use native.Mathlib.Omega.{arith}
+use borrow.Author.Tests.{not-true, not-false}
 use lib.ListN.{length, take, get_or}
 use lib.Signed.{le_z}
 use mir.Syntax.{w32}
@@ -53,7 +54,7 @@ start c = c.before.before.before.before
 
 rules : (c : Else-not-tested) → keeps_rules drawing c.args.size.width c.args.size.height
     (layers_of c.args.count c.args.places) ≡ true
-rules c = sym c.test_rules-tested.ensures.kept_value ∙ c.if-not-tested.false
+rules c = sym c.test_rules-tested.ensures.kept_value ∙ not-false _ c.if-not-tested.false
 
 few : (c : Else-not-tested) → c.args.count ≤ 16
 few c =
@@ -73,15 +74,15 @@ abbrev kept : After-own-1 → Else-not-tested
 kept c = c.before.before.before.before
 
 abbrev layer : After-own-1 → Layer
-layer c = get_or (start c.before.before.before.before).args.places c.args.layer blank_layer
+layer c = get_or c.args.places c.args.layer blank_layer
 
 abbrev own : After-own-1 → LayerRows
 own c = get_or c.test_rules-tested.result.rows c.args.layer no_rows
 
 found : (c : After-own-1)
-    → take (start c.before.before.before.before).args.count c.test_rules-tested.result.rows
-    ≡ map layer_rows (take (start c.before.before.before.before).args.count (start c.before.before.before.before).args.places)
-found c = c.test_rules-tested.ensures.rows_value (c.if-not-tested.false)
+    → take c.args.count c.test_rules-tested.result.rows
+    ≡ map layer_rows (take c.args.count c.args.places)
+found c = c.test_rules-tested.ensures.rows_value (not-false _ c.if-not-tested.false)
 
 own_is : (c : After-own-1) → own c ≡ layer_rows (layer c)
 own_is c =
@@ -107,8 +108,8 @@ by_end c test =
 -- whether an earlier layer owes the row is what was asked
 owed : (c : After-some_owes)
     → some_rows_owe
-    (map layer_rows (take (start c.before.before.before.before.before.before.before.before.before).args.layer
-    (start c.before.before.before.before.before.before.before.before.before).args.places))
+    (map layer_rows (take c.args.layer
+    c.args.places))
     (layer_rows (layer c.before.before.before.before.before)).next
     ≡ c.some_owes.result
 owed c =
@@ -123,7 +124,7 @@ owed c =
 pub returns-then-not-tested : goal.returns-then-not-tested
 returns-then-not-tested c =
     let a = c.args in record { by_index = λ canvas long. sym (paint_broken a.size.width a.size.height a.count a.places (sixteen c.before.before.before.before) a.layer canvas
-          (sym c.test_rules-tested.ensures.kept_value ∙ c.if-not-tested.true)); next_row = tt }
+          (sym c.test_rules-tested.ensures.kept_value ∙ not-true _ c.if-not-tested.true)); next_row = tt }
 
 -- 8
 pub returns-in_default : goal.returns-in_default

@@ -30,10 +30,6 @@ Start = Lts.Start Tie.the-claims Reads.Pre Reads.Post Tie.handed_clauses
 abbrev After-sub-inward : Type 0
 After-sub-inward = Lts.After-sub Tie.the-claims Reads.Pre Reads.Post Tie.handed_clauses
 
--- ---- the two offsets
-abbrev start : After-sub-inward → Start
-start c = c.before.before.before.before.before
-
 outward_is : (c : After-sub-inward) → c.from_u32-outward.result ≡ pos (outside_stroke_width c.args.style)
 outward_is c =
     c.from_u32-outward.ensures.is ∙ ap pos c.outside_stroke_width-outside.ensures
@@ -90,13 +86,12 @@ sub-inward-requires c =
 
 pub ellipse_row_at-requires : goal.ellipse_row_at-requires
 ellipse_row_at-requires c =
-    let begin = start c.before in
-    let small = begin.pre.1.0 in
-    let near = begin.pre.1.1 in record { own_rectangle = subst OwnFigure c.in-Ellipse.is begin.pre.0; outside_le_wide_offset = (
+    let small = c.requires.stroke_width_bound in
+    let near = c.requires.near in record { own_rectangle = subst OwnFigure c.in-Ellipse.is c.requires.own_figure; outside_le_wide_offset = (
           omega
-              (arith, c.outside_stroke_width-outside.ensures, outside_within_stroke begin.args.style),
+              (arith, c.outside_stroke_width-outside.ensures, outside_within_stroke c.args.style),
           omega
-              (arith, c.inside_stroke_width-inside.ensures, inside_within_stroke begin.args.style),
+              (arith, c.inside_stroke_width-inside.ensures, inside_within_stroke c.args.style),
         ); near = rw (to_z-of_z near.fits) near }
 
 pub crate_row_at-requires : goal.crate_row_at-requires

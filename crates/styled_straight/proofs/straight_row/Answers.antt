@@ -77,45 +77,38 @@ sub-requires c =
 
 pub offset-inner-requires : goal.offset-inner-requires
 offset-inner-requires c =
-    let entry = start c.before.before in
-    let small = entry.pre.1.0 in record { bounded = area_bounded _ (own_area _ entry.pre.0.rectangle); near = omega (
+    let small = c.requires.outside_le_wide_offset in record { bounded = area_bounded _ (own_area _ c.requires.own_box.rectangle); near = omega (
         arith,
         int,
         opposite c,
-        positive_of_opposite (pos entry.args.inside),
+        positive_of_opposite (pos c.args.inside),
         negative_of_opposite
-            (pos entry.args.inside),
+            (pos c.args.inside),
       ) }
 
 pub overflow_add-upper : goal.overflow_add-upper
 overflow_add-upper c =
-    let begin = start c.before.before.before in
-    let small = begin.pre.1.0.0 in
-    let left = begin.pre.0.corners.top_left.height in
-    let right = begin.pre.0.corners.top_right.height in
+    let small = c.requires.outside_le_wide_offset.0 in
+    let left = c.requires.own_box.corners.top_left.height in
+    let right = c.requires.own_box.corners.top_right.height in
     record { fits = omega (arith, c.most-upper.ensures) }
 
 pub overflow_add-lower : goal.overflow_add-lower
 overflow_add-lower c =
-    let begin = start c.before.before.before in
-    let small = begin.pre.1.0.0 in
-    let left = begin.pre.0.corners.bottom_left.height in
-    let right = begin.pre.0.corners.bottom_right.height in
+    let small = c.requires.outside_le_wide_offset.0 in
+    let left = c.requires.own_box.corners.bottom_left.height in
+    let right = c.requires.own_box.corners.bottom_right.height in
     record { fits = omega (arith, c.most-lower.ensures) }
 
 pub row_past-requires : goal.row_past-requires
 row_past-requires c =
-    let entry = start c.before.before.before.before.before in
-    let own = entry.pre.0.rectangle in
-    let small = entry.pre.1.0 in
-    let near = entry.pre.1.1 in
-    let inside = entry.args.inside in record { area_rectangle = subst AreaRectangle (sym (area_is c.before.before.before.before.before))
-          (offset_area entry.args.b.rectangle (pos entry.args.outside) own (omega (arith, int))); area_rectangle_2 = subst AreaRectangle (sym (inner_is c.before.before))
-            (offset_area entry.args.b.rectangle (neg_ℤ (pos inside)) own
+    let own = c.requires.own_box.rectangle in
+    let small = c.requires.outside_le_wide_offset in
+    let near = c.requires.near in
+    let inside = c.args.inside in record { area_rectangle = subst AreaRectangle (sym (area_is c.before.before.before.before.before))
+          (offset_area c.args.b.rectangle (pos c.args.outside) own (omega (arith, int))); area_rectangle_2 = subst AreaRectangle (sym (inner_is c.before.before))
+            (offset_area c.args.b.rectangle (neg_ℤ (pos inside)) own
             (omega (arith, int, positive_of_opposite (pos inside), negative_of_opposite (pos inside)))); near = rw (to_z-of_z near.fits) near }
-
-abbrev entry : After-row_past → Start
-entry c = start c.before.before.before.before.before.before
 
 -- the box's own corners reach as far as was found
 own_reach : (c : After-row_past) → Reach c.args.b.corners

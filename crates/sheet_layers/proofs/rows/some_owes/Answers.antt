@@ -17,10 +17,10 @@ use Rattle.sheet_layers.proofs.rows.some_owes.Goals as goal
 
 -- the facts known at these places
 abbrev Start : Type 0
-Start = Lts.Start Tie.the-claims Reads.Pre Reads.Post goal.the-invariant-loop-i goal.the-decreases-loop-i Tie.handed_clauses
+Start = Lts.Start Tie.the-claims Reads.Pre Reads.Post goal.the-invariant-loop-i goal.the-decreases-loop-i
 
 abbrev After-owes : Type 0
-After-owes = Lts.After-owes Tie.the-claims Reads.Pre Reads.Post goal.the-invariant-loop-i goal.the-decreases-loop-i Tie.handed_clauses
+After-owes = Lts.After-owes Tie.the-claims Reads.Pre Reads.Post goal.the-invariant-loop-i goal.the-decreases-loop-i
 
 -- the row as it is held
 held_row : (c : Start) {t : Bool} → some_rows_owe (take c.args.layers c.args.rows) (to_z w32 (of_z w32 c.args.y))
