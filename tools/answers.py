@@ -123,6 +123,8 @@ class Function:
         f = step_name(rest[0])
         if f == "pre":
             rest[0] = f = "requires"
+        if f == "fits":
+            rest[0] = f = "ranges"
         if f in ("args", "ranges", "requires", "well-formed", "good"):
             if f == "requires" and self.pre and len(rest) > 1:
                 c = self.clause(self.pre, rest[1:])
@@ -370,7 +372,7 @@ def resolve_from(self, base, cur, place, fields):
     if not rest:
         return ("place", at, base, cur)
     f = step_name(rest[0])
-    if f in ("args", "ranges", "requires", "well-formed", "good", "pre"):
+    if f in ("args", "ranges", "requires", "well-formed", "good", "pre", "fits"):
         return self.resolve(base, at, rest)
     found = [p for k in (0, 1) for w in (at, cur) for p in self.up(w) if step_name(self.places[p][2][k]) == f]
     for p in found[:1]:
@@ -559,7 +561,16 @@ def turn(crate, folder, path, d, muts):
                 return f"{m[2]}.{m[3]}"
             return m[0]
         t = re.sub(r"not-(true|false) _ ([\w.'-]+)\.(true|false)(?:-raw)?(?![\w-])", plain_test, t)
-        t = re.sub(r"\((?:" + "|".join(map(re.escape, funs)) + r") (\w+)(?:\.before)*\)\.(args|ranges)\.", r"\1.\2.", t) if funs else t
+        if funs:
+            # what a chain of such functions leads to
+            def led(m):
+                if m[2] not in e or e[m[2]]["kind"] != "place":
+                    return m[0]
+                fields = re.findall(r"\.(«[^»]*»|[\w'⁰-⁹₀-₉-]+)", m[3])
+                r = fn.resolve_from(m[2], e[m[2]]["cur"], funs[m[1]], fields)
+                return r[1] if r[0] == "text" else r[3] if r[0] == "step" and r[3] else m[0]
+            one = re.compile(r"\((" + "|".join(map(re.escape, funs)) + r") (\w+)(?:\.before)*\)((?:\.before)*\.(?!before)(?:«[^»]*»|[\w'⁰-⁹₀-₉-]+)" + PATH + "*)")
+            t = one.sub(led, t)
         # names of places that nothing uses now
         while True:
             for m in re.finditer(r"let (\w[\w'-]*) = (?:(\w[\w'-]*)\s+)?\w[\w'-]*(?:\.before)* in\s*", t):

@@ -58,7 +58,7 @@ inner_place : (c : In-At-place_of)
     → Placed c.args.inner.top_left.y c.args.inner.size.height c.args.y
     (At c.in-At-place_of.inner_dy)
 inner_place c =
-    placed_told _ _ _ (start c.before.before.before.before.before).requires.1.0.at.y.fits (start c.before.before.before.before.before).requires.1.1.fits
+    placed_told _ _ _ c.requires.area_rectangle_2.at.y.fits c.requires.near.fits
     c.place_of-2.ensures c.in-At-place_of.is
 
 run_is : (c : After-run_between-run) → c.run_between-run.result ≡ whole_run (start (outer c.before.before.before.before.before.before)).args.area
@@ -94,7 +94,7 @@ is_past-requires-2 c = (inner_place c.before.before.before).1
 
 pub run_between-run-requires : goal.run_between-run-requires
 run_between-run-requires c =
-    let area = area_bounded _ (start c.before.before.before.before.before.before.before.before.before.before.before).requires.0 in record { near = rw (to_z-of_z area.at.x.fits) area.at.x; width_le_wide_side = area.size.width; left_le_width = (omega arith, omega arith) }
+    let area = area_bounded _ c.requires.area_rectangle in record { near = rw (to_z-of_z area.at.x.fits) area.at.x; width_le_wide_side = area.size.width; left_le_width = (omega arith, omega arith) }
 
 pub filled_between-requires : goal.filled_between-requires
 filled_between-requires c =

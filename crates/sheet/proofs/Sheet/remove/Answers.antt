@@ -67,7 +67,7 @@ told : (c : In-Passed)
     → RemoveAccepted (sheet c.before).width (sheet c.before).height (sheet c.before).count (sheet c.before).layers (sixteen (entry c.before))
     c.args.layer c.args.background.now c.args.canvas.now
 told c =
-    let a = (entry c.before).args in
+    let a = c.args in
     let s = sheet c.before in
     removed_accepted s.width s.height s.count s.layers (sixteen (entry c.before)) a.layer a.background.now
     a.canvas.now (passed c)
