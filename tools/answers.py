@@ -197,7 +197,7 @@ class Function:
                     self.say(f"ensures of {self.places[p][0]}: {rest}")
                     return rest
                 return rest[: j + 1] + n
-            if f == "new" and callee and j + 1 < len(rest) and rest[j + 1].isdigit():
+            if f in ("new", "auto") and callee and j + 1 < len(rest) and rest[j + 1].isdigit():
                 names, k, i = self.d["params"].get(callee) or [], 0, j + 1
                 while i < len(rest) and rest[i] == "1":
                     k, i = k + 1, i + 1
@@ -291,7 +291,8 @@ def tokens_env(fn, body, env, funs):
             scan = m.start() + 1
             continue
         if m[4] and not m[5] and re.search(r"(?<![\w'-])let\s+$", text[: m.start()]):
-            env.pop(m[4], None)
+            if m[4] not in fn.preset:
+                env.pop(m[4], None)
             continue
         f, arg, befores, var, path = m[1], m[2], m[3], m[4], m[5] or ""
         fields = re.findall(r"\.(«[^»]*»|[\w'⁰-⁹₀-₉-]+)", path)
@@ -549,6 +550,11 @@ def turn(crate, folder, path, d, muts):
         return t
     def rewrite(t, env, last=False):
         e = {v: {"kind": "place", "place": i, "base": v, "cur": fn.deepest(i) if last else i} for v, i in env.items()}
+        fn.preset = set()
+        for m in re.finditer(r"let (\w[\w'-]*) = (\w[\w'-]*) \((\w[\w'-]*) (\w[\w'-]*)(?:\.before)*\) in", t):
+            if m[2] in funs and m[3] in funs and m[4] in e:
+                e[m[1]] = {"kind": "place", "place": funs[m[2]], "base": m[4], "cur": e[m[4]]["cur"]}
+                fn.preset.add(m[1])
         fn.views = {v: not last and fn.typed[i] for v, i in env.items()}
         t = tokens_env(fn, t, e, funs)
         # the test of `if !f(..)` is known of the call itself
@@ -560,7 +566,7 @@ def turn(crate, folder, path, d, muts):
             if n and any(n == k or n.startswith(k + "-") for k in called):
                 return f"{m[2]}.{m[3]}"
             return m[0]
-        t = re.sub(r"not-(true|false) _ ([\w.'-]+)\.(true|false)(?:-raw)?(?![\w-])", plain_test, t)
+        t = re.sub(r"not-(true|false) _\s+([\w.'-]+)\.(true|false)(?:-raw)?(?![\w-])", plain_test, t)
         if funs:
             # what a chain of such functions leads to
             def led(m):
@@ -573,8 +579,8 @@ def turn(crate, folder, path, d, muts):
             t = one.sub(led, t)
         # names of places that nothing uses now
         while True:
-            for m in re.finditer(r"let (\w[\w'-]*) = (?:(\w[\w'-]*)\s+)?\w[\w'-]*(?:\.before)* in\s*", t):
-                if m[2] and m[2] not in funs:
+            for m in re.finditer(r"let (\w[\w'-]*) = (?:(\w[\w'-]*)\s+)?(?:\((\w[\w'-]*) )?\w[\w'-]*(?:\.before)*\)? in\s*", t):
+                if m[2] and m[2] not in funs or m[3] and m[3] not in funs:
                     continue
                 if not used(m[1], t[m.end():]):
                     t = t[: m.start()] + t[m.end():]
