@@ -273,7 +273,7 @@ def tokens_env(fn, body, env, funs):
     """Rewrites paths in a text. env: variable -> place index; funs: function -> result place."""
     out, at = [], 0
     steps = {}          # let-bound steps: name -> (base text, place cur, step place, rest)
-    pat = re.compile(r"(?<![\w'.»-])(?:\((\w[\w'-]*) (\w[\w'-]*)((?:\.before)*)\)|(\w[\w'-]*))(" + PATH + r"*)")
+    pat = re.compile(r"(?<![\w'.»\u0001-])(?:\((\w[\w'-]*) (\w[\w'-]*)((?:\.before)*)\)|(\w[\w'-]*))(" + PATH + r"*)")
     lets = re.compile(r"let (\w[\w'-]*) = $")
     pos = 0
     text = body
@@ -551,12 +551,47 @@ def turn(crate, folder, path, d, muts):
     def rewrite(t, env, last=False):
         e = {v: {"kind": "place", "place": i, "base": v, "cur": fn.deepest(i) if last else i} for v, i in env.items()}
         fn.preset = set()
-        for m in re.finditer(r"let (\w[\w'-]*) = (\w[\w'-]*) \((\w[\w'-]*) (\w[\w'-]*)(?:\.before)*\) in", t):
-            if m[2] in funs and m[3] in funs and m[4] in e:
-                e[m[1]] = {"kind": "place", "place": funs[m[2]], "base": m[4], "cur": e[m[4]]["cur"]}
+        def applied(i):
+            """F (G c.before) at i, of functions from a place to a place: the first function, the variable, the end."""
+            m = re.compile(r"(\w[\w'-]*) ").match(t, i)
+            if not m or m[1] not in funs:
+                return None
+            j = m.end()
+            if t.startswith("(", j):
+                inner = applied(j + 1)
+                if not inner or not t.startswith(")", inner[2]):
+                    return None
+                return m[1], inner[1], inner[2] + 1
+            v = re.compile(r"(\w[\w'-]*)(?:\.before)*(?![\w.'-])").match(t, j)
+            return (m[1], v[1], v.end()) if v and v[1] in e else None
+        for m in re.finditer(r"let (\w[\w'-]*) =\s+", t):
+            g = applied(m.end())
+            if g and re.match(r"\s+in\b", t[g[2]:]):
+                e[m[1]] = {"kind": "place", "place": funs[g[0]], "base": g[1], "cur": e[g[1]]["cur"]}
                 fn.preset.add(m[1])
+        # a field of what such functions lead to
+        at = 0
+        while funs:
+            i = t.find("(", at)
+            if i < 0:
+                break
+            at = i + 1
+            g = applied(i + 1)
+            if not g or not t.startswith(")", g[2]):
+                continue
+            m = re.compile(PATH + "+").match(t, g[2] + 1)
+            if not m or e[g[1]]["kind"] != "place":
+                continue
+            fields = re.findall(r"\.(«[^»]*»|[\w'⁰-⁹₀-₉-]+)", m[0])
+            if fields[-1] == "before":
+                continue
+            r = fn.resolve_from(e[g[1]]["base"], e[g[1]]["cur"], funs[g[0]], fields)
+            x = r[1] if r[0] == "text" else r[3] if r[0] == "step" else None
+            if x:
+                # marked, so that it is not turned once more
+                t = t[:i] + "\u0001" + x + t[m.end():]
         fn.views = {v: not last and fn.typed[i] for v, i in env.items()}
-        t = tokens_env(fn, t, e, funs)
+        t = tokens_env(fn, t, e, funs).replace("\u0001", "")
         # the test of `if !f(..)` is known of the call itself
         called = {norm(p[2][1]) for p in fn.places if p[3]} | {norm(p[2][0]) for p in fn.places if p[3]}
         def plain_test(m):
@@ -579,8 +614,8 @@ def turn(crate, folder, path, d, muts):
             t = one.sub(led, t)
         # names of places that nothing uses now
         while True:
-            for m in re.finditer(r"let (\w[\w'-]*) = (?:(\w[\w'-]*)\s+)?(?:\((\w[\w'-]*) )?\w[\w'-]*(?:\.before)*\)? in\s*", t):
-                if m[2] and m[2] not in funs or m[3] and m[3] not in funs:
+            for m in re.finditer(r"let (\w[\w'-]*) = ((?:\w[\w'-]* \(?)*)\w[\w'-]*(?:\.before)*\)* in\s*", t):
+                if any(x not in funs for x in re.findall(r"\w[\w'-]*", m[2])):
                     continue
                 if not used(m[1], t[m.end():]):
                     t = t[: m.start()] + t[m.end():]

@@ -61,11 +61,10 @@ inner_place c =
     placed_told _ _ _ c.requires.area_rectangle_2.at.y.fits c.requires.near.fits
     c.place_of-2.ensures c.in-At-place_of.is
 
-run_is : (c : After-run_between-run) → c.run_between-run.result ≡ whole_run (start (outer c.before.before.before.before.before.before)).args.area
+run_is : (c : After-run_between-run) → c.run_between-run.result ≡ whole_run c.args.area
 run_is c =
-    let entry = start (outer c.before.before.before.before.before.before) in
     c.run_between-run.ensures
-    ∙ (λ i. run_between (to_z-of_z entry.pre.0.at.x.fits i) entry.args.area.size.width
+    ∙ (λ i. run_between (to_z-of_z c.requires.area_rectangle.at.x.fits i) c.args.area.size.width
     (record { left = 0; right = 0 }))
 
 -- a row past the corners has straight sides

@@ -86,7 +86,7 @@ ready c =
     record {
       within = kept_layer s.width s.height s.count s.layers long (told c).rules;
       rows_are = λ i h.
-          rows_at s.count i h c.test_rules-tested.result.rows s.layers (c.test_rules-tested.ensures.rows_value (c.test_rules-tested.ensures.kept_value ∙ (told c).rules))
+          rows_at s.count i h tested.result.rows s.layers (tested.ensures.1 (tested.ensures.0 ∙ (told c).rules))
           (omega (arith, few c));
     }
 

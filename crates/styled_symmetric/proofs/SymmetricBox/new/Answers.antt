@@ -26,7 +26,7 @@ border_is : (c : In-At)
     c.args.b.inner.top_left.y (At c.in-At.border)
 border_is c =
     let ready = c.requires in
-    placed_told _ _ _ c.requires.area.at.y.fits c.requires.fill.at.y.fits c.place_of.ensures
+    placed_told _ _ _ ready.area.at.y.fits ready.fill.at.y.fits c.place_of.ensures
     c.in-At.is
 
 border_small : (c : In-At) → c.in-At.border ≤ wide_stroke_side
