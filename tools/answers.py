@@ -566,8 +566,15 @@ def turn(crate, folder, path, d, muts):
             return (m[1], v[1], v.end()) if v and v[1] in e else None
         for m in re.finditer(r"let (\w[\w'-]*) =\s+", t):
             g = applied(m.end())
+            v = re.compile(r"(\w[\w'-]*)((?:\.before)+)\s+in\b").match(t, m.end())
+            if v and v[1] in e and e[v[1]]["kind"] == "place":
+                k = e[v[1]]["place"]
+                for _ in re.findall("before", v[2]):
+                    k = fn.parent[k] if fn.parent[k] is not None else k
+                e[m[1]] = {"kind": "place", "place": k, "base": e[v[1]]["base"], "cur": e[v[1]]["cur"]}
+                fn.preset.add(m[1])
             if g and re.match(r"\s+in\b", t[g[2]:]):
-                e[m[1]] = {"kind": "place", "place": funs[g[0]], "base": g[1], "cur": e[g[1]]["cur"]}
+                e[m[1]] = {"kind": "place", "place": funs[g[0]], "base": e[g[1]]["base"], "cur": e[g[1]]["cur"]}
                 fn.preset.add(m[1])
         # a field of what such functions lead to
         at = 0

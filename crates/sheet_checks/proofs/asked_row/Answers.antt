@@ -109,7 +109,7 @@ owed c =
     let i = c.args.layer in
     let rows = c.test_rules-tested.result.rows in
     sym (c.some_owes.ensures
-    ∙ ap₂ some_rows_owe (rows_before a.count i c.if-count-layer.false c.test_rules-tested.result.rows a.places (found c.before.before.before.before.before))
+    ∙ ap₂ some_rows_owe (rows_before a.count i c.if-count-layer.false rows a.places (found c.before.before.before.before.before))
     (to_z-of_z (own_fits c.before.before.before.before.before).next ∙ ap (λ (r : LayerRows). r.next) (own_is c.before.before.before.before.before)))
 
 -- 7

@@ -84,11 +84,11 @@ returns c =
       λ i. record { rectangle = b.area; corners = stroke i },
       λ i. record { rectangle = b.inner; corners = fill i },
       record {
-        area = c.requires.area;
-        inner_at = c.requires.fill.at;
+        area = ready.area;
+        inner_at = ready.fill.at;
         inner_size = inner_small c.before.before.before.before.before.before.before.before.before.before.before.before.before.before;
-        corner = c.requires.stroke.top_left;
-        inner_corner = c.requires.fill.ready.top_left;
+        corner = ready.stroke.top_left;
+        inner_corner = ready.fill.ready.top_left;
         apart = c.if-inner_size-inner_radius.false;
         above = border.0;
         middle = omega (arith, c.if-inner_size-border.false);
