@@ -294,6 +294,9 @@ def tokens_env(fn, body, env, funs):
             if m[4] not in fn.preset:
                 env.pop(m[4], None)
             continue
+        if m[4] and not m[5] and re.match(r"\s+=\s", text[m.end():]) and re.search(r"[{;]\s*$", text[: m.start()]):
+            # a field of a record
+            continue
         f, arg, befores, var, path = m[1], m[2], m[3], m[4], m[5] or ""
         fields = re.findall(r"\.(«[^»]*»|[\w'⁰-⁹₀-₉-]+)", path)
         fields = [x.strip("«»") if x.startswith("«") else x for x in fields]
