@@ -25,14 +25,13 @@ IN_CRATES = {
     "host_sheet_record": {"moved_down": "moved_down_lem"},
     "host_sheet_rules": {"one_more": "one_more_lem"},
     "netpbm_raster": {"one_more": "one_more_lem"},
-    "host_records": {"read_back": "read_back_lem"},
     "sheet_calls": {"none_left": "none_left_lem"},
 }
 
 
 def special(path, text):
     """The names of a file that turn otherwise than by the rule."""
-    names = {"nextRow": "next_row_at", "run-from": "run_from_lem"}
+    names = {"nextRow": "next_row_of", "run-from": "run_from_lem"}
     if "Quadrants.{" in text or path.endswith("/Quadrants.antt"):
         names |= QUADRANTS
     crate = os.path.relpath(path, os.path.join(TOP, "crates")).split(os.sep)[0]

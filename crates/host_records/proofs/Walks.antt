@@ -17,14 +17,14 @@ use mir.Facts.{to_z-of_z}
 use Rattle.host_records.specs.RecordNumbers.{number_at, list_from, all_from, none_negative, size_of}
 
 -- a number read from the list is the number that the list holds
-pub read_back_lem : (numbers : List ℤ) (k : ℕ) → mag (number_at numbers k) < 2 ^ hbits w32
+pub read_back : (numbers : List ℤ) (k : ℕ) → mag (number_at numbers k) < 2 ^ hbits w32
     → to_z w32 (of_z w32 (number_at numbers k)) ≡ number_at numbers k
-read_back_lem numbers k small = to_z-of_z {w = w32} (sfits_of {w = w32} {z = number_at numbers k} small)
+read_back numbers k small = to_z-of_z {w = w32} (sfits_of {w = w32} {z = number_at numbers k} small)
 
 pub size_read : (numbers : List ℤ) (k m : ℕ) → mag (number_at numbers k) < 2 ^ hbits w32 → mag (number_at numbers m) < 2 ^ hbits w32
     → size_of (to_z w32 (of_z w32 (number_at numbers k))) (to_z w32 (of_z w32 (number_at numbers m)))
     ≡ size_of (number_at numbers k) (number_at numbers m)
-size_read numbers k m a b i = size_of (read_back_lem numbers k a i) (read_back_lem numbers m b i)
+size_read numbers k m a b i = size_of (read_back numbers k a i) (read_back numbers m b i)
 
 module _ (numbers : List ℤ) (i : ℕ) where
   pub none_negative_here : i < length numbers

@@ -24,7 +24,7 @@ use Rattle.drawing.specs.Drawing.{styled_figure}
 use Rattle.host_sheet_record.specs.SheetRecord.{next_row_at, place_at, sheet_of, row_painted}
 use Rattle.host_sheet_record.proofs.Parts.{sixteen}
 use Rattle.host_sheet_record.proofs.ReadBack.{layer_in_place}
-use Rattle.host_sheet.specs.Sheets.{add_of, next_row_at, with_painted}
+use Rattle.host_sheet.specs.Sheets.{add_of, next_row_of, with_painted}
 
 pub added_place : (numbers figure style : List ℤ) → sheet_answer (sheet_of numbers) [] (add_of figure style) ≡ Passed
     → (sheet_of numbers).count < max_layers
@@ -49,7 +49,7 @@ painted_few numbers i canvas e =
 
 -- a painted layer's next row is the one below
 pub painted_next : (numbers : List ℤ) (i : ℕ) → i < max_layers
-    → next_row_at (carried_out_sheet (sheet_of numbers) (paint i)) i ≡ (painted_layer (get_or (sheet_of numbers).layers i blank_layer)).next_row
+    → next_row_of (carried_out_sheet (sheet_of numbers) (paint i)) i ≡ (painted_layer (get_or (sheet_of numbers).layers i blank_layer)).next_row
 unfolding carried_out_sheet
 painted_next numbers i place =
     ap (λ (l : Layer). l.next_row)

@@ -27,7 +27,7 @@ use Rattle.host_sheet_record.specs.SheetRecord.{style_at, next_row_at, count_at,
 use Rattle.host_sheet_record.proofs.Parts.{sheet_length_lem, sixteen, records_of_few, count_of_records}
 use Rattle.host_sheet_record.proofs.ReadBack.{row_read_back, layer_read_back}
 use Rattle.host_sheet_record.proofs.Removed.{removed_long, removed_read_back}
-use Rattle.host_sheet.specs.Sheets.{unused_places, opened_numbers, next_row_at, add_of, add_numbers, paint_numbers, remove_numbers}
+use Rattle.host_sheet.specs.Sheets.{unused_places, opened_numbers, next_row_of, add_of, add_numbers, paint_numbers, remove_numbers}
 use Rattle.host_sheet.specs.Sheets.{OpenReadsBack, AddReadsBack, PaintReadsBack, RemoveReadsBack}
 use Rattle.host_sheet.proofs.Accepted.{added_place, painted_place, painted_few, painted_next, removed_within, removed_few}
 
@@ -101,7 +101,7 @@ add_reads_back numbers figure style all = by (sheet_answer (sheet_of numbers) []
         let place = added_place numbers figure style e in
         let long = sheet_length_lem numbers is in
         let records = records_of_few numbers (omega (arith, place)) in
-        let row : next_row_at (carried_out_sheet (sheet_of numbers) (add_of figure style)) (sheet_of numbers).count
+        let row : next_row_of (carried_out_sheet (sheet_of numbers) (add_of figure style)) (sheet_of numbers).count
         ≡ (added_layer (styled_figure (figure_of figure) (style_of style))).next_row =
         ap (λ (l : Layer). l.next_row)
         (get_or-set_same (sheet_of numbers).layers (sheet_of numbers).count

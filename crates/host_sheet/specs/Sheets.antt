@@ -38,8 +38,8 @@ abbrev pub numbers_after : Bool → Checked → List ℤ → List ℤ → List �
 numbers_after are answer before after = if_record are before (keeping answer before after)
 
 -- the next row of a layer
-abbrev pub next_row_at : Sheet → ℕ → ℤ
-next_row_at s i = (get_or s.layers i blank_layer).next_row
+abbrev pub next_row_of : Sheet → ℕ → ℤ
+next_row_of s i = (get_or s.layers i blank_layer).next_row
 
 -- the call that adds the figure and the style that the numbers are
 abbrev pub add_of : List ℤ → List ℤ → Call StyledFigure
@@ -52,7 +52,7 @@ are_records sheet figure style = is_sheet sheet && (is_figure figure && is_style
 -- `Sheet::add`: the layer's numbers as given and its next row in the first unused place, and the new count
 abbrev pub with_added : List ℤ → List ℤ → List ℤ → Sheet → List ℤ
 with_added numbers figure style after =
-    set (layer_put numbers (sheet_of numbers).count figure style (next_row_at after (sheet_of numbers).count)) count_at
+    set (layer_put numbers (sheet_of numbers).count figure style (next_row_of after (sheet_of numbers).count)) count_at
     (pos after.count)
 
 -- what the host is told of it: 1, 2, 3, 5, 7, 9, or done
@@ -67,7 +67,7 @@ add_numbers sheet figure style =
 
 -- `Sheet::paint`: the layer's new next row, and the canvas
 abbrev pub with_painted : List ℤ → ℕ → Sheet → List ℤ
-with_painted numbers i after = set numbers (place_at i + next_row_at) (next_row_at after i)
+with_painted numbers i after = set numbers (place_at i + next_row_at) (next_row_of after i)
 
 -- what the host is told of it: 7, 8, 10, 11, 12, or done
 unfoldable pub paint_told : List ℤ → ℕ → List ℕ → ℕ

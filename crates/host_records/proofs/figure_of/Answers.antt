@@ -8,7 +8,7 @@ use mir.Val.{to_z, of_z}
 use Rattle.rounded_rectangle.specs.declared.RoundedRectangle.{RoundedRectangle}
 use Rattle.figure.specs.declared.Figure.TheVariants.{Ellipse, CrateBox, W3cBox}
 use Rattle.host_records.specs.RecordNumbers.{kind_at, crate_box_kind, w3c_box_kind, number_at, box_of, figure_of}
-use Rattle.host_records.proofs.Walks.{read_back_lem}
+use Rattle.host_records.proofs.Walks.{read_back}
 use Rattle.host_records.proofs.figure_of.Lts
 use Rattle.host_records.proofs.figure_of.Reads
 use Rattle.host_records.proofs.figure_of.Tie
@@ -31,10 +31,10 @@ kind c = number_at c.args.numbers.now kind_at
 by_ellipse : (c : After-t5-1) {t : Bool} → lt_z (to_z w32 (of_z w32 (kind c.before.before))) crate_box_kind ≡ t
     → lt_z (kind c.before.before) crate_box_kind ≡ t
 by_ellipse c test =
-    sym (ap (λ (z : ℤ). lt_z z crate_box_kind) (read_back_lem c.args.numbers.now kind_at c.t5-1.given)) ∙ test
+    sym (ap (λ (z : ℤ). lt_z z crate_box_kind) (read_back c.args.numbers.now kind_at c.t5-1.given)) ∙ test
 
 by_box : (c : After-t5-2-1) {t : Bool} → lt_z (to_z w32 (of_z w32 (kind c.before.before.before.before.before))) w3c_box_kind ≡ t → lt_z (kind c.before.before.before.before.before) w3c_box_kind ≡ t
-by_box c test = sym (ap (λ (z : ℤ). lt_z z w3c_box_kind) (read_back_lem c.args.numbers.now kind_at c.t5-2-1.given)) ∙ test
+by_box c test = sym (ap (λ (z : ℤ). lt_z z w3c_box_kind) (read_back c.args.numbers.now kind_at c.t5-2-1.given)) ∙ test
 
 -- the box as it was read
 box_is : (c : After-t5-2-1)

@@ -4,7 +4,7 @@ use mathlib.Core.Bool.{true}
 use borrow.Author.Tests.{eq-eqb, ne_eqb}
 use lib.Dec.{eqb}
 use lib.ListN.{length}
-use Rattle.host_records.proofs.Walks.{read_back_lem}
+use Rattle.host_records.proofs.Walks.{read_back}
 use Rattle.host_records.specs.RecordNumbers.{figure_length, kind_at, ellipse_kind, w3c_box_kind, number_at, within, is_figure}
 use Rattle.host_records.proofs.is_figure.Lts
 use Rattle.host_records.proofs.is_figure.Reads
@@ -29,7 +29,7 @@ kind : (c : After-is_within) → within ellipse_kind w3c_box_kind (number_at c.a
     ≡ c.is_within.result
 kind c =
     let a = c.args in
-    sym (c.is_within.ensures ∙ ap (within ellipse_kind w3c_box_kind) (read_back_lem a.numbers.now kind_at c.is_within-arg-1.given))
+    sym (c.is_within.ensures ∙ ap (within ellipse_kind w3c_box_kind) (read_back a.numbers.now kind_at c.is_within-arg-1.given))
 
 pub returns-then-numbers-ne-FIGURE_LENGTH : goal.returns-then-numbers-ne-FIGURE_LENGTH
 unfolding is_figure

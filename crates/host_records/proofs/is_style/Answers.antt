@@ -8,7 +8,7 @@ use lib.ListN.{length}
 use lib.Signed.{le_z, lt_z}
 use mir.Syntax.{w32}
 use mir.Val.{to_z, of_z}
-use Rattle.host_records.proofs.Walks.{read_back_lem}
+use Rattle.host_records.proofs.Walks.{read_back}
 use Rattle.host_records.specs.RecordNumbers.{style_length, stroke_at, fill_at, stroke_width_at, alignment_at, inside_alignment, outside_alignment, absent_paint, max_colour, number_at, within, is_style}
 use native.Mathlib.Omega.{arith}
 use Rattle.signed.proofs.Laws.{int}
@@ -50,13 +50,13 @@ stroke : (c : After-is_within) → within absent_paint max_colour (number_at c.a
     ≡ c.is_within.result
 stroke c =
     let a = c.args in
-    sym (c.is_within.ensures ∙ ap (within absent_paint max_colour) (read_back_lem a.numbers.now stroke_at c.is_within-arg-1.given))
+    sym (c.is_within.ensures ∙ ap (within absent_paint max_colour) (read_back a.numbers.now stroke_at c.is_within-arg-1.given))
 
 fill : (c : After-is_within-2) → within absent_paint max_colour (number_at c.args.numbers.now fill_at)
     ≡ c.is_within-2.result
 fill c =
     let a = c.args in
-    sym (c.is_within-2.ensures ∙ ap (within absent_paint max_colour) (read_back_lem a.numbers.now fill_at c.is_within-arg-2-1.given))
+    sym (c.is_within-2.ensures ∙ ap (within absent_paint max_colour) (read_back a.numbers.now fill_at c.is_within-arg-2-1.given))
 
 -- the stroke width
 abbrev width : After-t5-1 → ℤ
@@ -67,14 +67,14 @@ by_sign : (c : After-t5-1)
     × (lt_z (to_z w32 (of_z w32 (width c))) (pos 0) ≡ false → le_z (pos 0) (width c) ≡ true)
 by_sign c =
     let a = c.args in
-    rw (read_back_lem a.numbers.now stroke_width_at c.t5-1.given) (λ e. omega (arith, int), λ e. omega (arith, int))
+    rw (read_back a.numbers.now stroke_width_at c.t5-1.given) (λ e. omega (arith, int), λ e. omega (arith, int))
 
 alignment : (c : After-is_within-3) → within inside_alignment outside_alignment
     (number_at c.args.numbers.now alignment_at) ≡ c.is_within-3.result
 alignment c =
     let a = c.args in
     sym (c.is_within-3.ensures ∙ ap (within inside_alignment outside_alignment)
-    (read_back_lem a.numbers.now alignment_at c.is_within-arg-3-1.given))
+    (read_back a.numbers.now alignment_at c.is_within-arg-3-1.given))
 
 -- what holds after the first tests
 after_stroke : (c : Else-not-is_within) → within absent_paint max_colour (number_at c.args.numbers.now stroke_at) ≡ true

@@ -1,6 +1,6 @@
 -- `host_records::style_of` meets its contract: each part is its leaf's.
 use mathlib.Core.Path.{◌≡◌, ap, ◌∙◌}
-use Rattle.host_records.proofs.Walks.{read_back_lem}
+use Rattle.host_records.proofs.Walks.{read_back}
 use lib.IntN.{ℤ}
 use Rattle.signed.specs.Signed.{floor0}
 use Rattle.style.specs.declared.Style.{Style}
@@ -20,8 +20,8 @@ returns c =
     let at_paint_of = c.paint_of in
     let at_paint_of_arg = c.paint_of-arg-1 in
     let numbers = c.args.numbers.now in
-    let alignment = c.alignment_of.ensures ∙ ap alignment_of (read_back_lem numbers alignment_at c.alignment_of-arg-1.given) in
-    let width = c.floor0.ensures ∙ ap (λ (z : ℤ). floor0 z) (read_back_lem numbers stroke_width_at c.floor0-arg-1.given) in
-    let fill = c.paint_of-2.ensures ∙ ap paint_of (read_back_lem numbers fill_at c.paint_of-arg-2-1.given) in
-    let stroke = c.paint_of.ensures ∙ ap paint_of (read_back_lem numbers stroke_at c.paint_of-arg-1.given) in
+    let alignment = c.alignment_of.ensures ∙ ap alignment_of (read_back numbers alignment_at c.alignment_of-arg-1.given) in
+    let width = c.floor0.ensures ∙ ap (λ (z : ℤ). floor0 z) (read_back numbers stroke_width_at c.floor0-arg-1.given) in
+    let fill = c.paint_of-2.ensures ∙ ap paint_of (read_back numbers fill_at c.paint_of-arg-2-1.given) in
+    let stroke = c.paint_of.ensures ∙ ap paint_of (read_back numbers stroke_at c.paint_of-arg-1.given) in
     style_by_fields stroke fill width alignment

@@ -20,7 +20,7 @@ use Rattle.host_records.specs.RecordNumbers.{is_figure, is_style, figure_of, sty
 use Rattle.host_records.proofs.Records.{figure_length_lem, style_length_lem}
 use Rattle.host_sheet_record.specs.SheetRecord.{count_at, is_sheet, sheet_of, layer_put}
 use Rattle.host_sheet_record.proofs.Parts.{sheet_length_lem, sixteen}
-use Rattle.host_sheet.specs.Sheets.{next_row_at, add_of, add_told, add_numbers}
+use Rattle.host_sheet.specs.Sheets.{next_row_of, add_of, add_told, add_numbers}
 use Rattle.host_sheet.proofs.Accepted.{added_place, added_count}
 use native.Mathlib.Omega.{arith}
 use borrow.Author.Rules.{rules}
@@ -189,7 +189,7 @@ returns c =
           c.args.figure.now
           c.args.style.now z)
           (count_is c.before.before.before.before.before.before.before.before.before)
-          (to_z-of_z (search rules) ∙ ap₂ (λ (s : Sheet) (k : ℕ). next_row_at s k)
+          (to_z-of_z (search rules) ∙ ap₂ (λ (s : Sheet) (k : ℕ). next_row_of s k)
           (carried c.before.before.before.before.before.before.before.before.before)
           (count_is c.before.before.before.before.before.before.before.before.before)))
           (to_z-of_z c.from_u32.ensures.fits ∙ c.from_u32.ensures.is

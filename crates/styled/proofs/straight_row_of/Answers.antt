@@ -15,6 +15,7 @@ use Rattle.styled.proofs.straight_row_of.Lts
 use Rattle.styled.proofs.straight_row_of.Reads
 use Rattle.styled.proofs.straight_row_of.Tie
 use Rattle.styled.proofs.straight_row_of.Goals as goal
+use Rattle.styled.proofs.straight_row_of.Goals.{in-CrateBox, in-W3cBox}
 
 -- the facts known at these places
 abbrev Start : Type 0
@@ -42,7 +43,11 @@ widths c =
 
 -- past the match the figure is a box
 is_box : (c : Joined-figure) → IsBox c.args.figure c.match-figure.b
-is_box c = ?
+is_box c =
+    elim c.match-figure.branch [
+      in-CrateBox w ↦ inl (w.in-CrateBox.is ∙ ap CrateBox (sym w.b-is))
+    | in-W3cBox w ↦ inr (w.in-W3cBox.is ∙ ap W3cBox (sym w.b-is))
+    ]
 
 pub straight_row-requires : goal.straight_row-requires
 straight_row-requires c =
