@@ -7,11 +7,11 @@
 use corner_radii::CornerRadii;
 use figure::Figure;
 use geometry::{Point, Size};
-use libc::STDOUT_FILENO;
 use netpbm::WriteAnswer;
 use rectangle::Rectangle;
 use rounded_rectangle::RoundedRectangle;
 use sheet::Sheet;
+use std::io::{self, Write};
 use style::{Paint, StrokeAlignment, Style};
 
 const WIDTH: u32 = 232;
@@ -117,17 +117,17 @@ fn are_equal(a: &[u8], b: &[u8]) -> bool {
     true
 }
 
-fn main() {
+fn main(rt: HostRuntime) -> io::Result<()> {
     let mut interleaved = [255u8; 27840];
     let mut plain = [255u8; 27840];
     paint_interleaved(&mut interleaved);
     paint_tile_after_tile(&mut plain);
     if !are_equal(&interleaved, &plain) {
-        return;
+        return Ok(());
     }
     let mut file = [0u8; 27855];
     let WriteAnswer::Written(_) = netpbm::write_p5(WIDTH, HEIGHT, &interleaved, &mut file) else {
-        return;
+        return Ok(());
     };
-    io::write_all(STDOUT_FILENO, &file);
+    io::writer(&rt).write_all(&file)
 }
