@@ -76,45 +76,27 @@ fn page() -> Sheet {
 // Paints a row of each layer in every round, the uppermost first.
 fn paint_interleaved(canvas: &mut [u8]) {
     let mut sheet = page();
-    let mut round: u32 = 0;
-    while round < ROUNDS {
-        let mut layer = LAYERS;
-        while 0 < layer {
-            layer -= 1;
+    for _ in 0..ROUNDS {
+        for layer in (0..LAYERS).rev() {
             let outcome = sheet.paint(layer, canvas);
             sheet = outcome.sheet;
         }
-        round += 1;
     }
 }
 
 // Paints each layer to its end before the next.
 fn paint_tile_after_tile(canvas: &mut [u8]) {
     let mut sheet = page();
-    let mut layer: u32 = 0;
-    while layer < LAYERS {
-        let mut round: u32 = 0;
-        while round < ROUNDS {
+    for layer in 0..LAYERS {
+        for _ in 0..ROUNDS {
             let outcome = sheet.paint(layer, canvas);
             sheet = outcome.sheet;
-            round += 1;
         }
-        layer += 1;
     }
 }
 
 fn are_equal(a: &[u8], b: &[u8]) -> bool {
-    if a.len() != b.len() {
-        return false;
-    }
-    let mut i: usize = 0;
-    while i < a.len() {
-        if a[i] != b[i] {
-            return false;
-        }
-        i += 1;
-    }
-    true
+    a == b
 }
 
 fn main(rt: HostRuntime) -> io::Result<()> {
