@@ -177,8 +177,16 @@ def unused_functions(code):
                 yield f'{short}: no other file calls {function}'
 
 
+def as_cited(crate, source):
+    """A text of code with the paths that `#[tactic(auto, using(..))]` has, as crate::proofs::Rows::law, written as in the logic."""
+    def written(found):
+        return ' Rattle.%s.proofs.%s %s' % (crate if found.group(1) == 'crate' else found.group(1), found.group(2).replace('::', '.'), found.group(3))
+    return re.sub(r'\b(\w+)::proofs::(\w+(?:::\w+)*)::([\w\'-]+)', written, source)
+
+
 def unused_laws(code, logic):
-    files = {short: source for kind in (code, logic) for name in kind for short, source in kind[name].items()}
+    files = {short: as_cited(name, source) for name in code for short, source in code[name].items()}
+    files.update((short, source) for name in logic for short, source in logic[name].items())
     words = {short: set(re.findall(r'[^\s(){}\[\];,.:]+', source)) for short, source in files.items()}
     named = {short: source.replace('.{', ' {') for short, source in files.items() if 'Rattle.' in source}
     known = set()
