@@ -1,7 +1,7 @@
 -- Document 01, its first paragraph: what a run a..b holds, and when it is empty. The ends of an empty run are kept as they are
 -- (`core::ops::Range<i32>`).
 -- Assumes nothing.
-use Rattle.core.specs.Prelude.{Bool, ◌&&◌, ℤ, int_le, int_lt}
+use Rattle.std.specs.Prelude.{Bool, ◌&&◌, ℤ, int_le, int_lt}
 use Rattle.geometry_range.specs.declared.Range.{Range}
 
 -- `Range::contains`

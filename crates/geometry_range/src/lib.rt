@@ -1,7 +1,7 @@
 // Runs of columns or rows, for all that the crates above answer.
 #![tactic(auto)]
 
-ghost use Rattle.core.specs.Prelude.{◌≡◌};
+ghost use Rattle.std.specs.Prelude.{◌≡◌};
 ghost use Rattle.geometry_range.specs.Range.{contains as range_contains, is_empty};
 
 // A run of columns or rows, from start up to but not including end: empty when end <= start. The

@@ -1,0 +1,105 @@
+-- `StyledEllipse::row` meets its contract: the place of the asked row, whether there are rows and the searches say which case of the
+-- definition holds.
+use native.Mathlib.Omega.{arith}
+use mathlib.Core.Path.{◌≡◌, sym, ap, ◌∙◌}
+use mathlib.Core.Bool.{true}
+use Prim.Native.Nat.{◌-◌, ◌*◌}
+use mir.Facts.{to_z-of_z}
+use borrow.Author.Tests.{not-true, not-false}
+use Rattle.scanline.specs.declared.Place.TheVariants.{At}
+use Rattle.scanline.specs.declared.StyledRow.TheVariants.{Runs}
+use Rattle.scanline.specs.Places.{find_from, Placed}
+use Rattle.scanline.proofs.Placed.{placed_told}
+use Rattle.ellipse_search.specs.Search.{column_inside}
+use Rattle.ellipse_rows.specs.Relative.{first_inside, first_row_inside}
+use Rattle.ellipse_rows.proofs.Rows.{first_row_wide, first_inside_half}
+use Rattle.ellipse_styled.specs.Relative.{runs_from}
+use Rattle.ellipse_styled.proofs.Rows.{styled_out, styled_lacking, styled_none, styled_found, first_inside_found}
+use Rattle.ellipse_styled.proofs.StyledEllipse.row.Lts
+use Rattle.ellipse_styled.proofs.StyledEllipse.row.Reads
+use Rattle.ellipse_styled.proofs.StyledEllipse.row.Tie
+use Rattle.ellipse_styled.proofs.StyledEllipse.row.Goals as goal
+
+-- the facts known at these places
+abbrev Start : Type 0
+Start = Lts.Start Tie.the-claims Reads.Pre Reads.Post Tie.handed_clauses
+
+abbrev In-At : Type 0
+In-At = Lts.Past-After-known_told Tie.the-claims Reads.Pre Reads.Post Tie.handed_clauses
+
+abbrev Else-not-self : Type 0
+Else-not-self = Lts.Else1 Tie.the-claims Reads.Pre Reads.Post Tie.handed_clauses
+
+abbrev After-scan_inside : Type 0
+After-scan_inside = Lts.After-scan_inside Tie.the-claims Reads.Pre Reads.Post Tie.handed_clauses
+
+-- where the asked row stands, that there are rows, and where the stroke starts
+row_place : (c : In-At) →
+    Placed c.args.self.area.top_left.y c.args.self.area.size.height
+    c.args.y (At c.in-At.dy)
+row_place c =
+    let at_place_of = c.place_of in
+    placed_told _ _ _ c.requires.ready_ellipse.area.at.y.fits c.requires.near.fits c.place_of.ensures c.in-At.is
+
+rows_there : (c : Else-not-self) → first_row_inside c.args.self.area.size.width c.args.self.area.size.height
+    ≡ true
+rows_there c =
+    sym c.requires.ready_ellipse.rows ∙ not-false _ c.if-not-self.false
+
+-- where the row is asked for
+abbrev asked : After-scan_inside → Start
+asked c = c.before.before.before.before.before.before.before.before.before.before.before
+
+stroke_start : (c : After-scan_inside) → first_inside c.args.self.area.size.width c.args.self.area.size.height
+    c.in-At.dy ≡ c.scan_inside.result
+stroke_start c =
+    let at_pre = c.requires in
+    first_inside_found _ _ _ _ _ _ c.requires.ready_ellipse.stroke c.gap-distance.ensures.0 c.scan_inside.ensures
+
+pub returns-in_default : goal.returns-in_default
+returns-in_default c =
+    styled_out c.args.self.area c.args.self.sides c.args.y
+    (placed_told _ _ _ c.requires.ready_ellipse.area.at.y.fits c.requires.near.fits c.place_of.ensures
+    c.in_default.is)
+
+pub returns-then-not-self : goal.returns-then-not-self
+returns-then-not-self c =
+    styled_lacking c.args.self.area c.args.self.sides c.args.y
+    (sym c.requires.ready_ellipse.rows ∙ not-true _ c.if-not-self.true)
+
+pub gap-distance-requires : goal.gap-distance-requires
+gap-distance-requires c =
+    let at_pre = c.requires in
+    ((row_place c.before.before.before).1, c.requires.ready_ellipse.area.size.height)
+
+pub scan_inside-requires : goal.scan_inside-requires
+scan_inside-requires c =
+    let wide = first_row_wide _ _ (rows_there c.before.before.before) in
+    let tall = c.requires.ready_ellipse.area.size.height in record { small_weights = c.requires.ready_ellipse.stroke_weights; width_nonzero = (wide, c.requires.ready_ellipse.area.size.width, omega arith); from_bound = (omega arith, c.requires.ready_ellipse.area.size.width) }
+
+pub returns-in_default-scan_inside : goal.returns-in_default-scan_inside
+returns-in_default-scan_inside c =
+    let entry = asked c.before in
+    styled_none entry.args.self.area entry.args.self.sides entry.args.y _
+    (row_place c.before.before.before.before.before.before) (rows_there c.before.before.before.before)
+    (stroke_start c.before ∙ c.in_default-scan_inside.is)
+
+pub runs_at-found-requires : goal.runs_at-found-requires
+runs_at-found-requires c =
+    let entry = asked c.before.before.before.before in
+    let half = first_inside_half _ _ _ _ (stroke_start c.before.before.before.before ∙ c.in-At-scan_inside.is) in
+    let tall = entry.pre.0.area.size.height in
+    let near = entry.pre.0.area.at.x in record { near = rw (to_z-of_z near.fits) near; width_le_wide_side = (entry.pre.0.area.size.width, omega arith, omega arith); small_weights = entry.pre.0.fill_weights }
+
+pub returns : goal.returns
+returns c =
+    let at_gap = c.gap-distance in
+    let entry = asked c.before.before.before.before.before in
+    let w = entry.args.self.area.size.width in
+    let s = c.in-At-scan_inside.s in
+    ap Runs
+    (c.runs_at-found.ensures
+    ∙ (λ i. runs_from (to_z-of_z entry.pre.0.area.at.x.fits i) w s
+    (find_from (column_inside (entry.pre.0.fill i) w (c.gap-distance.ensures.0 i)) (w - 2 * s) s)))
+    ∙ styled_found entry.args.self.area entry.args.self.sides entry.args.y _ (row_place c.before.before.before.before.before.before.before.before.before.before) (rows_there c.before.before.before.before.before.before.before.before) s
+    (stroke_start c.before.before.before.before.before ∙ c.in-At-scan_inside.is)

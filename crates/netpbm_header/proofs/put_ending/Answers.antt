@@ -1,0 +1,14 @@
+-- `netpbm_header::put_ending` meets its contract: the bytes put are those of the format.
+use Rattle.netpbm_header.proofs.put_ending.Goals as goal
+
+pub put-requires : goal.put-requires
+put-requires c = rw c.in-P4.is at c.requires
+
+pub put-requires-in-P5 : goal.put-requires-in-P5
+put-requires-in-P5 c = rw c.in-P5.is at c.requires
+
+pub returns-in-P4 : goal.returns-in-P4
+returns-in-P4 c = rw c.in-P4.is c.put.ensures
+
+pub returns-in-P5 : goal.returns-in-P5
+returns-in-P5 c = rw c.in-P5.is c.put-in-P5.ensures

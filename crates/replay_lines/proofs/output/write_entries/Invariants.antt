@@ -1,0 +1,9 @@
+-- `replay_lines::output::write_entries` ends, since each run has a number at least, and stays within the list.
+use Rattle.std.proofs.Common.{◌-◌, ◌≤◌, length}
+use Rattle.replay_lines.proofs.output.write_entries.Given as goal
+
+abbrev pub invariant-loop-start : goal.invariant-loop-start
+invariant-loop-start l = l.start ≤ length l.list
+
+abbrev pub decreases-loop-start : goal.decreases-loop-start
+decreases-loop-start l = length l.list - l.start

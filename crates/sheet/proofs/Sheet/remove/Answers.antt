@@ -1,0 +1,127 @@
+-- `sheet::Sheet::remove` meets its contract: the check made is the answer; passed, the layer is within bounds, the rows that it had
+-- painted are shown anew, and the places behind it move down. A refusal is the check's own, and nothing was written.
+use borrow.Author.Rules.{rules}
+use mathlib.Core.Path.{◌≡◌, refl, sym, ap, ◌∙◌}
+use mathlib.Core.Bool.{Bool}
+use mathlib.Core.List.{List}
+use mathlib.Core.Option.{some}
+use Prim.Native.Nat.{◌≤◌, ◌-◌}
+use native.Mathlib.Omega.{arith}
+use lib.ListN.{length, get_or}
+use Rattle.refusal.specs.declared.Checked.{Checked}
+use Rattle.refusal.specs.declared.Checked.TheVariants.{Passed, Refused}
+use Rattle.refusal.proofs.Checks.{refusal_found}
+use Rattle.book.specs.Book.{without, remove as call_remove}
+use Rattle.book.specs.Sheet.{Layers, restored}
+use Rattle.drawing.specs.Drawing.{drawing}
+use Rattle.sheet_layers.specs.declared.Layer.{Layer}
+use Rattle.sheet_layers.specs.Layers.{layer_of, blank_layer}
+use Rattle.sheet.specs.declared.Sheet.{Sheet}
+use Rattle.sheet.specs.Sheet.{sheet_answer, carried_out_sheet}
+use Rattle.sheet_checks.specs.Asked.{remove_check}
+use Rattle.sheet_checks.proofs.Places.{sixteen_places, layers_are, kept_few, kept_layer, kept_width, kept_height}
+use Rattle.sheet_checks.proofs.Answers.{RemoveAccepted, remove_check_is, removed_accepted, rows_at}
+use Rattle.sheet_layers.proofs.LayerRules.{Ready}
+use Rattle.sheet.proofs.Records.{refused_record, refused_canvas, removed_record, removed_canvas}
+use Rattle.sheet.proofs.Sheet.remove.Lts
+use Rattle.sheet.proofs.Sheet.remove.Reads
+use Rattle.sheet.proofs.Sheet.remove.Tie
+use Rattle.sheet.proofs.Sheet.remove.Goals as goal
+
+-- the facts known at these places
+abbrev Start : Type 0
+Start = Lts.Start Tie.the-claims Reads.Pre Reads.Post Tie.handed_clauses
+
+abbrev After-check_remove-checked : Type 0
+After-check_remove-checked = Lts.After-check_remove Tie.the-claims Reads.Pre Reads.Post Tie.handed_clauses
+
+abbrev In-Passed : Type 0
+In-Passed = Lts.Past-After-enum_told Tie.the-claims Reads.Pre Reads.Post Tie.handed_clauses
+
+sixteen : (c : Start) → length c.args.self.layers ≡ 16
+sixteen c = sixteen_places c.args.self.layers c.well-formed.0.1.1.1.1.1.0.1.0.1
+
+abbrev entry : After-check_remove-checked → Start
+entry c = c.before.before.before.before.before
+
+abbrev sheet : After-check_remove-checked → Sheet
+sheet c = c.args.self
+
+abbrev answered : After-check_remove-checked → Checked
+answered c = sheet_answer (sheet c) c.args.canvas.now (call_remove c.args.layer c.args.background.now)
+
+-- the check made is the answer
+checked : (c : After-check_remove-checked) → c.check_remove-checked.result ≡ answered c
+checked c =
+    let a = c.args in
+    let s = sheet c in
+    c.check_remove-checked.ensures
+    ∙ ap (λ (t : Bool). remove_check t s.width s.height (length a.canvas.now) (length a.background.now) s.count a.layer)
+    c.test_rules-tested.ensures.kept_value
+    ∙ remove_check_is s.width s.height s.count s.layers (sixteen c.before.before.before.before.before) a.layer a.background.now a.canvas.now
+
+passed : (c : In-Passed) → answered c.before ≡ Passed
+passed c = sym (checked c.before) ∙ c.in-Passed.is
+
+told : (c : In-Passed)
+    → RemoveAccepted (sheet c.before).width (sheet c.before).height (sheet c.before).count (sheet c.before).layers (sixteen (entry c.before))
+    (entry c.before).args.layer (entry c.before).args.background.now (entry c.before).args.canvas.now
+told c =
+    let a = (entry c.before).args in
+    let s = sheet c.before in
+    removed_accepted s.width s.height s.count s.layers (sixteen (entry c.before)) a.layer a.background.now
+    a.canvas.now (passed c)
+
+few : (c : In-Passed) → (sheet c.before).count ≤ 16
+few c =
+    let s = sheet c.before in
+    kept_few s.width s.height s.count s.layers (sixteen (entry c.before)) (told c).rules
+
+-- the layers are within limits, and their rows were found
+ready : (c : In-Passed) → Ready (sheet c.before).layers c.test_rules-tested.result.rows (sheet c.before).count
+ready c =
+    let s = sheet c.before in
+    let tested = c.test_rules-tested in
+    let long = sixteen (entry c.before) in
+    record {
+      within = kept_layer s.width s.height s.count s.layers long (told c).rules;
+      rows_are = λ i h.
+          rows_at s.count i h c.test_rules-tested.result.rows s.layers (c.test_rules-tested.ensures.rows_value (c.test_rules-tested.ensures.kept_value ∙ (told c).rules))
+          (omega (arith, few c));
+    }
+
+-- refused
+pub returns-in_default : goal.returns-in_default
+returns-in_default c =
+    let a = c.args in
+    let call = call_remove a.layer a.background.now in
+    let found = c.in_default.is in
+    let says = sym (checked c.before.before.before) ∙ c.in_default.is in record { answer_value = ap Refused (refusal_found c.refusal.ensures c.in_default.is) ∙ sym says; sheet_value = sym (refused_record a.self (sixteen c.before.before.before.before.before.before.before.before) a.canvas.now call _ says); canvas_after = sym (refused_canvas a.self (sixteen c.before.before.before.before.before.before.before.before) a.canvas.now call _ says); background_value = refl }
+
+pub restore-requires : goal.restore-requires
+restore-requires c =
+    let s = sheet c.before.before.before.before in
+    let accepted = told c.before.before.before in
+    let long = sixteen (entry c.before.before.before.before) in record { canvas_len = accepted.size; background_len = accepted.long; width_le_max_canvas_side = (
+            kept_width s.width s.height s.count s.layers long accepted.rules,
+            kept_height s.width s.height s.count s.layers long accepted.rules,
+          ); place_lt_count = (accepted.within, few c.before.before.before, ready c.before.before.before) }
+
+pub overflow_sub-result : goal.overflow_sub-result
+overflow_sub-result c = let within = (told c.before.before.before.before.before.before).within in omega arith
+
+pub without-requires : goal.without-requires
+without-requires c =
+    omega (arith, (told c.before.before.before.before.before.before).within, few c.before.before.before.before.before.before)
+
+pub returns : goal.returns
+unfolding carried_out_sheet
+returns c =
+    let start = entry c.before.before.before.before.before.before.before.before in
+    let a = start.args in
+    let s = a.self in
+    let own = layer_of (get_or s.layers a.layer blank_layer) in record { answer_value = sym (passed c.before.before.before.before.before.before.before); sheet_value = ap (λ (l : List Layer). record { width = s.width; height = s.height; count = s.count - 1; layers = l }) c.without.ensures
+            ∙ sym (removed_record s (sixteen start) a.canvas.now a.layer a.background.now (passed c.before.before.before.before.before.before.before)); canvas_after = c.restore.ensures
+              ∙ ap (λ (l : Layers drawing). restored drawing s.width s.height (some own) (without a.layer l) a.background.now
+              a.canvas.now) (sym (layers_are s.count s.layers (sixteen start) (few c.before.before.before.before.before.before.before)))
+              ∙ sym (removed_canvas s (sixteen start) a.canvas.now a.layer a.background.now (passed c.before.before.before.before.before.before.before)); background_value = refl }

@@ -1,0 +1,135 @@
+-- `styled_straight::row_past` meets its contract: a row that both tests let pass lies past the corners that reach no further than
+-- told, so
+-- its run is the whole area and its fill needs no test.
+use borrow.Author.Tests.{not-false}
+use mathlib.Core.Path.{◌≡◌, sym, ap, subst, ◌∙◌}
+use Prim.Native.Nat.{◌-◌, ◌≤◌, ◌<◌}
+use native.Mathlib.Omega.{arith}
+use mir.Facts.{to_z-of_z}
+use Rattle.geometry_range.specs.declared.Range.{Range}
+use Rattle.scanline.specs.declared.StyledRow.TheVariants.{Runs}
+use Rattle.scanline.specs.declared.Place.TheVariants.{At}
+use Rattle.scanline.specs.Places.{Placed}
+use Rattle.scanline.specs.Points.{EndsWithin}
+use Rattle.scanline.proofs.Placed.{placed_told}
+use Rattle.rounded_rectangle.specs.Relative.{run_between}
+use Rattle.rounded_rectangle.proofs.Rows.{between_within}
+use Rattle.box_mirrored.specs.Sides.{Straight}
+use Rattle.box_mirrored_fill.specs.MirroredFill.{fill_between}
+use Rattle.ellipse_styled.specs.EllipseStyled.{around_fill}
+use Rattle.shape.proofs.Within.{area_bounded}
+use Rattle.shape.proofs.Runs.{start_is_near, end_is_near}
+use Rattle.geometry.specs.declared.Size.{Size}
+use Rattle.corner_radii.specs.declared.CornerRadii.{CornerRadii}
+use Rattle.styled_straight.specs.declared.Reaches.{Reaches}
+use Rattle.styled_straight.specs.StraightRow.{Reach}
+use Rattle.styled_straight.proofs.Straight.{whole_run, straight_row_is}
+use Rattle.styled_straight.proofs.row_past.Lts
+use Rattle.styled_straight.proofs.row_past.Reads
+use Rattle.styled_straight.proofs.row_past.Tie
+use Rattle.styled_straight.proofs.row_past.Goals as goal
+
+-- the facts known at these places
+abbrev Start : Type 0
+Start = Lts.Start Tie.the-claims Reads.Pre Reads.Post Tie.handed_clauses
+
+abbrev In-At : Type 0
+In-At = Lts.Past-After-known_told Tie.the-claims Reads.Pre Reads.Post Tie.handed_clauses
+
+abbrev In-At-place_of : Type 0
+In-At-place_of = Lts.Past-After-known_told2 Tie.the-claims Reads.Pre Reads.Post Tie.handed_clauses
+
+abbrev After-run_between-run : Type 0
+After-run_between-run = Lts.After-run_between Tie.the-claims Reads.Pre Reads.Post Tie.handed_clauses
+
+-- where the row stands in each area
+abbrev start : In-At → Start
+start c = c.before.before.before.before.before
+
+row_place : (c : In-At)
+    → Placed c.args.area.top_left.y c.args.area.size.height c.args.y (At c.in-At.dy)
+row_place c =
+    placed_told _ _ _ c.requires.area_rectangle.at.y.fits c.requires.near.fits c.place_of.ensures
+    c.in-At.is
+
+abbrev outer : In-At-place_of → In-At
+outer c = c.before.before.before.before.before
+
+inner_place : (c : In-At-place_of)
+    → Placed (start c.before.before.before.before.before).args.inner.top_left.y (start c.before.before.before.before.before).args.inner.size.height (start c.before.before.before.before.before).args.y
+    (At c.in-At-place_of.inner_dy)
+inner_place c =
+    placed_told _ _ _ (start c.before.before.before.before.before).requires.1.0.at.y.fits (start c.before.before.before.before.before).requires.1.1.fits
+    c.place_of-2.ensures c.in-At-place_of.is
+
+-- the stroke area's run
+abbrev placed : After-run_between-run → In-At-place_of
+placed c = c.before.before.before.before.before.before
+
+run_is : (c : After-run_between-run) → c.run_between-run.result ≡ whole_run (start (outer c.before.before.before.before.before.before)).args.area
+run_is c =
+    let entry = start (outer c.before.before.before.before.before.before) in
+    c.run_between-run.ensures
+    ∙ (λ i. run_between (to_z-of_z entry.pre.0.at.x.fits i) entry.args.area.size.width
+    (record { left = 0; right = 0 }))
+
+-- a row past the corners has straight sides
+straight : (corners : CornerRadii) (s : Size) (dy : _) (r : Reaches) → dy < s.height
+    → (r.upper ≤ dy) × (r.lower ≤ s.height - 1 - dy) → Reach corners r → Straight corners s dy
+straight corners s dy r inside past reach =
+    let u = reach.upper in
+    let l = reach.lower in
+    record { in_box = inside; past_upper = let p = past.0 in omega arith; before_lower = let p = past.1 in omega arith }
+
+pub place_of-requires : goal.place_of-requires
+place_of-requires c =
+    let area = area_bounded _ c.requires.area_rectangle in
+    let near = c.requires.near in record { near = rw (to_z-of_z area.at.y.fits) area.at.y; n_le_wide_side = area.size.height; near_2 = rw (to_z-of_z near.fits) near }
+
+pub place_of-requires-2 : goal.place_of-requires-2
+place_of-requires-2 c =
+    let entry = start c.before.before.before.before in
+    let inner = area_bounded _ entry.pre.1.0 in
+    let near = entry.pre.1.1 in record { near = rw (to_z-of_z inner.at.y.fits) inner.at.y; n_le_wide_side = inner.size.height; near_2 = rw (to_z-of_z near.fits) near }
+
+pub is_past-requires : goal.is_past-requires
+is_past-requires c = (row_place c.before.before.before.before.before.before).1
+
+pub is_past-requires-2 : goal.is_past-requires-2
+is_past-requires-2 c = (inner_place c.before.before.before).1
+
+pub run_between-run-requires : goal.run_between-run-requires
+run_between-run-requires c =
+    let area = area_bounded _ (start c.before.before.before.before.before.before.before.before.before.before.before).requires.0 in record { near = rw (to_z-of_z area.at.x.fits) area.at.x; width_le_wide_side = area.size.width; left_le_width = (omega arith, omega arith) }
+
+pub filled_between-requires : goal.filled_between-requires
+filled_between-requires c =
+    let entry = start (outer c.before.before.before.before.before.before.before.before) in
+    let area = entry.pre.0 in
+    let inner = area_bounded _ entry.pre.1.0 in
+    let a = entry.args.area in
+    let ends = subst (EndsWithin a.top_left.x a.size.width) (sym (run_is c.before.before))
+    (between_within a.top_left.x a.size.width (record { left = 0; right = 0 }) (omega arith) (omega arith)) in record { near = rw (to_z-of_z inner.at.x.fits) inner.at.x; width_le_wide_stroke_side = (entry.pre.1.0.size.width, omega arith); near_run = record {
+          start = start_is_near _ _ _ area.at.x
+              area.size.width ends;
+          end = end_is_near _ _ _ area.at.x area.size.width ends;
+        } }
+
+pub returns : goal.returns
+returns c = λ c₁ d reach_c reach_d.
+    let at = placed c.before.before.before in
+    let entry = start (outer at) in
+    let a = entry.args in
+    let past = c.is_past.ensures
+    (not-false _ c.if-not-is_past.false) in
+    let past₂ = c.is_past-2.ensures (not-false _ c.if-not-is_past-2.false) in
+    ap Runs
+    (c.around_fill.ensures
+    ∙ ap (around_fill c.run_between-run.result)
+    (c.filled_between.ensures
+    ∙ ap (λ (x : _). fill_between x a.inner.size.width c.run_between-run.result 0)
+    (to_z-of_z entry.pre.1.0.at.x.fits))
+    ∙ ap (λ (r : Range). around_fill r (fill_between a.inner.top_left.x a.inner.size.width r 0)) (run_is c.before.before.before))
+    ∙ straight_row_is a.area a.inner c₁ d a.y _ _ (row_place (outer at)) (inner_place at)
+    (straight c₁ a.area.size _ a.stroke (row_place (outer at)).1 past reach_c)
+    (straight d a.inner.size _ a.fill (inner_place at).1 past₂ reach_d)

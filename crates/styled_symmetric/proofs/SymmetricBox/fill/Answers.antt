@@ -1,0 +1,52 @@
+-- `SymmetricBox::fill` meets its contract: above the fill area's rows there is none, and on them one search tells what both corners
+-- leave out.
+use mathlib.Core.Path.{ap, ◌∙◌}
+use lib.IntN.{ℤ}
+use mir.Facts.{to_z-of_z}
+use Rattle.geometry_range.proofs.Fields.{range_by_fields}
+use Rattle.box_mirrored_fill.specs.MirroredFill.{fill_between}
+use Rattle.styled_symmetric.proofs.Rows.{fill_lacking, between, fill_found}
+use Rattle.styled_symmetric.proofs.SymmetricBox.fill.Lts
+use Rattle.styled_symmetric.proofs.SymmetricBox.fill.Reads
+use Rattle.styled_symmetric.proofs.SymmetricBox.fill.Tie
+use Rattle.styled_symmetric.proofs.SymmetricBox.fill.Goals as goal
+
+-- the facts known at these places
+abbrev Start : Type 0
+Start = Lts.Start Tie.the-claims Reads.Pre Reads.Post Tie.handed_clauses
+
+abbrev After-corner_left_out-k : Type 0
+After-corner_left_out-k = Lts.After-corner_left_out Tie.the-claims Reads.Pre Reads.Post Tie.handed_clauses
+
+-- above the fill area's rows
+pub returns-then-dy-border : goal.returns-then-dy-border
+returns-then-dy-border c =
+    let end = to_z-of_z c.requires.near_run.end.fits in
+    range_by_fields end end ∙ fill_lacking c.args.self c.requires.ready_symmetric c.args.dy c.requires.corner_rows_bound
+    c.args.run c.if-dy-border.true
+
+pub corner_left_out-k-requires : goal.corner_left_out-k-requires
+corner_left_out-k-requires c = c.requires.ready_symmetric.inner_corner
+
+-- what is known of the fill area's columns
+abbrev entry : After-corner_left_out-k → Start
+entry c = c.before.before.before
+
+pub filled_between-requires : goal.filled_between-requires
+filled_between-requires c =
+    let start = entry c.before.before.before.before.before in
+    let a = start.args in
+    let ready = start.pre.0 in
+    let left = ready.inner_at.x in
+    let columns = between a.self ready a.dy start.pre.1.0 a.run c.if-dy-border.false
+    c.corner_left_out-k.result c.corner_left_out-k.ensures in record { near = rw (to_z-of_z left.fits) left; width_le_wide_stroke_side = (ready.inner_size.width, columns.half); near_run = start.pre.1.1 }
+
+pub returns : goal.returns
+returns c =
+    let start = entry c.before.before.before.before.before in
+    let a = start.args in
+    let k = c.corner_left_out-k.result in
+    c.filled_between.ensures
+    ∙ ap (λ (z : ℤ). fill_between z a.self.inner.size.width a.run c.corner_left_out-k.result) (to_z-of_z start.pre.0.inner_at.x.fits)
+    ∙ fill_found a.self start.pre.0 a.dy start.pre.1.0 a.run c.if-dy-border.false c.corner_left_out-k.result
+    c.corner_left_out-k.ensures

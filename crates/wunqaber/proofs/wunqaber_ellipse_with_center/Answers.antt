@@ -1,0 +1,16 @@
+-- `wunqaber::wunqaber_ellipse_with_center` meets its contract: the call keeps the same promise.
+use mir.Syntax.{w32}
+use mir.Val.{SFits}
+use mir.Facts.{to_z-of_z}
+use Rattle.host_answers.proofs.Telling.{tells_as}
+use Rattle.host_figures.specs.Figures.{ellipse_with_center_said}
+use borrow.Author.Rules.{rules}
+use Rattle.wunqaber.proofs.wunqaber_ellipse_with_center.Goals as goal
+
+pub returns : goal.returns
+returns c =
+    let a = c.args in
+    let x_fits : SFits w32 a.x = search rules in
+    let y_fits : SFits w32 a.y = search rules in
+    tells_as (λ i. ellipse_with_center_said (to_z-of_z x_fits i) (to_z-of_z y_fits i) a.width a.height)
+    c.ellipse_with_center.ensures
