@@ -4,6 +4,8 @@
 // the two canvases are equal, byte for byte.
 #![tactic(auto)]
 
+ghost use Rattle.std.specs.Prelude.{◌≡◌, ◌↔◌, IsTrue};
+
 use corner_radii::CornerRadii;
 use figure::Figure;
 use geometry::{Point, Size};
@@ -95,7 +97,9 @@ fn paint_tile_after_tile(canvas: &mut [u8]) {
     }
 }
 
-fn are_equal(a: &[u8], b: &[u8]) -> bool {
+fn are_equal(a: &[u8], b: &[u8]) -> bool
+    ensures { IsTrue result ↔ a.now ≡ b.now }
+{
     a == b
 }
 
