@@ -156,7 +156,7 @@ class Function:
             if best:
                 more = self.clauses(p, [best[0]] + rest[len(best[1]):], best[0])
                 return ("step", p, rest, ".".join([base, a[0]] + more))
-            if not rest:
+            if not rest or rest in (["given"], ["given", "0"]):
                 return ("step", p, rest, None)
             self.say(f"arm {a[0]} lacks {old}.{'.'.join(rest)}")
             return ("text", ".".join([base, a[0]] + rest))
@@ -210,8 +210,6 @@ class Function:
     def new_place(self, i):
         i = self.deepest(i)
         n = norm(self.places[i][0])
-        if n in self.asked_places and not self.typed[i]:
-            return "goal." + self.new[i]
         self.lts.add(i)
         return self.new[i]
 
@@ -290,6 +288,9 @@ def tokens_env(fn, body, env, funs):
         if m[1] and m[1] not in funs:
             scan = m.start() + 1
             continue
+        if m[4] and not m[5] and re.search(r"(?<![\w'-])let\s+$", text[: m.start()]):
+            env.pop(m[4], None)
+            continue
         f, arg, befores, var, path = m[1], m[2], m[3], m[4], m[5] or ""
         fields = re.findall(r"\.(«[^»]*»|[\w'⁰-⁹₀-₉-]+)", path)
         fields = [x.strip("«»") if x.startswith("«") else x for x in fields]
@@ -329,6 +330,9 @@ def tokens_env(fn, body, env, funs):
                 txt = rep[2]
             if whole_let:
                 env[lm[1]] = {"kind": "place", "place": rep[1], "base": rep[2], "cur": rep[3]}
+            fm = re.search(r"let (\w[\w'-]*) =\s*(\w[\w'-]*)\s+$", before)
+            if fm and fm[2] in funs and re.match(r"\s+in\b", after):
+                env[fm[1]] = {"kind": "place", "place": funs[fm[2]], "base": rep[2], "cur": rep[3]}
             txt_final = txt
         elif rep[0] == "step":
             txt_final = rep[3]
@@ -545,9 +549,22 @@ def turn(crate, folder, path, d, muts):
         e = {v: {"kind": "place", "place": i, "base": v, "cur": fn.deepest(i) if last else i} for v, i in env.items()}
         fn.views = {v: not last and fn.typed[i] for v, i in env.items()}
         t = tokens_env(fn, t, e, funs)
+        # the test of `if !f(..)` is known of the call itself
+        called = {norm(p[2][1]) for p in fn.places if p[3]} | {norm(p[2][0]) for p in fn.places if p[3]}
+        def plain_test(m):
+            step = m[2].rsplit(".", 1)[-1]
+            n = norm(step)
+            n = n[len("if-not-"):] if n.startswith("if-not-") else None
+            if n and any(n == k or n.startswith(k + "-") for k in called):
+                return f"{m[2]}.{m[3]}"
+            return m[0]
+        t = re.sub(r"not-(true|false) _ ([\w.'-]+)\.(true|false)(?:-raw)?(?![\w-])", plain_test, t)
+        t = re.sub(r"\((?:" + "|".join(map(re.escape, funs)) + r") (\w+)(?:\.before)*\)\.(args|ranges)\.", r"\1.\2.", t) if funs else t
         # names of places that nothing uses now
         while True:
-            for m in re.finditer(r"let (\w[\w'-]*) = \w[\w'-]*(?:\.before)+ in\s*", t):
+            for m in re.finditer(r"let (\w[\w'-]*) = (?:(\w[\w'-]*)\s+)?\w[\w'-]*(?:\.before)* in\s*", t):
+                if m[2] and m[2] not in funs:
+                    continue
                 if not used(m[1], t[m.end():]):
                     t = t[: m.start()] + t[m.end():]
                     break
@@ -689,10 +706,11 @@ def turn(crate, folder, path, d, muts):
         if fn.lts:
             loops = "".join(f" goal.the-invariant-{p[1]} goal.the-decreases-{p[1]}" for p, v in d["loops"])
             calls = any(p[3] for p in fn.places)
-            extra += [f"use {module}.Lts", f"use {module}.Reads"] + [f"use {module}.Tie"] * calls
+            handed = bool(d["pre"] or d["asked"] or any(x and x.get("fields") for x in d["clauses"]))
+            extra += [f"use {module}.Lts", f"use {module}.Reads"] + [f"use {module}.Tie"] * (calls or handed)
             for i in sorted(fn.lts):
                 past = "Past-" if fn.arm_of(i) else ""
-                of = ("Tie.the-claims " if calls else "") + "Reads.Pre Reads.Post" + loops + (" Tie.handed_clauses" if calls else "")
+                of = ("Tie.the-claims " if calls else "") + "Reads.Pre Reads.Post" + loops + (" Tie.handed_clauses" if handed else "")
                 lts.append(f"abbrev {fn.new[i]} : Type 0\n{fn.new[i]} = Lts.{past}{fn.places[i][0]} {of}")
         out = headline + kept(body_ans) + extra + [f"use {module}.Goals as goal", ""]
         if lts:

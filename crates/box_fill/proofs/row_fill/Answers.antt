@@ -25,9 +25,8 @@ Start = Lts.Start Tie.the-claims Reads.Pre Reads.Post Tie.handed_clauses
 abbrev After-first_contained : Type 0
 After-first_contained = Lts.After-first_contained Tie.the-claims Reads.Pre Reads.Post Tie.handed_clauses
 
--- ---- after the first search: the arguments, the places to look through, and how many are skipped
-abbrev entry : After-first_contained → Start
-entry c = c.before.before.before.before.before.before.before.before
+abbrev In-At : Type 0
+In-At = Lts.Past-After-known_told Tie.the-claims Reads.Pre Reads.Post Tie.handed_clauses
 
 abbrev corners : After-first_contained → CornerRadii
 corners c = radii c.args.b
@@ -67,14 +66,10 @@ answer_is : (c : After-first_contained) → c.first_contained.result ≡ answer 
 answer_is c =
     c.first_contained.ensures ∙ ap (λ (k : ℕ). first_contained (corners c) (size c) (dy c) k (to c)) c.most.ensures
 
--- ---- where it found a column
-abbrev searched : goal.In-At → After-first_contained
-searched c = c.before
-
-abbrev first : goal.In-At → ℕ
+abbrev first : In-At → ℕ
 first c = c.in-At.first
 
-first_is : (c : goal.In-At) → At (first c) ≡ answer c.before
+first_is : (c : In-At) → At (first c) ≡ answer c.before
 first_is c = sym c.in-At.is ∙ answer_is c.before
 
 -- none is contained
@@ -96,37 +91,33 @@ overflow_sub-size-3 c =
 
 pub last_contained-last-requires : goal.last_contained-last-requires
 last_contained-last-requires c =
-    let after = searched c.before.before.before.before in
-    let l = first_in (looked after) _ (first_is c.before.before.before.before) in
-    let start = right_start (looked after) _ (first_is c.before.before.before.before) _ c.right_skip-from_right.ensures in record { ready_box = (entry after).pre.1.0; dy_lt_height = ((entry after).pre.1.1.0, omega arith, rw c.most-2.ensures start); to_value = first_mirrored (looked after) _ (first_is c.before.before.before.before) }
+    let l = first_in (looked c.before.before.before.before.before) _ (first_is c.before.before.before.before) in
+    let start = right_start (looked c.before.before.before.before.before) _ (first_is c.before.before.before.before) _ c.right_skip-from_right.ensures in record { ready_box = c.requires.ready_box; dy_lt_height = (c.requires.dy_lt_height, omega arith, rw c.most-2.ensures start); to_value = first_mirrored (looked c.before.before.before.before.before) _ (first_is c.before.before.before.before) }
 
 pub from_first-requires : goal.from_first-requires
 from_first-requires c =
-    let start = entry c.before.before.before.before.before.before in
-    let near = start.pre.0 in
-    let wide = start.pre.1.0.size.width in
+    let near = c.requires.near in
+    let wide = c.requires.ready_box.size.width in
     let l = first_in (looked c.before.before.before.before.before.before) _ (first_is c.before.before.before.before.before) in record { near = rw (to_z-of_z near.fits) near; k_le_wide_side = omega arith }
 
 pub before_end-requires : goal.before_end-requires
 before_end-requires c =
-    let start = entry c.before.before.before.before.before.before.before in
-    let near = start.pre.0 in
-    let wide = start.pre.1.0.size.width in
+    let near = c.requires.near in
+    let wide = c.requires.ready_box.size.width in
     let l = first_in (looked c.before.before.before.before.before.before.before) _ (first_is c.before.before.before.before.before.before) in
     let m = c.last_contained-last.ensures.1 in record { near = rw (to_z-of_z near.fits) near; n_le_wide_side = (omega arith, omega arith) }
 
 pub returns : goal.returns
 returns c =
     let at_most2 = c.most-2 in
-    let after = searched c.before.before.before.before.before.before.before in
-    let left_is = to_z-of_z (entry after).pre.0.fits in
-    let w = (size after).width in
+    let left_is = to_z-of_z c.requires.near.fits in
+    let w = (size c.before.before.before.before.before.before.before.before).width in
     let start = c.from_first.ensures in
     let end = c.before_end.ensures in
     let last = c.last_contained-last in
     range_by_fields
     (to_z-of_z c.from_first.ensures.fits ∙ c.from_first.ensures.is ∙ ap (λ (z : ℤ). z +ℤ pos (first c.before.before.before.before.before.before.before)) left_is)
     (to_z-of_z c.before_end.ensures.fits ∙ c.before_end.ensures.is ∙ ap (λ (z : ℤ). z +ℤ pos w -ℤ pos c.last_contained-last.result) left_is)
-    ∙ fill_found (looked after) _ (first_is c.before.before.before.before.before.before.before) _ c.right_skip-from_right.ensures _
+    ∙ fill_found (looked c.before.before.before.before.before.before.before.before) _ (first_is c.before.before.before.before.before.before.before) _ c.right_skip-from_right.ensures _
     (c.last_contained-last.ensures.0
-    ∙ ap (λ (k : ℕ). last_contained (corners after) (size after) (dy after) k (w - 1 - first c.before.before.before.before.before.before.before + 1)) c.most-2.ensures)
+    ∙ ap (λ (k : ℕ). last_contained (corners c.before.before.before.before.before.before.before.before) (size c.before.before.before.before.before.before.before.before) (dy c.before.before.before.before.before.before.before.before) k (w - 1 - first c.before.before.before.before.before.before.before + 1)) c.most-2.ensures)

@@ -46,8 +46,8 @@ returns c =
       colour = c.in-Colour.field-0;
       fill_is = c.in-Colour.is;
       left_reaches = let test = c.if-left-inner.false in omega (arith, int);
-      right_reaches = let c.if-left-inner.false = c.if-inner-right.false in omega (arith, int);
-      right_after = let c.if-inner-right.false = c.if-right-inner.false in omega (arith, int);
-      left_within = let c.if-right-inner.false = c.if-right-left.false in omega (arith, int);
-      right_within = let c.if-right-left.false = c.if-right-left-2.false in omega (arith, int);
+      right_reaches = let test = c.if-inner-right.false in omega (arith, int);
+      right_after = let test = c.if-right-inner.false in omega (arith, int);
+      left_within = let test = c.if-right-left.false in omega (arith, int);
+      right_within = let test = c.if-right-left-2.false in omega (arith, int);
     }

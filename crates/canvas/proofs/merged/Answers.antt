@@ -3,7 +3,6 @@ use mathlib.Core.Path.{◌∙◌}
 use mir.Syntax.{w32}
 use mir.Val.{SFits}
 use mir.Facts.{to_z-of_z}
-use borrow.Author.Tests.{not-false}
 use Rattle.canvas.specs.Canvas.{overpaint_runs}
 use Rattle.canvas.proofs.Nested.{merged_row}
 use borrow.Author.Rules.{rules}
@@ -25,4 +24,4 @@ returns c =
       fill = a.runs.fill;
       stroke_right = record { start = end i; end = end i };
     }) row)
-    ∙ merged_row a.style a.runs (c.is_nested.ensures (not-false _ c.if-not-is_nested.false)) row
+    ∙ merged_row a.style a.runs (c.is_nested.ensures (c.if-not-is_nested.false)) row

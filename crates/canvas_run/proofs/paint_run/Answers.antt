@@ -20,8 +20,7 @@ fill_columns-requires c =
 pub returns : goal.returns
 returns c =
     let entry = c.args in
-    let matched = c.in-Colour.given in
     let columns = c.clip-columns in
     let filled = c.fill_columns in
-    run_over_by_columns entry.run matched.0.0 entry.row.now c.fill_columns.new.row c.clip-columns.result entry.paint
-    matched.1 c.clip-columns.ensures c.fill_columns.ensures
+    run_over_by_columns entry.run c.in-Colour.colour entry.row.now c.fill_columns.new.row c.clip-columns.result entry.paint
+    c.in-Colour.is c.clip-columns.ensures c.fill_columns.ensures

@@ -6,10 +6,17 @@ use Rattle.corner.specs.EdgeBounds.{wide_offset}
 use Rattle.corner.specs.Growth.{ceil_div}
 use Rattle.corner.proofs.Growth.{square_le, cube_le, square_above_zero, taken_at_most, grown_below, grown_whole}
 use native.Mathlib.Omega.{arith}
+use Rattle.corner.proofs.grow_radius.Lts
+use Rattle.corner.proofs.grow_radius.Reads
+use Rattle.corner.proofs.grow_radius.Tie
 use Rattle.corner.proofs.grow_radius.Goals as goal
 
+-- the facts known at these places
+abbrev Then-radius-k : Type 0
+Then-radius-k = Lts.Then1 Reads.Pre Reads.Post Tie.handed_clauses
+
 -- k − radius is within the bound of k
-below_small : (c : goal.Then-radius-k) → c.args.k - c.args.radius ≤ wide_offset
+below_small : (c : Then-radius-k) → c.args.k - c.args.radius ≤ wide_offset
 below_small c = let small = c.requires.k_le_wide_offset in omega arith
 
 pub overflow_mul-square : goal.overflow_mul-square

@@ -4,7 +4,6 @@ use mathlib.Core.Path.{◌≡◌, sym, ap, subst, ◌∙◌}
 use mathlib.Core.Bool.{true}
 use lib.IntN.{ℤ}
 use mir.Facts.{to_z-of_z}
-use borrow.Author.Tests.{not-true, not-false}
 use Rattle.scanline.specs.declared.Place.TheVariants.{At, Nowhere}
 use Rattle.scanline.specs.declared.Row.TheVariants.{Run}
 use Rattle.scanline.specs.Places.{Placed}
@@ -40,7 +39,7 @@ row_place c =
 
 rows_there : (c : Else-not-has_rows) → first_row_inside c.args.ellipse.size.width c.args.ellipse.size.height
     ≡ true
-rows_there c = sym c.has_rows.ensures ∙ not-false _ c.if-not-has_rows.false
+rows_there c = sym c.has_rows.ensures ∙ c.if-not-has_rows.false
 
 pub returns-in_default : goal.returns-in_default
 returns-in_default c =
@@ -54,7 +53,7 @@ returns-in_default c =
 pub returns-then-not-has_rows : goal.returns-then-not-has_rows
 returns-then-not-has_rows c =
     (
-      sym (row_lacking c.args.ellipse c.args.y (sym c.has_rows.ensures ∙ not-true _ c.if-not-has_rows.true)),
+      sym (row_lacking c.args.ellipse c.args.y (sym c.has_rows.ensures ∙ c.if-not-has_rows.true)),
       tt,
     )
 

@@ -2,15 +2,24 @@
 -- outside, hi is inside.
 use mathlib.Core.Path.{sym, subst, ◌∙◌}
 use Prim.Native.Nat.{◌-◌}
-use borrow.Author.Tests.{not-true, not-false}
 use Rattle.scanline.specs.declared.Place.TheVariants.{At}
 use Rattle.scanline.proofs.Find.{find_none, bracket_up, bracket_down, bracket_end}
 use Rattle.ellipse_search.specs.Search.{NearestOf}
 use Rattle.ellipse_search.proofs.Search.{row_rises, nearest_outside}
 use native.Mathlib.Omega.{arith}
+use Rattle.ellipse_search.proofs.first_on_row.Lts
+use Rattle.ellipse_search.proofs.first_on_row.Reads
+use Rattle.ellipse_search.proofs.first_on_row.Tie
 use Rattle.ellipse_search.proofs.first_on_row.Goals as goal
 
-near : (c : goal.In-At)
+-- the facts known at these places
+abbrev Start : Type 0
+Start = Lts.Start Tie.the-claims Reads.Pre Reads.Post goal.the-invariant-loop-lo goal.the-decreases-loop-lo Tie.handed_clauses
+
+abbrev In-At : Type 0
+In-At = Lts.Past-After-known_told Tie.the-claims Reads.Pre Reads.Post goal.the-invariant-loop-lo goal.the-decreases-loop-lo Tie.handed_clauses
+
+near : (c : In-At)
     → NearestOf c.args.width c.args.from c.args.count (At c.in-At.nearest)
 near c =
     let a = c.args in
@@ -33,7 +42,7 @@ returns-then-not-inside_left c =
     let found = near c.before.before in
     let a = c.args in
     sym (find_none _ _ _ (nearest_outside a.row a.width a.from a.count _ found.1 found.0
-    (sym c.inside_left.ensures ∙ not-true _ c.if-not-inside_left.true)))
+    (sym c.inside_left.ensures ∙ c.if-not-inside_left.true)))
 
 pub loop-lo-init : goal.loop-lo-init
 loop-lo-init c =
@@ -44,7 +53,7 @@ loop-lo-init c =
       lo_le = omega arith;
       hi_le = omega arith;
       below = λ k f l. absurd (omega arith);
-      here = sym c.inside_left.ensures ∙ not-false _ c.if-not-inside_left.false;
+      here = sym c.inside_left.ensures ∙ c.if-not-inside_left.false;
     }
 
 pub overflow_sub-k : goal.overflow_sub-k

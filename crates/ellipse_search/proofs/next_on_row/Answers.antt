@@ -6,9 +6,19 @@ use Rattle.scanline.proofs.Find.{find_none}
 use Rattle.ellipse_search.specs.Search.{NearestOf}
 use Rattle.ellipse_search.proofs.Search.{walk_left_finds, walk_right_finds}
 use native.Mathlib.Omega.{arith}
+use Rattle.ellipse_search.proofs.next_on_row.Lts
+use Rattle.ellipse_search.proofs.next_on_row.Reads
+use Rattle.ellipse_search.proofs.next_on_row.Tie
 use Rattle.ellipse_search.proofs.next_on_row.Goals as goal
 
-near : (c : goal.In-At)
+-- the facts known at these places
+abbrev Start : Type 0
+Start = Lts.Start Tie.the-claims Reads.Pre Reads.Post Tie.handed_clauses
+
+abbrev In-At : Type 0
+In-At = Lts.Past-After-known_told Tie.the-claims Reads.Pre Reads.Post Tie.handed_clauses
+
+near : (c : In-At)
     → NearestOf c.args.width c.args.from c.args.count (At c.in-At.nearest)
 near c =
     let a = c.args in

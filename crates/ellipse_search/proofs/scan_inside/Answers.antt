@@ -13,6 +13,9 @@ use Rattle.ellipse_search.proofs.scan_inside.Tie
 use Rattle.ellipse_search.proofs.scan_inside.Goals as goal
 
 -- the facts known at these places
+abbrev Start : Type 0
+Start = Lts.Start Tie.the-claims Reads.Pre Reads.Post Tie.handed_clauses
+
 abbrev After-on_row-row : Type 0
 After-on_row-row = Lts.After-on_row Tie.the-claims Reads.Pre Reads.Post Tie.handed_clauses
 

@@ -24,11 +24,17 @@ use Rattle.figure_points.proofs.count_points.Tie
 use Rattle.figure_points.proofs.count_points.Goals as goal
 
 -- the facts known at these places
+abbrev Start : Type 0
+Start = Lts.Start Tie.the-claims Reads.Pre Reads.Post goal.the-invariant-loop-dy goal.the-decreases-loop-dy Tie.handed_clauses
+
 abbrev After-rectangle-rectangle : Type 0
 After-rectangle-rectangle = Lts.After-rectangle Tie.the-claims Reads.Pre Reads.Post goal.the-invariant-loop-dy goal.the-decreases-loop-dy Tie.handed_clauses
 
 abbrev After-row : Type 0
 After-row = Lts.After-row Tie.the-claims Reads.Pre Reads.Post goal.the-invariant-loop-dy goal.the-decreases-loop-dy Tie.handed_clauses
+
+abbrev After-run_length-n : Type 0
+After-run_length-n = Lts.After-run_length Tie.the-claims Reads.Pre Reads.Post goal.the-invariant-loop-dy goal.the-decreases-loop-dy Tie.handed_clauses
 
 pub rectangle-rectangle-requires : goal.rectangle-rectangle-requires
 rectangle-rectangle-requires c = omega (arith, int)
@@ -121,7 +127,7 @@ run_length-n-requires c =
     let ends = row_ends c.before.before.before _ c.in-Run.is in record { near = start_is_near _ _ _ inside.at.x inside.size.width ends; near_2 = end_is_near _ _ _ inside.at.x inside.size.width ends }
 
 -- a run has at most the box's columns
-run_small : (c : goal.After-run_length-n) → c.run_length-n.result ≤ wide_stroke_side
+run_small : (c : After-run_length-n) → c.run_length-n.result ≤ wide_stroke_side
 run_small c =
     let inside = area c.before.before.before.before.before.before.before.before.before.before.before in
     let wide = inside.size.width in

@@ -22,14 +22,23 @@ use Rattle.figure_points.proofs.points.Tie
 use Rattle.figure_points.proofs.points.Goals as goal
 
 -- the facts known at these places
+abbrev Start : Type 0
+Start = Lts.Start Tie.the-claims Reads.Pre Reads.Post Tie.handed_clauses
+
+abbrev In-Passed : Type 0
+In-Passed = Lts.Past-After-enum_told Tie.the-claims Reads.Pre Reads.Post Tie.handed_clauses
+
+abbrev After-count_points-count : Type 0
+After-count_points-count = Lts.After-count_points Tie.the-claims Reads.Pre Reads.Post Tie.handed_clauses
+
 abbrev After-check_room-room : Type 0
 After-check_room-room = Lts.After-check_room Tie.the-claims Reads.Pre Reads.Post Tie.handed_clauses
 
 -- the figure passed, the points counted are the figure's, and the room checked is what they need
-figure_passed_here : (c : goal.In-Passed) → figure_check c.args.figure ≡ Passed
+figure_passed_here : (c : In-Passed) → figure_check c.args.figure ≡ Passed
 figure_passed_here c = sym c.check-checked.ensures ∙ c.in-Passed.is
 
-count_is : (c : goal.After-count_points-count) → c.count_points-count.result ≡ length (points c.args.figure)
+count_is : (c : After-count_points-count) → c.count_points-count.result ≡ length (points c.args.figure)
 count_is c = c.count_points-count.ensures.0 ∙ ap (λ (s : Shape). length (points_of_shape s)) c.shape-shape.ensures.0
 
 room_is : (c : After-check_room-room) → c.check_room-room.result ≡ room_check (2 * length (points c.args.figure))

@@ -27,6 +27,9 @@ use Rattle.figure_points.proofs.put_points.Tie
 use Rattle.figure_points.proofs.put_points.Goals as goal
 
 -- the facts known at these places
+abbrev Start : Type 0
+Start = Lts.Start Tie.the-claims Reads.Pre Reads.Post goal.the-invariant-loop-dy goal.the-decreases-loop-dy Tie.handed_clauses
+
 abbrev After-rectangle-rectangle : Type 0
 After-rectangle-rectangle = Lts.After-rectangle Tie.the-claims Reads.Pre Reads.Post goal.the-invariant-loop-dy goal.the-decreases-loop-dy Tie.handed_clauses
 

@@ -1,7 +1,6 @@
 -- `host_figures::confined_radii` meets its contract: the call is made on the figure that the numbers are, and its answer told.
 use mathlib.Core.Path.{◌≡◌, sym, ap, ◌∙◌}
 use mathlib.Core.Bool.{true}
-use borrow.Author.Tests.{not-true, not-false}
 use Rattle.figure.specs.declared.Figure.{Figure}
 use Rattle.figure.specs.declared.calls.RadiiAnswer.{RadiiAnswer}
 use Rattle.figure.specs.Calls.{radii_outcome, confined_radii_call}
@@ -15,12 +14,18 @@ use Rattle.host_figures.proofs.confined_radii.Tie
 use Rattle.host_figures.proofs.confined_radii.Goals as goal
 
 -- the facts known at these places
+abbrev Start : Type 0
+Start = Lts.Start Tie.the-claims Reads.Pre Reads.Post
+
+abbrev Else-not-is_figure : Type 0
+Else-not-is_figure = Lts.Else1 Tie.the-claims Reads.Pre Reads.Post
+
 abbrev After-confined_radii : Type 0
-After-confined_radii = Lts.After-confined_radii Tie.the-claims Reads.Pre Reads.Post Tie.handed_clauses
+After-confined_radii = Lts.After-confined_radii Tie.the-claims Reads.Pre Reads.Post
 
 -- the numbers are a figure
-is_one : (c : goal.Else-not-is_figure) → is_figure c.args.figure.now ≡ true
-is_one c = sym c.is_figure.ensures ∙ not-false _ c.if-not-is_figure.false
+is_one : (c : Else-not-is_figure) → is_figure c.args.figure.now ≡ true
+is_one c = sym c.is_figure.ensures ∙ c.if-not-is_figure.false
 
 -- what the call says
 says : (c : After-confined_radii) → radii_outcome c.confined_radii.result ≡ confined_radii_call
@@ -29,7 +34,7 @@ says c = c.confined_radii.ensures ∙ ap (λ (f : Figure). confined_radii_call f
 
 pub returns-then-not-is_figure : goal.returns-then-not-is_figure
 returns-then-not-is_figure c =
-    rw (sym c.is_figure.ensures ∙ not-true _ c.if-not-is_figure.true) (tells_refused no_record c.args.out.now)
+    rw (sym c.is_figure.ensures ∙ c.if-not-is_figure.true) (tells_refused no_record c.args.out.now)
 
 pub figure_of-requires : goal.figure_of-requires
 figure_of-requires c = figure_length_lem c.args.figure.now (is_one c)

@@ -4,7 +4,6 @@ use mathlib.Core.Bool.{true}
 use mir.Syntax.{w32}
 use mir.Val.{SFits}
 use mir.Facts.{to_z-of_z}
-use borrow.Author.Tests.{not-true, not-false}
 use Rattle.figure.specs.declared.calls.ContainsAnswer.{ContainsAnswer}
 use Rattle.figure.specs.Calls.{contains_outcome, contains_call}
 use Rattle.host_records.specs.RecordNumbers.{is_figure, figure_of}
@@ -18,12 +17,18 @@ use Rattle.host_figures.proofs.contains.Tie
 use Rattle.host_figures.proofs.contains.Goals as goal
 
 -- the facts known at these places
+abbrev Start : Type 0
+Start = Lts.Start Tie.the-claims Reads.Pre Reads.Post
+
+abbrev Else-not-is_figure : Type 0
+Else-not-is_figure = Lts.Else1 Tie.the-claims Reads.Pre Reads.Post
+
 abbrev After-contains : Type 0
-After-contains = Lts.After-contains Tie.the-claims Reads.Pre Reads.Post Tie.handed_clauses
+After-contains = Lts.After-contains Tie.the-claims Reads.Pre Reads.Post
 
 -- the numbers are a figure
-is_one : (c : goal.Else-not-is_figure) → is_figure c.args.figure.now ≡ true
-is_one c = sym c.is_figure.ensures ∙ not-false _ c.if-not-is_figure.false
+is_one : (c : Else-not-is_figure) → is_figure c.args.figure.now ≡ true
+is_one c = sym c.is_figure.ensures ∙ c.if-not-is_figure.false
 
 -- what the call says
 says : (c : After-contains) → contains_outcome c.contains.result ≡ contains_call (figure_of c.args.figure.now)
@@ -37,7 +42,7 @@ says c =
 
 pub returns-then-not-is_figure : goal.returns-then-not-is_figure
 returns-then-not-is_figure c =
-    rw (sym c.is_figure.ensures ∙ not-true _ c.if-not-is_figure.true) (tells_refused no_record c.args.out.now)
+    rw (sym c.is_figure.ensures ∙ c.if-not-is_figure.true) (tells_refused no_record c.args.out.now)
 
 pub figure_of-requires : goal.figure_of-requires
 figure_of-requires c = figure_length_lem c.args.figure.now (is_one c)

@@ -15,7 +15,7 @@ use Rattle.host_figures.proofs.ellipse_with_center.Goals as goal
 
 -- the facts known at these places
 abbrev After-ellipse_with_center : Type 0
-After-ellipse_with_center = Lts.After-ellipse_with_center Tie.the-claims Reads.Pre Reads.Post Tie.handed_clauses
+After-ellipse_with_center = Lts.After-ellipse_with_center Tie.the-claims Reads.Pre Reads.Post
 
 -- what the call says
 says : (c : After-ellipse_with_center)

@@ -5,7 +5,6 @@ use lib.IntN.{ℤ}
 use mir.Syntax.{w32}
 use mir.Val.{SFits}
 use mir.Facts.{to_z-of_z}
-use borrow.Author.Tests.{not-true, not-false}
 use Rattle.figure.specs.declared.Figure.{Figure}
 use Rattle.figure.specs.declared.calls.RowAnswer.{RowAnswer}
 use Rattle.figure.specs.Calls.{row_outcome, row_call}
@@ -20,12 +19,18 @@ use Rattle.host_figures.proofs.row.Tie
 use Rattle.host_figures.proofs.row.Goals as goal
 
 -- the facts known at these places
+abbrev Start : Type 0
+Start = Lts.Start Tie.the-claims Reads.Pre Reads.Post
+
+abbrev Else-not-is_figure : Type 0
+Else-not-is_figure = Lts.Else1 Tie.the-claims Reads.Pre Reads.Post
+
 abbrev After-row : Type 0
-After-row = Lts.After-row Tie.the-claims Reads.Pre Reads.Post Tie.handed_clauses
+After-row = Lts.After-row Tie.the-claims Reads.Pre Reads.Post
 
 -- the numbers are a figure
-is_one : (c : goal.Else-not-is_figure) → is_figure c.args.figure.now ≡ true
-is_one c = sym c.is_figure.ensures ∙ not-false _ c.if-not-is_figure.false
+is_one : (c : Else-not-is_figure) → is_figure c.args.figure.now ≡ true
+is_one c = sym c.is_figure.ensures ∙ c.if-not-is_figure.false
 
 -- what the call says
 says : (c : After-row) → row_outcome c.row.result ≡ row_call (figure_of c.args.figure.now) c.args.y
@@ -35,7 +40,7 @@ says c =
 
 pub returns-then-not-is_figure : goal.returns-then-not-is_figure
 returns-then-not-is_figure c =
-    rw (sym c.is_figure.ensures ∙ not-true _ c.if-not-is_figure.true) (tells_refused no_record c.args.out.now)
+    rw (sym c.is_figure.ensures ∙ c.if-not-is_figure.true) (tells_refused no_record c.args.out.now)
 
 pub figure_of-requires : goal.figure_of-requires
 figure_of-requires c = figure_length_lem c.args.figure.now (is_one c)

@@ -1,7 +1,6 @@
 -- `host_paint::paint_figure` meets its contract: the figure and the style that the numbers are, painted in one call.
 use mathlib.Core.Path.{◌≡◌, refl, sym, ap, ◌∙◌}
 use mathlib.Core.Bool.{true}
-use borrow.Author.Tests.{not-true, not-false}
 use Rattle.refusal.specs.Refusal.{Outcome}
 use Rattle.paint.specs.declared.PaintAnswer.{PaintAnswer}
 use Rattle.paint.specs.Paint.{paint_outcome, paint_call, canvas_after}
@@ -28,10 +27,10 @@ After-paint_figure = Lts.After-paint_figure Tie.the-claims Reads.Pre Reads.Post 
 
 -- the numbers are a figure, and a style
 is_one : (c : Else-not-is_figure) → is_figure c.args.figure.now ≡ true
-is_one c = sym c.is_figure.ensures ∙ not-false _ c.if-not-is_figure.false
+is_one c = sym c.is_figure.ensures ∙ c.if-not-is_figure.false
 
 is_styled : (c : Else-not-is_style) → is_style c.args.style.now ≡ true
-is_styled c = sym c.is_style.ensures ∙ not-false _ c.if-not-is_style.false
+is_styled c = sym c.is_style.ensures ∙ c.if-not-is_style.false
 
 -- what the call says, and the canvas after it
 says : (c : After-paint_figure)
@@ -55,10 +54,10 @@ paints c =
     a.height a.canvas.now)
 
 pub returns-then-not-is_figure : goal.returns-then-not-is_figure
-returns-then-not-is_figure c = rw (sym c.is_figure.ensures ∙ not-true _ c.if-not-is_figure.true) (record { value = refl; canvas_after = refl })
+returns-then-not-is_figure c = rw (sym c.is_figure.ensures ∙ c.if-not-is_figure.true) (record { value = refl; canvas_after = refl })
 
 pub returns-then-not-is_style : goal.returns-then-not-is_style
-returns-then-not-is_style c = rw (is_one c.before.before.before, sym c.is_style.ensures ∙ not-true _ c.if-not-is_style.true) (record { value = refl; canvas_after = refl })
+returns-then-not-is_style c = rw (is_one c.before.before.before, sym c.is_style.ensures ∙ c.if-not-is_style.true) (record { value = refl; canvas_after = refl })
 
 pub figure_of-requires : goal.figure_of-requires
 figure_of-requires c = figure_length_lem c.args.figure.now (is_one c.before.before.before)

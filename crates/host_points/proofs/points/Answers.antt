@@ -2,7 +2,6 @@
 -- the answer told.
 use mathlib.Core.Path.{◌≡◌, refl, sym, ap, ap₂, ◌∙◌}
 use mathlib.Core.Bool.{true}
-use borrow.Author.Tests.{not-true, not-false}
 use lib.ListN.{length}
 use Rattle.refusal.specs.Refusal.{number, or_else}
 use Rattle.refusal.proofs.Checks.{refusal_found}
@@ -21,6 +20,12 @@ use Rattle.host_points.proofs.points.Tie
 use Rattle.host_points.proofs.points.Goals as goal
 
 -- the facts known at these places
+abbrev Start : Type 0
+Start = Lts.Start Tie.the-claims Reads.Pre Reads.Post Tie.handed_clauses
+
+abbrev Else-not-is_figure : Type 0
+Else-not-is_figure = Lts.Else1 Tie.the-claims Reads.Pre Reads.Post Tie.handed_clauses
+
 abbrev After-or_else-checked : Type 0
 After-or_else-checked = Lts.After-or_else Tie.the-claims Reads.Pre Reads.Post Tie.handed_clauses
 
@@ -28,8 +33,8 @@ abbrev After-points : Type 0
 After-points = Lts.After-points Tie.the-claims Reads.Pre Reads.Post Tie.handed_clauses
 
 -- the numbers are a figure
-is_one : (c : goal.Else-not-is_figure) → is_figure c.args.figure.now ≡ true
-is_one c = sym c.is_figure.ensures ∙ not-false _ c.if-not-is_figure.false
+is_one : (c : Else-not-is_figure) → is_figure c.args.figure.now ≡ true
+is_one c = sym c.is_figure.ensures ∙ c.if-not-is_figure.false
 
 -- the check made is the definition's
 checked : (c : After-or_else-checked) → c.or_else-checked.result ≡ points_room c.args.figure.now
@@ -57,7 +62,7 @@ lists c =
 
 pub returns-then-not-is_figure : goal.returns-then-not-is_figure
 returns-then-not-is_figure c =
-    rw (sym c.is_figure.ensures ∙ not-true _ c.if-not-is_figure.true) (record { tells = tells_refused no_record c.args.out.now; list_after = refl })
+    rw (sym c.is_figure.ensures ∙ c.if-not-is_figure.true) (record { tells = tells_refused no_record c.args.out.now; list_after = refl })
 
 pub figure_of-given-requires : goal.figure_of-given-requires
 figure_of-given-requires c = figure_length_lem c.args.figure.now (is_one c)

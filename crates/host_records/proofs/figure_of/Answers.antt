@@ -15,14 +15,17 @@ use Rattle.host_records.proofs.figure_of.Tie
 use Rattle.host_records.proofs.figure_of.Goals as goal
 
 -- the facts known at these places
+abbrev Start : Type 0
+Start = Lts.Start Tie.the-claims Reads.Pre Reads.Post
+
 abbrev After-t5-1 : Type 0
-After-t5-1 = Lts.After-if12 Tie.the-claims Reads.Pre Reads.Post Tie.handed_clauses
+After-t5-1 = Lts.After-if12 Tie.the-claims Reads.Pre Reads.Post
 
 abbrev After-t5-2-1 : Type 0
-After-t5-2-1 = Lts.After-if22 Tie.the-claims Reads.Pre Reads.Post Tie.handed_clauses
+After-t5-2-1 = Lts.After-if22 Tie.the-claims Reads.Pre Reads.Post
 
 -- the tests of the kind are the definition's
-abbrev kind : goal.Start → ℤ
+abbrev kind : Start → ℤ
 kind c = number_at c.args.numbers.now kind_at
 
 by_ellipse : (c : After-t5-1) {t : Bool} → lt_z (to_z w32 (of_z w32 (kind c.before.before))) crate_box_kind ≡ t

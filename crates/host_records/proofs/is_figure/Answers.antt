@@ -1,7 +1,7 @@
 -- `host_records::is_figure` meets its contract: its tests are the definition's, in order.
 use mathlib.Core.Path.{◌≡◌, sym, ap, ◌∙◌}
 use mathlib.Core.Bool.{true}
-use borrow.Author.Tests.{not-true, not-false, eq-eqb, ne_eqb}
+use borrow.Author.Tests.{eq-eqb, ne_eqb}
 use lib.Dec.{eqb}
 use lib.ListN.{length}
 use Rattle.host_records.proofs.Walks.{read_back_lem}
@@ -13,13 +13,16 @@ use Rattle.host_records.proofs.is_figure.Goals as goal
 
 -- the facts known at these places
 abbrev Start : Type 0
-Start = Lts.Start Tie.the-claims Reads.Pre Reads.Post Tie.handed_clauses
+Start = Lts.Start Tie.the-claims Reads.Pre Reads.Post
+
+abbrev Else-numbers-ne-FIGURE_LENGTH : Type 0
+Else-numbers-ne-FIGURE_LENGTH = Lts.Else1 Tie.the-claims Reads.Pre Reads.Post
 
 abbrev After-is_within : Type 0
-After-is_within = Lts.After-is_within Tie.the-claims Reads.Pre Reads.Post Tie.handed_clauses
+After-is_within = Lts.After-is_within Tie.the-claims Reads.Pre Reads.Post
 
 -- the tests made are the definition's
-long : (c : goal.Else-numbers-ne-FIGURE_LENGTH) → eqb (length c.args.numbers.now) figure_length ≡ true
+long : (c : Else-numbers-ne-FIGURE_LENGTH) → eqb (length c.args.numbers.now) figure_length ≡ true
 long c = eq-eqb (length c.args.numbers.now) figure_length c.if-numbers-ne-FIGURE_LENGTH.false
 
 kind : (c : After-is_within) → within ellipse_kind w3c_box_kind (number_at c.args.numbers.now kind_at)
@@ -34,10 +37,10 @@ returns-then-numbers-ne-FIGURE_LENGTH c = rw (ne_eqb (length c.args.numbers.now)
 
 pub returns-then-not-is_within : goal.returns-then-not-is_within
 unfolding is_figure
-returns-then-not-is_within c = rw (long c.before.before.before, kind c.before ∙ not-true _ c.if-not-is_within.true)
+returns-then-not-is_within c = rw (long c.before.before.before, kind c.before ∙ c.if-not-is_within.true)
 
 pub returns : goal.returns
 unfolding is_figure
 returns c =
-    rw (long c.before.before.before.before.before, kind c.before.before.before ∙ not-false _ c.if-not-is_within.false)
+    rw (long c.before.before.before.before.before, kind c.before.before.before ∙ c.if-not-is_within.false)
     c.none_negative.ensures

@@ -1,7 +1,7 @@
 -- `host_records::is_style` meets its contract: its tests are the definition's, in order.
 use mathlib.Core.Path.{◌≡◌, sym, ap, ◌∙◌}
 use mathlib.Core.Bool.{true, false}
-use borrow.Author.Tests.{not-true, not-false, eq-eqb, ne_eqb}
+use borrow.Author.Tests.{not-true, eq-eqb, ne_eqb}
 use lib.Dec.{eqb}
 use lib.IntN.{ℤ, pos}
 use lib.ListN.{length}
@@ -19,19 +19,31 @@ use Rattle.host_records.proofs.is_style.Goals as goal
 
 -- the facts known at these places
 abbrev Start : Type 0
-Start = Lts.Start Tie.the-claims Reads.Pre Reads.Post Tie.handed_clauses
+Start = Lts.Start Tie.the-claims Reads.Pre Reads.Post
+
+abbrev Else-numbers-ne-STYLE_LENGTH : Type 0
+Else-numbers-ne-STYLE_LENGTH = Lts.Else1 Tie.the-claims Reads.Pre Reads.Post
 
 abbrev After-is_within : Type 0
-After-is_within = Lts.After-is_within Tie.the-claims Reads.Pre Reads.Post Tie.handed_clauses
+After-is_within = Lts.After-is_within Tie.the-claims Reads.Pre Reads.Post
+
+abbrev Else-not-is_within : Type 0
+Else-not-is_within = Lts.Else2 Tie.the-claims Reads.Pre Reads.Post
 
 abbrev After-is_within-2 : Type 0
-After-is_within-2 = Lts.After-is_within2 Tie.the-claims Reads.Pre Reads.Post Tie.handed_clauses
+After-is_within-2 = Lts.After-is_within2 Tie.the-claims Reads.Pre Reads.Post
+
+abbrev Else-not-is_within-2 : Type 0
+Else-not-is_within-2 = Lts.Else3 Tie.the-claims Reads.Pre Reads.Post
 
 abbrev After-t5-1 : Type 0
-After-t5-1 = Lts.After-if42 Tie.the-claims Reads.Pre Reads.Post Tie.handed_clauses
+After-t5-1 = Lts.After-if42 Tie.the-claims Reads.Pre Reads.Post
+
+abbrev After-is_within-3 : Type 0
+After-is_within-3 = Lts.After-is_within3 Tie.the-claims Reads.Pre Reads.Post
 
 -- the tests made are the definition's
-long : (c : goal.Else-numbers-ne-STYLE_LENGTH) → eqb (length c.args.numbers.now) style_length ≡ true
+long : (c : Else-numbers-ne-STYLE_LENGTH) → eqb (length c.args.numbers.now) style_length ≡ true
 long c = eq-eqb (length c.args.numbers.now) style_length c.if-numbers-ne-STYLE_LENGTH.false
 
 stroke : (c : After-is_within) → within absent_paint max_colour (number_at c.args.numbers.now stroke_at)
@@ -57,7 +69,7 @@ by_sign c =
     let a = c.args in
     rw (read_back_lem a.numbers.now stroke_width_at c.t5-1.given) (λ e. omega (arith, int), λ e. omega (arith, int))
 
-alignment : (c : goal.After-is_within-3) → within inside_alignment outside_alignment
+alignment : (c : After-is_within-3) → within inside_alignment outside_alignment
     (number_at c.args.numbers.now alignment_at) ≡ c.is_within-3.result
 alignment c =
     let a = c.args in
@@ -65,11 +77,11 @@ alignment c =
     (read_back_lem a.numbers.now alignment_at c.is_within-arg-3-1.given))
 
 -- what holds after the first tests
-after_stroke : (c : goal.Else-not-is_within) → within absent_paint max_colour (number_at c.args.numbers.now stroke_at) ≡ true
-after_stroke c = stroke c.before ∙ not-false _ c.if-not-is_within.false
+after_stroke : (c : Else-not-is_within) → within absent_paint max_colour (number_at c.args.numbers.now stroke_at) ≡ true
+after_stroke c = stroke c.before ∙ c.if-not-is_within.false
 
-after_fill : (c : goal.Else-not-is_within-2) → within absent_paint max_colour (number_at c.args.numbers.now fill_at) ≡ true
-after_fill c = fill c.before ∙ not-false _ c.if-not-is_within-2.false
+after_fill : (c : Else-not-is_within-2) → within absent_paint max_colour (number_at c.args.numbers.now fill_at) ≡ true
+after_fill c = fill c.before ∙ c.if-not-is_within-2.false
 
 pub returns-then-numbers-ne-STYLE_LENGTH : goal.returns-then-numbers-ne-STYLE_LENGTH
 unfolding is_style
@@ -77,7 +89,7 @@ returns-then-numbers-ne-STYLE_LENGTH c = rw (ne_eqb (length c.args.numbers.now) 
 
 pub returns-then-not-is_within : goal.returns-then-not-is_within
 unfolding is_style
-returns-then-not-is_within c = rw (long c.before.before.before, stroke c.before ∙ not-true _ c.if-not-is_within.true)
+returns-then-not-is_within c = rw (long c.before.before.before, stroke c.before ∙ c.if-not-is_within.true)
 
 pub returns-then-not-is_within-2 : goal.returns-then-not-is_within-2
 unfolding is_style

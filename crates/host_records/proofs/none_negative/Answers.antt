@@ -18,6 +18,9 @@ use Rattle.host_records.proofs.none_negative.Reads
 use Rattle.host_records.proofs.none_negative.Goals as goal
 
 -- the facts known at these places
+abbrev Start : Type 0
+Start = Lts.Start Reads.Pre Reads.Post goal.the-invariant-loop-i goal.the-decreases-loop-i
+
 abbrev After-t6-1 : Type 0
 After-t6-1 = Lts.After-if12 Reads.Pre Reads.Post goal.the-invariant-loop-i goal.the-decreases-loop-i
 

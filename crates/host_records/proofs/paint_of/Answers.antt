@@ -18,7 +18,7 @@ use Rattle.host_records.proofs.paint_of.Goals as goal
 
 -- the facts known at these places
 abbrev Start : Type 0
-Start = Lts.Start Tie.the-claims Reads.Pre Reads.Post Tie.handed_clauses
+Start = Lts.Start Tie.the-claims Reads.Pre Reads.Post
 
 fits : (c : Start) → SFits w32 c.args.v
 fits c = search rules

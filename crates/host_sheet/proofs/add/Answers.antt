@@ -4,7 +4,7 @@ use mathlib.Core.Path.{◌≡◌, refl, sym, ap, ap₂, ◌∙◌}
 use mathlib.Core.Bool.{true}
 use mathlib.Core.List.{List, []}
 use Prim.Native.Nat.{ℕ, ◌<◌}
-use borrow.Author.Tests.{not-true, not-false}
+use borrow.Author.Tests.{not-true}
 use lib.IntN.{ℤ, pos}
 use lib.ListN.{length-set, set}
 use mir.Facts.{to_z-of_z}
@@ -31,6 +31,18 @@ use Rattle.host_sheet.proofs.add.Tie
 use Rattle.host_sheet.proofs.add.Goals as goal
 
 -- the facts known at these places
+abbrev Start : Type 0
+Start = Lts.Start Tie.the-claims Reads.Pre Reads.Post Tie.handed_clauses
+
+abbrev Else-not-is_sheet : Type 0
+Else-not-is_sheet = Lts.Else1 Tie.the-claims Reads.Pre Reads.Post Tie.handed_clauses
+
+abbrev Else-not-is_figure : Type 0
+Else-not-is_figure = Lts.Else2 Tie.the-claims Reads.Pre Reads.Post Tie.handed_clauses
+
+abbrev Else-not-is_style : Type 0
+Else-not-is_style = Lts.Else3 Tie.the-claims Reads.Pre Reads.Post Tie.handed_clauses
+
 abbrev After-add-made : Type 0
 After-add-made = Lts.After-add Tie.the-claims Reads.Pre Reads.Post Tie.handed_clauses
 
@@ -38,14 +50,14 @@ abbrev In-Accepted : Type 0
 In-Accepted = Lts.Past-After-enum_told Tie.the-claims Reads.Pre Reads.Post Tie.handed_clauses
 
 -- the numbers are a sheet, a figure and a style
-is_one : (c : goal.Else-not-is_sheet) → is_sheet c.args.sheet.now ≡ true
-is_one c = sym c.is_sheet.ensures ∙ not-false _ c.if-not-is_sheet.false
+is_one : (c : Else-not-is_sheet) → is_sheet c.args.sheet.now ≡ true
+is_one c = sym c.is_sheet.ensures ∙ c.if-not-is_sheet.false
 
-is_a_figure : (c : goal.Else-not-is_figure) → is_figure c.args.figure.now ≡ true
-is_a_figure c = sym c.is_figure.ensures ∙ not-false _ c.if-not-is_figure.false
+is_a_figure : (c : Else-not-is_figure) → is_figure c.args.figure.now ≡ true
+is_a_figure c = sym c.is_figure.ensures ∙ c.if-not-is_figure.false
 
-is_a_style : (c : goal.Else-not-is_style) → is_style c.args.style.now ≡ true
-is_a_style c = sym c.is_style.ensures ∙ not-false _ c.if-not-is_style.false
+is_a_style : (c : Else-not-is_style) → is_style c.args.style.now ≡ true
+is_a_style c = sym c.is_style.ensures ∙ c.if-not-is_style.false
 
 -- what the call says, and the sheet after it
 says : (c : After-add-made)
@@ -94,11 +106,11 @@ place c =
 
 pub returns-then-not-is_sheet : goal.returns-then-not-is_sheet
 unfolding add_told add_numbers
-returns-then-not-is_sheet c = rw (sym c.is_sheet.ensures ∙ not-true _ c.if-not-is_sheet.true) (record { value = refl; sheet_after = refl })
+returns-then-not-is_sheet c = rw (sym c.is_sheet.ensures ∙ c.if-not-is_sheet.true) (record { value = refl; sheet_after = refl })
 
 pub returns-then-not-is_figure : goal.returns-then-not-is_figure
 unfolding add_told add_numbers
-returns-then-not-is_figure c = rw (is_one c.before.before, sym c.is_figure.ensures ∙ not-true _ c.if-not-is_figure.true) (record { value = refl; sheet_after = refl })
+returns-then-not-is_figure c = rw (is_one c.before.before, sym c.is_figure.ensures ∙ c.if-not-is_figure.true) (record { value = refl; sheet_after = refl })
 
 pub returns-then-not-is_style : goal.returns-then-not-is_style
 unfolding add_told add_numbers

@@ -1,7 +1,6 @@
 -- `host_sheet::paint` meets its contract: the check made is the answer; passed, the layer's row is painted and its next row written.
 use mathlib.Core.Path.{◌≡◌, refl, sym, ap, ◌∙◌}
 use mathlib.Core.Bool.{true}
-use borrow.Author.Tests.{not-true, not-false}
 use Rattle.refusal.specs.declared.Checked.TheVariants.{Passed}
 use Rattle.refusal.specs.Refusal.{number}
 use Rattle.refusal.proofs.Checks.{refusal_found}
@@ -32,7 +31,7 @@ In-Passed = Lts.Past-After-enum_told Tie.the-claims Reads.Pre Reads.Post Tie.han
 
 -- the numbers are a sheet
 is_one : (c : Else-not-is_sheet) → is_sheet c.args.sheet.now ≡ true
-is_one c = sym c.is_sheet.ensures ∙ not-false _ c.if-not-is_sheet.false
+is_one c = sym c.is_sheet.ensures ∙ c.if-not-is_sheet.false
 
 checked : (c : After-check_paint-checked)
     → c.check_paint-checked.result ≡ sheet_answer (sheet_of c.args.sheet.now) c.args.canvas.now
@@ -46,7 +45,7 @@ is_accepted_lem c = sym (checked c.before) ∙ c.in-Passed.is
 
 pub returns-then-not-is_sheet : goal.returns-then-not-is_sheet
 unfolding paint_told paint_numbers paint_canvas
-returns-then-not-is_sheet c = rw (sym c.is_sheet.ensures ∙ not-true _ c.if-not-is_sheet.true) (record { value = refl; sheet_after = refl; canvas_after = refl })
+returns-then-not-is_sheet c = rw (sym c.is_sheet.ensures ∙ c.if-not-is_sheet.true) (record { value = refl; sheet_after = refl; canvas_after = refl })
 
 pub check_paint-checked-requires : goal.check_paint-checked-requires
 check_paint-checked-requires c = sheet_length_lem c.args.sheet.now (is_one c.before)

@@ -5,7 +5,6 @@ use mathlib.Core.Bool.{true}
 use mathlib.Core.List.{List}
 use Prim.Native.Nat.{◌<◌, ◌≤◌}
 use native.Mathlib.Omega.{arith}
-use borrow.Author.Tests.{not-true, not-false}
 use lib.IntN.{ℤ, pos}
 use lib.ListN.{length, set}
 use mir.Facts.{to_z-of_z}
@@ -41,7 +40,7 @@ In-Accepted = Lts.Past-After-enum_told Tie.the-claims Reads.Pre Reads.Post Tie.h
 
 -- the numbers are a sheet
 is_one : (c : Else-not-is_sheet) → is_sheet c.args.sheet.now ≡ true
-is_one c = sym c.is_sheet.ensures ∙ not-false _ c.if-not-is_sheet.false
+is_one c = sym c.is_sheet.ensures ∙ c.if-not-is_sheet.false
 
 -- what the call says, the sheet after it, and the canvas
 abbrev start : After-remove-made → Start
@@ -115,7 +114,7 @@ long c = sheet_length_lem c.args.sheet.now (is_one c.before.before.before.before
 
 pub returns-then-not-is_sheet : goal.returns-then-not-is_sheet
 unfolding remove_told remove_numbers remove_canvas
-returns-then-not-is_sheet c = rw (sym c.is_sheet.ensures ∙ not-true _ c.if-not-is_sheet.true) (record { value = refl; sheet_after = refl; canvas_after = refl; background_value = refl })
+returns-then-not-is_sheet c = rw (sym c.is_sheet.ensures ∙ c.if-not-is_sheet.true) (record { value = refl; sheet_after = refl; canvas_after = refl; background_value = refl })
 
 pub sheet_of-before-requires : goal.sheet_of-before-requires
 sheet_of-before-requires c = sheet_length_lem c.args.sheet.now (is_one c.before)

@@ -10,8 +10,11 @@ use Rattle.host_sheet_paint.proofs.check_asked.Tie
 use Rattle.host_sheet_paint.proofs.check_asked.Goals as goal
 
 -- the facts known at these places
+abbrev Start : Type 0
+Start = Lts.Start Tie.the-claims Reads.Pre Reads.Post
+
 abbrev In-Passed : Type 0
-In-Passed = Lts.Past-After-enum_told Tie.the-claims Reads.Pre Reads.Post Tie.handed_clauses
+In-Passed = Lts.Past-After-enum_told Tie.the-claims Reads.Pre Reads.Post
 
 -- the canvas has its length
 size : (c : In-Passed)

@@ -5,7 +5,6 @@ use mathlib.Core.Bool.{true, false}
 use mathlib.Core.List.{List}
 use Prim.Native.Nat.{ℕ}
 use native.Mathlib.Omega.{arith}
-use borrow.Author.Tests.{not-true, not-false}
 use lib.IntN.{ℤ, pos}
 use mir.Facts.{to_z-of_z}
 use Rattle.geometry.specs.Limits.{max_layers}
@@ -34,20 +33,29 @@ use Rattle.host_sheet_paint.proofs.check_paint.Tie
 use Rattle.host_sheet_paint.proofs.check_paint.Goals as goal
 
 -- the facts known at these places
+abbrev Start : Type 0
+Start = Lts.Start Tie.the-claims Reads.Pre Reads.Post Tie.handed_clauses
+
 abbrev After-check : Type 0
 After-check = Lts.After-check Tie.the-claims Reads.Pre Reads.Post Tie.handed_clauses
+
+abbrev In-Passed : Type 0
+In-Passed = Lts.Past-After-enum_told Tie.the-claims Reads.Pre Reads.Post Tie.handed_clauses
 
 abbrev After-is_within : Type 0
 After-is_within = Lts.After-is_within Tie.the-claims Reads.Pre Reads.Post Tie.handed_clauses
 
+abbrev After-next_of-y : Type 0
+After-next_of-y = Lts.After-next_of Tie.the-claims Reads.Pre Reads.Post Tie.handed_clauses
+
 abbrev After-test_places : Type 0
 After-test_places = Lts.After-test_places Tie.the-claims Reads.Pre Reads.Post Tie.handed_clauses
 
-abbrev sheet : goal.Start → Sheet
+abbrev sheet : Start → Sheet
 sheet c = sheet_of c.args.numbers.now
 
 -- the answer to a sheet that breaks a rule
-refused : (c : goal.Start) (canvas : List ℕ) → rules_kept c.args.numbers.now c.requires ≡ false
+refused : (c : Start) (canvas : List ℕ) → rules_kept c.args.numbers.now c.requires ≡ false
     → sheet_answer (sheet c) canvas (call_paint c.args.layer) ≡ Refused SheetRule
 refused c canvas broken =
     paint_broken (sheet c).width (sheet c).height (sheet c).count (sheet c).layers (sixteen c.args.numbers.now)
@@ -60,7 +68,7 @@ size_is c check found =
     let size = c.size_of-size.ensures in
     sym (c.check.ensures ∙ ap₂ canvas_size_check c.size_of-size.ensures.0 c.size_of-size.ensures.1) ∙ found
 
-size : (c : goal.In-Passed)
+size : (c : In-Passed)
     → canvas_size_check (sheet c.before.before.before).width (sheet c.before.before.before).height
     ≡ Passed
 size c = size_is c.before Passed c.in-Passed.is
@@ -74,16 +82,13 @@ few_is c =
     ∙ ap (within (pos 0) (pos max_layers))
     (read_back c.args.numbers.now count_at c.is_within-arg-1.given))
 
-abbrev start : goal.After-next_of-y → goal.Start
-start c = c.before.before.before.before.before.before.before.before.before
+few : (c : After-next_of-y) → within (pos 0) (pos max_layers) (number_at c.args.numbers.now count_at) ≡ true
+few c = few_is c.before.before.before.before ∙ c.if-not-is_within.false
 
-few : (c : goal.After-next_of-y) → within (pos 0) (pos max_layers) (number_at c.args.numbers.now count_at) ≡ true
-few c = few_is c.before.before.before.before ∙ not-false _ c.if-not-is_within.false
-
-passed : (c : goal.After-next_of-y) → canvas_size_check (sheet c.before.before.before.before.before.before.before.before.before).width (sheet c.before.before.before.before.before.before.before.before.before).height ≡ Passed
+passed : (c : After-next_of-y) → canvas_size_check (sheet c.before.before.before.before.before.before.before.before.before).width (sheet c.before.before.before.before.before.before.before.before.before).height ≡ Passed
 passed c = size c.before.before.before.before.before.before
 
-count_is : (c : goal.After-next_of-y) → c.floor0-count.result ≡ floor0 (number_at c.args.numbers.now count_at)
+count_is : (c : After-next_of-y) → c.floor0-count.result ≡ floor0 (number_at c.args.numbers.now count_at)
 count_is c =
     c.floor0-count.ensures
     ∙ ap (λ (z : ℤ). floor0 z) (read_back c.args.numbers.now count_at c.floor0-arg-1.given)
@@ -110,31 +115,28 @@ pub returns-then-not-is_within : goal.returns-then-not-is_within
 returns-then-not-is_within c =
     λ canvas long. sym
     (refused c.before.before.before.before.before.before canvas
-    (broken_by_count c.args.numbers.now c.requires (few_is c.before ∙ not-true _ c.if-not-is_within.true)))
+    (broken_by_count c.args.numbers.now c.requires (few_is c.before ∙ c.if-not-is_within.true)))
 
 pub test_places-requires : goal.test_places-requires
-test_places-requires c =
-    let entry = start c in record { numbers_len = entry.pre; count_le_max_layers = omega (arith, count_is c, count_few entry.args.numbers.now entry.pre (passed c) (few c)) }
+test_places-requires c = record { numbers_len = c.requires; count_le_max_layers = omega (arith, count_is c, count_few c.args.numbers.now c.requires (passed c) (few c)) }
 
 pub returns-in_default-test_places : goal.returns-in_default-test_places
 returns-in_default-test_places c =
-    let entry = start c.before.before in
-    let n = entry.args.numbers.now in
-    let broken = tested_broken n (floor0 (number_at n count_at)) entry.args.layer (next_of n entry.args.layer)
+    let n = c.args.numbers.now in
+    let broken = tested_broken n (floor0 (number_at n count_at)) c.args.layer (next_of n c.args.layer)
     (sym c.in_default-test_places.is ∙ tested c.before) in
-    λ canvas long. sym (refused entry canvas (rules_by_places n entry.pre (passed c.before.before) (few c.before.before) ∙ broken))
+    λ canvas long. sym (refused c.before.before.before.before.before.before.before.before.before.before.before canvas (rules_by_places n c.requires (passed c.before.before) (few c.before.before) ∙ broken))
 
 pub returns : goal.returns
 returns c =
-    let entry = start c.before.before.before in
-    let a = entry.args in
+    let a = c.args in
     let n = a.numbers.now in
     let found = tested_kept n (floor0 (number_at n count_at)) a.layer (next_of n a.layer) c.in-Kept.asked
     (sym c.in-Kept.is ∙ tested c.before.before) in
-    let rules = rules_by_places n entry.pre (passed c.before.before.before) (few c.before.before.before) ∙ found.0 in
+    let rules = rules_by_places n c.requires (passed c.before.before.before) (few c.before.before.before) ∙ found.0 in
     let size = c.size_of-size.ensures in
     λ canvas long.
     c.check_asked.ensures
     ∙ (λ i. asked_check (c.size_of-size.ensures.0 i) (c.size_of-size.ensures.1 i) (sym long i) (count_is c.before.before.before i) a.layer (found.1 i))
-    ∙ answer_by_asked n entry.pre (floor0 (number_at n count_at)) a.layer canvas rules
-    (count_kept n entry.pre (passed c.before.before.before) (few c.before.before.before) rules) (count_few n entry.pre (passed c.before.before.before) (few c.before.before.before))
+    ∙ answer_by_asked n c.requires (floor0 (number_at n count_at)) a.layer canvas rules
+    (count_kept n c.requires (passed c.before.before.before) (few c.before.before.before) rules) (count_few n c.requires (passed c.before.before.before) (few c.before.before.before))

@@ -60,19 +60,14 @@ narrow c =
           (told c).rules,
     )
 
--- the layer that is read is within bounds
-abbrev entry : After-layer_at-chosen → Start
-entry c = c.before.before
-
 chosen_is : (c : After-layer_at-chosen) → c.layer_at-chosen.result ≡ get_or (sheet c.before.before).layers c.args.layer blank_layer
 chosen_is c = c.layer_at-chosen.ensures ∙ sym (layer_in_place c.args.numbers.now c.args.layer (place c.before.before))
 
 within : (c : After-layer_at-chosen) → LayerWithin c.layer_at-chosen.result
 within c =
-    let e = entry c in
     subst LayerWithin (sym (chosen_is c))
-    (kept_layer (sheet e).width (sheet e).height (sheet e).count (sheet e).layers (sixteen e.args.numbers.now) (told e).rules
-    e.args.layer (told e).within)
+    (kept_layer (sheet c.before.before).width (sheet c.before.before).height (sheet c.before.before).count (sheet c.before.before).layers (sixteen c.args.numbers.now) (told c.before.before).rules
+    c.args.layer (told c.before.before).within)
 
 pub layer_at-chosen-requires : goal.layer_at-chosen-requires
 layer_at-chosen-requires c = (c.requires.numbers_len, place c.before.before)
@@ -106,8 +101,7 @@ written canvas W H l = paint_row drawing W H (styled_figure l.figure l.style) l.
 
 pub returns : goal.returns
 returns c =
-    let e = entry c.before.before.before.before.before.before.before.before.before.before in
-    let a = e.args in
+    let a = c.args in
     let layer = c.layer_at-chosen.result in
     let made = c.size_of-size.result in
     let size = c.size_of-size.ensures in
@@ -119,4 +113,4 @@ returns c =
           ∙ paint_by_found c.layer_at-chosen.result.figure c.layer_at-chosen.result.style c.size_of-size.result.width c.size_of-size.result.height a.canvas.now c.row_at.result c.layer_at-chosen.result.next_row
           (c.row_at.ensures ∙ ap (styled_row c.layer_at-chosen.result.figure c.layer_at-chosen.result.style) held)
           ∙ (λ k. written a.canvas.now (c.size_of-size.ensures.0 k) (c.size_of-size.ensures.1 k) (chosen_is c.before.before.before.before.before.before.before.before.before.before k))
-          ∙ sym (painted_canvas (sheet e) (sixteen a.numbers.now) a.canvas.now a.layer e.pre.1) }
+          ∙ sym (painted_canvas (sheet c.before.before.before.before.before.before.before.before.before.before.before.before) (sixteen a.numbers.now) a.canvas.now a.layer c.requires.layer_value) }

@@ -3,7 +3,7 @@
 use mathlib.Core.Path.{sym, ◌∙◌}
 use Prim.Native.Nat.{◌+◌, ◌*◌}
 use native.Mathlib.Omega.{arith}
-use borrow.Author.Tests.{not-true, not-false, ltb-true, leb-true}
+use borrow.Author.Tests.{ltb-true, leb-true}
 use lib.Dec.{leb, ltb}
 use Rattle.book.proofs.Tests.{and_true_parts}
 use Rattle.host_sheet_place.proofs.WideEllipse.{wide_rows}
@@ -22,14 +22,14 @@ pub returns-then-not-has_rows : goal.returns-then-not-has_rows
 returns-then-not-has_rows c = record { value = rw (
     c.if-ellipse.true,
     sym c.has_rows.ensures
-        ∙ not-true _ c.if-not-has_rows.true,
+        ∙ c.if-not-has_rows.true,
   ); upper_bound = omega arith }
 
 pub returns-else-not-has_rows : goal.returns-else-not-has_rows
 returns-else-not-has_rows c = record { value = rw (
     c.if-ellipse.true,
     sym c.has_rows.ensures
-        ∙ not-false _ c.if-not-has_rows.false,
+        ∙ c.if-not-has_rows.false,
   ); upper_bound = omega arith }
 
 pub returns-else-ellipse : goal.returns-else-ellipse

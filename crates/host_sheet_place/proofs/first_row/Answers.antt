@@ -12,10 +12,17 @@ use Rattle.host_records.proofs.Walks.{read_back}
 use Rattle.host_sheet_place.specs.PlaceRules.{rows_above, outside_of}
 use Rattle.host_sheet_place.proofs.Limits.{kept_limits}
 use Rattle.host_sheet_place.proofs.Area.{top_near, outside_small}
+use Rattle.host_sheet_place.proofs.first_row.Lts
+use Rattle.host_sheet_place.proofs.first_row.Reads
+use Rattle.host_sheet_place.proofs.first_row.Tie
 use Rattle.host_sheet_place.proofs.first_row.Goals as goal
 
+-- the facts known at these places
+abbrev After-outside_width : Type 0
+After-outside_width = Lts.After-outside_width Tie.the-claims Reads.Pre Reads.Post Tie.handed_clauses
+
 -- the outside width read is the place's
-outside_is : (c : goal.After-outside_width)
+outside_is : (c : After-outside_width)
     → c.outside_width.result ≡ outside_of c.args.numbers.now
 outside_is c =
     let n = c.args.numbers.now in

@@ -17,7 +17,7 @@ use Rattle.host_sheet_place.proofs.outside_width.Goals as goal
 
 -- the facts known at these places
 abbrev Start : Type 0
-Start = Lts.Start Tie.the-claims Reads.Pre Reads.Post Tie.handed_clauses
+Start = Lts.Start Tie.the-claims Reads.Pre Reads.Post
 
 -- the tests of the number as it is held
 held : (c : Start) (b : ℤ) {t : Bool} → lt_z (to_z w32 (of_z w32 c.args.alignment)) b ≡ t

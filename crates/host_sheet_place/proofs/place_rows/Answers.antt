@@ -2,7 +2,6 @@
 -- rules.
 use mathlib.Core.Path.{◌≡◌, sym, ap, ◌∙◌}
 use mathlib.Core.Bool.{Bool, true, ◌&&◌}
-use borrow.Author.Tests.{not-true, not-false}
 use lib.Signed.{lt_z}
 use mir.Syntax.{w32}
 use mir.Val.{to_z, of_z}
@@ -20,19 +19,21 @@ use Rattle.host_sheet_place.proofs.place_rows.Tie
 use Rattle.host_sheet_place.proofs.place_rows.Goals as goal
 
 -- the facts known at these places
+abbrev Start : Type 0
+Start = Lts.Start Tie.the-claims Reads.Pre Reads.Post Tie.handed_clauses
+
+abbrev Else-not-style_kept : Type 0
+Else-not-style_kept = Lts.Else2 Tie.the-claims Reads.Pre Reads.Post Tie.handed_clauses
+
 abbrev After-rows_within-rows : Type 0
 After-rows_within-rows = Lts.After-rows_within Tie.the-claims Reads.Pre Reads.Post Tie.handed_clauses
 
 -- what the tests of the limits say
-limits : (c : goal.Else-not-style_kept)
+limits : (c : Else-not-style_kept)
     → (figure_kept c.args.numbers.now && style_kept c.args.numbers.now) ≡ true
 limits c =
-    and_true_of (sym c.figure_kept.ensures ∙ not-false _ c.if-not-figure_kept.false)
-    (sym c.style_kept.ensures ∙ not-false _ c.if-not-style_kept.false)
-
--- the tests made of the rows are those of the layer's
-abbrev start : After-rows_within-rows → goal.Start
-start c = c.before.before.before.before.before
+    and_true_of (sym c.figure_kept.ensures ∙ c.if-not-figure_kept.false)
+    (sym c.style_kept.ensures ∙ c.if-not-style_kept.false)
 
 by_first : (c : After-rows_within-rows) {t : Bool}
     → lt_z (to_z w32 (of_z w32 c.rows_within-rows.result.next)) (to_z w32 (of_z w32 c.rows_within-rows.result.first)) ≡ t
@@ -53,13 +54,13 @@ by_end c test =
 pub returns-then-not-figure_kept : goal.returns-then-not-figure_kept
 returns-then-not-figure_kept c =
     let n = c.args.numbers.now in
-    let beyond = sym c.figure_kept.ensures ∙ not-true _ c.if-not-figure_kept.true in
+    let beyond = sym c.figure_kept.ensures ∙ c.if-not-figure_kept.true in
     rw (place_beyond_limits n c.requires (ap (λ (t : Bool). t && style_kept n) beyond))
 
 pub returns-then-not-style_kept : goal.returns-then-not-style_kept
 returns-then-not-style_kept c =
     let n = c.args.numbers.now in
-    let beyond = sym c.style_kept.ensures ∙ not-true _ c.if-not-style_kept.true in
+    let beyond = sym c.style_kept.ensures ∙ c.if-not-style_kept.true in
     rw (place_beyond_limits n c.requires (ap (λ (t : Bool). figure_kept n && t) beyond ∙ and-false (figure_kept n)))
 
 pub rows_within-rows-requires : goal.rows_within-rows-requires
@@ -67,17 +68,14 @@ rows_within-rows-requires c = record { numbers_len = c.requires; numbers_value =
 
 pub returns-then-rows : goal.returns-then-rows
 returns-then-rows c =
-    let entry = start c.before.before.before in
-    rw (place_above entry.args.numbers.now entry.pre (by_first c.before.before.before c.if-rows.true))
+    rw (place_above c.args.numbers.now c.requires (by_first c.before.before.before c.if-rows.true))
 
 pub returns-then-rows-2 : goal.returns-then-rows-2
 returns-then-rows-2 c =
-    let entry = start c.before.before.before.before.before.before in
-    rw (place_below entry.args.numbers.now entry.pre (by_end c.before.before.before.before.before.before c.if-rows-2.true))
+    rw (place_below c.args.numbers.now c.requires (by_end c.before.before.before.before.before.before c.if-rows-2.true))
 
 pub returns : goal.returns
 returns c =
-    let entry = start c.before.before.before.before.before.before in
-    rw (place_among entry.args.numbers.now entry.pre (limits c.before.before.before.before.before.before.before)
+    rw (place_among c.args.numbers.now c.requires (limits c.before.before.before.before.before.before.before)
     (by_first c.before.before.before.before.before.before c.if-rows.false) (by_end c.before.before.before.before.before.before c.if-rows-2.false))
     (ap Kept c.rows_within-rows.ensures.0)

@@ -11,19 +11,29 @@ use Rattle.host_records.specs.RecordNumbers.{figure_length, number_at, all_from,
 use Rattle.host_records.proofs.Walks.{read_back, all_from_here, all_from_past}
 use Rattle.host_sheet_place.specs.PlaceRules.{radius_kept, radii_kept}
 use Rattle.host_sheet_place.proofs.Limits.{and_assoc, and_true, radius_by_highest}
+use Rattle.host_sheet_place.proofs.radii_kept.Lts
+use Rattle.host_sheet_place.proofs.radii_kept.Reads
+use Rattle.host_sheet_place.proofs.radii_kept.Tie
 use Rattle.host_sheet_place.proofs.radii_kept.Goals as goal
+
+-- the facts known at these places
+abbrev Start : Type 0
+Start = Lts.Start Tie.the-claims Reads.Pre Reads.Post goal.the-invariant-loop-k goal.the-decreases-loop-k
+
+abbrev After-is_within-kept : Type 0
+After-is_within-kept = Lts.After-is_within Tie.the-claims Reads.Pre Reads.Post goal.the-invariant-loop-k goal.the-decreases-loop-k
 
 -- the test of the radius in place k
 abbrev test : List ℤ → Bool → ℕ → Bool
 test numbers any k = radius_kept any (number_at numbers k)
 
-abbrev place : goal.After-is_within-kept → ℕ
+abbrev place : After-is_within-kept → ℕ
 place c = c.loop-k.k
 
-abbrev left : goal.After-is_within-kept → ℕ → Bool
+abbrev left : After-is_within-kept → ℕ → Bool
 left c k = all_from (test c.args.numbers.now c.args.any) k (figure_length - k)
 
-step : (c : goal.After-is_within-kept) → left c (place c) ≡ (c.is_within-kept.result && left c (place c + 1))
+step : (c : After-is_within-kept) → left c (place c) ≡ (c.is_within-kept.result && left c (place c + 1))
 step c =
     let limit = c.highest_radius-limit.ensures in
     let a = c.args in

@@ -19,42 +19,57 @@ use Rattle.host_records.proofs.Walks.{read_back}
 use Rattle.host_sheet_place.specs.PlaceRules.{rows_above, stroke_count, outside_of, first_row_of, count_of}
 use Rattle.host_sheet_place.proofs.Limits.{PlaceLimits, kept_limits}
 use Rattle.host_sheet_place.proofs.Area.{top_near, sides_small, outside_small, rows_of_place}
+use Rattle.host_sheet_place.proofs.rows_within.Lts
+use Rattle.host_sheet_place.proofs.rows_within.Reads
+use Rattle.host_sheet_place.proofs.rows_within.Tie
 use Rattle.host_sheet_place.proofs.rows_within.Goals as goal
 
--- what is read of the place
-abbrev start : goal.After-outside_width-outside → goal.Start
-start c = c.before.before.before.before.before
+-- the facts known at these places
+abbrev Start : Type 0
+Start = Lts.Start Tie.the-claims Reads.Pre Reads.Post Tie.handed_clauses
 
-limits : (c : goal.Start) → PlaceLimits (number_at c.args.numbers.now)
+abbrev After-outside_width-outside : Type 0
+After-outside_width-outside = Lts.After-outside_width Tie.the-claims Reads.Pre Reads.Post Tie.handed_clauses
+
+abbrev After-area_top-first : Type 0
+After-area_top-first = Lts.After-area_top Tie.the-claims Reads.Pre Reads.Post Tie.handed_clauses
+
+abbrev After-floor0 : Type 0
+After-floor0 = Lts.After-floor02 Tie.the-claims Reads.Pre Reads.Post Tie.handed_clauses
+
+abbrev After-area_rows-count : Type 0
+After-area_rows-count = Lts.After-area_rows Tie.the-claims Reads.Pre Reads.Post Tie.handed_clauses
+
+limits : (c : Start) → PlaceLimits (number_at c.args.numbers.now)
 limits c = kept_limits c.args.numbers.now c.requires.numbers_len c.requires.numbers_value
 
-height_is : (c : goal.After-outside_width-outside)
+height_is : (c : After-outside_width-outside)
     → c.floor0-height.result ≡ floor0 (number_at c.args.numbers.now height_at)
 height_is c =
     c.floor0-height.ensures
     ∙ ap (λ (z : ℤ). floor0 z)
     (read_back c.args.numbers.now height_at c.floor0-arg-1.given)
 
-outside_is : (c : goal.After-outside_width-outside) → c.outside_width-outside.result ≡ outside_of c.args.numbers.now
+outside_is : (c : After-outside_width-outside) → c.outside_width-outside.result ≡ outside_of c.args.numbers.now
 outside_is c =
     let n = c.args.numbers.now in
     let width = read_back n (style_at + stroke_width_at) c.outside_width-arg-1.given in
     let alignment = read_back n (style_at + alignment_at) c.outside_width-arg-2-1.given in
     c.outside_width-outside.ensures ∙ (λ i. outside_width (alignment_of (alignment i)) (floor0 (width i)))
 
-first_is : (c : goal.After-area_top-first) → c.area_top-first.result ≡ first_row_of c.args.numbers.now
+first_is : (c : After-area_top-first) → c.area_top-first.result ≡ first_row_of c.args.numbers.now
 first_is c =
     let y = read_back c.args.numbers.now y_at c.area_top-arg-1.given in
     c.area_top-first.ensures.is.is ∙ (λ i. y i -ℤ pos (rows_above (height_is c.before.before i) (outside_is c.before.before i)))
 
-width_is : (c : goal.After-floor0)
+width_is : (c : After-floor0)
     → c.floor0.result ≡ floor0 (number_at c.args.numbers.now width_at)
 width_is c =
     c.floor0.ensures
     ∙ ap (λ (z : ℤ). floor0 z)
     (read_back c.args.numbers.now width_at c.floor0-arg-2-1.given)
 
-count_is : (c : goal.After-area_rows-count)
+count_is : (c : After-area_rows-count)
     → c.area_rows-count.result ≡ count_of c.args.numbers.now
 count_is c =
     let kind = read_back c.args.numbers.now kind_at c.area_rows-arg-1.given in
@@ -64,19 +79,17 @@ count_is c =
 
 pub area_top-first-requires : goal.area_top-first-requires
 area_top-first-requires c =
-    let entry = start c.before in
-    let n = entry.args.numbers.now in
+    let n = c.args.numbers.now in
     let given = c.area_top-arg-1.given in
-    (rw (read_back n y_at c.area_top-arg-1.given) (top_near n (limits entry) c.area_top-arg-1.given), omega (arith, outside_small n (limits entry), outside_is c.before))
+    (rw (read_back n y_at c.area_top-arg-1.given) (top_near n (limits c.before.before.before.before.before.before) c.area_top-arg-1.given), omega (arith, outside_small n (limits c.before.before.before.before.before.before), outside_is c.before))
 
 pub area_rows-count-requires : goal.area_rows-count-requires
 area_rows-count-requires c =
-    let entry = start c.before.before.before.before.before in
-    let n = entry.args.numbers.now in
-    let sides = sides_small n (limits entry) in (
+    let n = c.args.numbers.now in
+    let sides = sides_small n (limits c.before.before.before.before.before.before.before.before.before.before) in (
       omega (arith, width_is c, sides.0),
       omega (arith, height_is c.before.before.before.before.before, sides.1),
-      omega (arith, outside_small n (limits entry), outside_is c.before.before.before.before.before),
+      omega (arith, outside_small n (limits c.before.before.before.before.before.before.before.before.before.before), outside_is c.before.before.before.before.before),
     )
 
 pub from_u32-requires : goal.from_u32-requires

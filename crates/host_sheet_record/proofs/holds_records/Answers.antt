@@ -5,7 +5,6 @@ use mathlib.Core.Bool.{Bool, true, false, ◌&&◌}
 use mathlib.Core.List.{List}
 use Prim.Native.Nat.{ℕ, ◌+◌, ◌-◌, min}
 use borrow.Author.Rules.{rules}
-use borrow.Author.Tests.{not-true, not-false}
 use lib.IntN.{ℤ}
 use lib.ListN.{take}
 use Rattle.signed.specs.Signed.{floor0}
@@ -21,11 +20,17 @@ use Rattle.host_sheet_record.proofs.holds_records.Tie
 use Rattle.host_sheet_record.proofs.holds_records.Goals as goal
 
 -- the facts known at these places
+abbrev Start : Type 0
+Start = Lts.Start Tie.the-claims Reads.Pre Reads.Post goal.the-invariant-loop-j goal.the-decreases-loop-j
+
 abbrev After-none_negative : Type 0
-After-none_negative = Lts.After-none_negative Tie.the-claims Reads.Pre Reads.Post goal.the-invariant-loop-j goal.the-decreases-loop-j Tie.handed_clauses
+After-none_negative = Lts.After-none_negative Tie.the-claims Reads.Pre Reads.Post goal.the-invariant-loop-j goal.the-decreases-loop-j
+
+abbrev After-least-used : Type 0
+After-least-used = Lts.After-least Tie.the-claims Reads.Pre Reads.Post goal.the-invariant-loop-j goal.the-decreases-loop-j
 
 abbrev After-is_layer : Type 0
-After-is_layer = Lts.After-is_layer Tie.the-claims Reads.Pre Reads.Post goal.the-invariant-loop-j goal.the-decreases-loop-j Tie.handed_clauses
+After-is_layer = Lts.After-is_layer Tie.the-claims Reads.Pre Reads.Post goal.the-invariant-loop-j goal.the-decreases-loop-j
 
 -- a place's test
 abbrev test : List ℤ → ℕ → Bool
@@ -37,7 +42,7 @@ sides : (c : After-none_negative) → none_negative (take first_place_at c.args.
 sides c = sym c.none_negative.ensures
 
 -- how many places are used
-used_is : (c : goal.After-least-used) → c.least-used.result ≡ min
+used_is : (c : After-least-used) → c.least-used.result ≡ min
     (floor0 (number_at c.args.numbers.now count_at)) max_layers
 used_is c =
     let a = c.args in
@@ -46,13 +51,13 @@ used_is c =
     (read_back a.numbers.now count_at c.floor0-arg-1.given))
 
 -- then it goes by the places
-by_places : (c : goal.After-least-used)
+by_places : (c : After-least-used)
     → holds_records c.args.numbers.now ≡ all_from (test c.args.numbers.now) 0 c.least-used.result
 unfolding holds_records
 by_places c =
     let at_if1 = c.if-not-none_negative in
     let a = c.args in
-    rw (sides c.before.before.before.before ∙ not-false _ c.if-not-none_negative.false) (ap (all_from (test a.numbers.now) 0) (sym (used_is c)))
+    rw (sides c.before.before.before.before ∙ c.if-not-none_negative.false) (ap (all_from (test a.numbers.now) 0) (sym (used_is c)))
 
 -- the places that are left, by the one that stands here
 step : (c : After-is_layer) (t : Bool) → c.is_layer.result ≡ t
@@ -70,7 +75,7 @@ step c t found =
 
 pub returns-then-not-none_negative : goal.returns-then-not-none_negative
 unfolding holds_records
-returns-then-not-none_negative c = rw (sides c.before ∙ not-true _ c.if-not-none_negative.true)
+returns-then-not-none_negative c = rw (sides c.before ∙ c.if-not-none_negative.true)
 
 pub loop-j-init : goal.loop-j-init
 loop-j-init c =
@@ -110,7 +115,7 @@ pub returns-then-not-is_layer : goal.returns-then-not-is_layer
 returns-then-not-is_layer c =
     let at_loop = c.loop-j in
     sym (by_places c.before.before.before.before.before ∙ sym c.loop-j.invariant.2 ∙ step c.before false
-    (not-true _ c.if-not-is_layer.true))
+    (c.if-not-is_layer.true))
 
 pub loop-j-smaller : goal.loop-j-smaller
 loop-j-smaller c = omega arith
@@ -118,7 +123,7 @@ loop-j-smaller c = omega arith
 pub loop-j-preserved : goal.loop-j-preserved
 loop-j-preserved c =
     let at_loop = c.loop-j in
-    (omega arith, c.loop-j.invariant.1, sym (step c.before true (not-false _ c.if-not-is_layer.false)) ∙ c.loop-j.invariant.2)
+    (omega arith, c.loop-j.invariant.1, sym (step c.before true (c.if-not-is_layer.false)) ∙ c.loop-j.invariant.2)
 
 pub returns : goal.returns
 returns c =

@@ -16,6 +16,9 @@ use Rattle.host_sheet_rules.proofs.none_overtakes.Tie
 use Rattle.host_sheet_rules.proofs.none_overtakes.Goals as goal
 
 -- the facts known at these places
+abbrev Start : Type 0
+Start = Lts.Start Tie.the-claims Reads.Pre Reads.Post goal.the-invariant-loop-j goal.the-decreases-loop-j Tie.handed_clauses
+
 abbrev After-is_overtaken : Type 0
 After-is_overtaken = Lts.After-is_overtaken Tie.the-claims Reads.Pre Reads.Post goal.the-invariant-loop-j goal.the-decreases-loop-j Tie.handed_clauses
 

@@ -15,10 +15,17 @@ use Rattle.host_sheet_place.specs.PlaceRules.{figure_kept, style_kept, first_row
 use Rattle.host_sheet_place.proofs.Rules.{place_within}
 use Rattle.host_sheet_place.proofs.Area.{rows_of_place}
 use Rattle.host_sheet_rules.proofs.Painted.{next_in_place}
+use Rattle.host_sheet_rules.proofs.painted_at.Lts
+use Rattle.host_sheet_rules.proofs.painted_at.Reads
+use Rattle.host_sheet_rules.proofs.painted_at.Tie
 use Rattle.host_sheet_rules.proofs.painted_at.Goals as goal
 
+-- the facts known at these places
+abbrev Start : Type 0
+Start = Lts.Start Tie.the-claims Reads.Pre Reads.Post Tie.handed_clauses
+
 -- a place has a layer's numbers
-long_place : (c : goal.Start) → length (place_numbers c.args.numbers.now c.args.j) ≡ layer_length
+long_place : (c : Start) → length (place_numbers c.args.numbers.now c.args.j) ≡ layer_length
 long_place c =
     sym (ap length (place_part c.args.numbers.now c.args.j))
     ∙ place_part_length c.args.numbers.now c.args.j c.requires.numbers_len.0 c.requires.numbers_len.1

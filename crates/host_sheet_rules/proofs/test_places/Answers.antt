@@ -6,7 +6,6 @@ use mathlib.Core.List.{List}
 use Prim.Native.Nat.{ℕ, ◌+◌, ◌-◌, ◌<◌}
 use native.Mathlib.Omega.{arith}
 use borrow.Author.Rules.{rules}
-use borrow.Author.Tests.{not-true, not-false}
 use lib.IntN.{ℤ}
 use mir.Syntax.{w32}
 use mir.Val.{SFits, to_z, of_z}
@@ -29,25 +28,24 @@ use Rattle.host_sheet_rules.proofs.test_places.Tie
 use Rattle.host_sheet_rules.proofs.test_places.Goals as goal
 
 -- the facts known at these places
+abbrev Start : Type 0
+Start = Lts.Start Tie.the-claims Reads.Pre Reads.Post goal.the-invariant-loop-i goal.the-decreases-loop-i Tie.handed_clauses
+
 abbrev At-loop-i : Type 0
 At-loop-i = Lts.At-loop Tie.the-claims Reads.Pre Reads.Post goal.the-invariant-loop-i goal.the-decreases-loop-i Tie.handed_clauses
 
 abbrev After-place_rows : Type 0
 After-place_rows = Lts.After-place_rows Tie.the-claims Reads.Pre Reads.Post goal.the-invariant-loop-i goal.the-decreases-loop-i Tie.handed_clauses
 
+abbrev In-Kept : Type 0
+In-Kept = Lts.Past-After-known_told Tie.the-claims Reads.Pre Reads.Post goal.the-invariant-loop-i goal.the-decreases-loop-i Tie.handed_clauses
+
 abbrev After-in_order : Type 0
 After-in_order = Lts.After-in_order Tie.the-claims Reads.Pre Reads.Post goal.the-invariant-loop-i goal.the-decreases-loop-i Tie.handed_clauses
 
 -- the row as it is held
-held_row : (c : goal.Start) → to_z w32 (of_z w32 c.args.y) ≡ c.args.y
+held_row : (c : Start) → to_z w32 (of_z w32 c.args.y) ≡ c.args.y
 held_row c = let fits : SFits w32 c.args.y = search rules in to_z-of_z fits
-
--- the place that is looked at is one of the first
-abbrev walk : After-place_rows → At-loop-i
-walk c = c.before.before.before
-
-abbrev start : After-place_rows → goal.Start
-start c = c.before.before.before.before.before
 
 abbrev place : After-place_rows → ℕ
 place c = c.loop-i.i - 1
@@ -70,10 +68,7 @@ found c =
     ∙ ap (λ (p : List ℤ). cond (place_kept p) (rows_found_cases.Kept (layer_rows (layer_of p))) rows_found_cases.Broken)
     (place_part c.args.numbers.now (place c))
 
-abbrev taken : After-in_order → After-place_rows
-taken c = c.before.before
-
-kept : (c : goal.In-Kept)
+kept : (c : In-Kept)
     → (place_kept (place_numbers c.args.numbers.now (place c.before))
     ≡ true)
     × (c.in-Kept.rows
@@ -133,36 +128,34 @@ in_order-requires c =
 
 pub returns-then-not-in_order : goal.returns-then-not-in_order
 returns-then-not-in_order c =
-    let at = taken c.before in
-    let a = (start at).args in
-    overtaken_here a.numbers.now a.count a.layer a.y (place at) (walk at).loop.i (step at) (here at)
-    (ap (λ (r : LayerRows). no_rows_overtake r (rows_from a.numbers.now (walk at).loop.i (a.count - (walk at).loop.i)))
+    let a = c.args in
+    overtaken_here a.numbers.now a.count a.layer a.y (place c.before.before.before) c.loop-i.i (step c.before.before.before) (here c.before.before.before)
+    (ap (λ (r : LayerRows). no_rows_overtake r (rows_from a.numbers.now c.loop-i.i (a.count - c.loop-i.i)))
     (sym (kept c.before.before).1)
-    ∙ sym c.in_order.ensures ∙ not-true _ c.if-not-in_order.true)
+    ∙ sym c.in_order.ensures ∙ c.if-not-in_order.true)
 
 pub loop-i-smaller : goal.loop-i-smaller
 loop-i-smaller c = omega arith
 
 pub loop-i-preserved : goal.loop-i-preserved
 loop-i-preserved c =
-    let at = taken c.before.before.before in
-    let a = (start at).args in
+    let a = c.args in
     let y = to_z w32 (of_z w32 a.y) in
-    let inv = (walk at).loop.inv in
+    let inv = c.loop-i.inv in
     let none = ap
-    (λ (r : LayerRows). no_rows_overtake r (rows_from a.numbers.now (walk at).loop.i (a.count - (walk at).loop.i)))
+    (λ (r : LayerRows). no_rows_overtake r (rows_from a.numbers.now c.loop-i.i (a.count - c.loop-i.i)))
     (sym (kept c.before.before.before.before).1)
-    ∙ sym c.in_order.ensures ∙ not-false _ c.if-not-in_order.false in
-    let next = one_more_lem a.numbers.now a.count a.layer y (place at) (walk at).loop.i (step at) (here at)
-    (walk at).loop.painted (walk at).loop.asked inv.1 (kept c.before.before.before.before).0 none in
-    let painted = c.and-painted.ensures ∙ ap (also_painted (walk at).loop.painted) (kept c.before.before.before.before).1 in
+    ∙ sym c.in_order.ensures ∙ c.if-not-in_order.false in
+    let next = one_more_lem a.numbers.now a.count a.layer y (place c.before.before.before.before.before) c.loop-i.i (step c.before.before.before.before.before) (here c.before.before.before.before.before)
+    c.loop-i.painted c.loop-i.asked c.loop-i.inv.1 (kept c.before.before.before.before).0 none in
+    let painted = c.and-painted.ensures ∙ ap (also_painted c.loop-i.painted) (kept c.before.before.before.before).1 in
     let asked = c.and-asked.ensures
-    ∙ ap (λ (r : LayerRows). asked_of (walk at).loop.asked r (place at) a.layer y) (kept c.before.before.before.before).1 in (
-      omega (arith, here at),
-      subst (λ (p : PaintedRows). WalkedTo a.numbers.now a.count a.layer y p c.and-asked.result (place at))
+    ∙ ap (λ (r : LayerRows). asked_of c.loop-i.asked r (place c.before.before.before.before.before) a.layer y) (kept c.before.before.before.before).1 in (
+      omega (arith, here c.before.before.before.before.before),
+      subst (λ (p : PaintedRows). WalkedTo a.numbers.now a.count a.layer y p c.and-asked.result (place c.before.before.before.before.before))
           (sym painted)
           (subst (λ (q : Asked). WalkedTo a.numbers.now a.count a.layer y
-          (also_painted (walk at).loop.painted (rows_at a.numbers.now (place at))) q (place at)) (sym asked) next),
+          (also_painted c.loop-i.painted (rows_at a.numbers.now (place c.before.before.before.before.before))) q (place c.before.before.before.before.before)) (sym asked) next),
     )
 
 pub returns : goal.returns

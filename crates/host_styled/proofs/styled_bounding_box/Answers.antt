@@ -2,7 +2,6 @@
 -- told.
 use mathlib.Core.Path.{◌≡◌, sym, ap, ◌∙◌}
 use mathlib.Core.Bool.{true}
-use borrow.Author.Tests.{not-true, not-false}
 use Rattle.rectangle.specs.declared.RectangleAnswer.{RectangleAnswer}
 use Rattle.rectangle.specs.Calls.{rectangle_outcome}
 use Rattle.styled.specs.Calls.{styled_bounding_box_call}
@@ -16,15 +15,24 @@ use Rattle.host_styled.proofs.styled_bounding_box.Tie
 use Rattle.host_styled.proofs.styled_bounding_box.Goals as goal
 
 -- the facts known at these places
+abbrev Start : Type 0
+Start = Lts.Start Tie.the-claims Reads.Pre Reads.Post
+
+abbrev Else-not-is_figure : Type 0
+Else-not-is_figure = Lts.Else1 Tie.the-claims Reads.Pre Reads.Post
+
+abbrev Else-not-is_style : Type 0
+Else-not-is_style = Lts.Else2 Tie.the-claims Reads.Pre Reads.Post
+
 abbrev After-styled_bounding_box : Type 0
-After-styled_bounding_box = Lts.After-styled_bounding_box Tie.the-claims Reads.Pre Reads.Post Tie.handed_clauses
+After-styled_bounding_box = Lts.After-styled_bounding_box Tie.the-claims Reads.Pre Reads.Post
 
 -- the numbers are a figure, and a style
-is_one : (c : goal.Else-not-is_figure) → is_figure c.args.figure.now ≡ true
-is_one c = sym c.is_figure.ensures ∙ not-false _ c.if-not-is_figure.false
+is_one : (c : Else-not-is_figure) → is_figure c.args.figure.now ≡ true
+is_one c = sym c.is_figure.ensures ∙ c.if-not-is_figure.false
 
-is_styled : (c : goal.Else-not-is_style) → is_style c.args.style.now ≡ true
-is_styled c = sym c.is_style.ensures ∙ not-false _ c.if-not-is_style.false
+is_styled : (c : Else-not-is_style) → is_style c.args.style.now ≡ true
+is_styled c = sym c.is_style.ensures ∙ c.if-not-is_style.false
 
 -- what the call says
 says : (c : After-styled_bounding_box) → rectangle_outcome c.styled_bounding_box.result ≡ styled_bounding_box_call
@@ -35,12 +43,12 @@ says c =
 
 pub returns-then-not-is_figure : goal.returns-then-not-is_figure
 returns-then-not-is_figure c =
-    rw (sym c.is_figure.ensures ∙ not-true _ c.if-not-is_figure.true) (tells_refused no_record c.args.out.now)
+    rw (sym c.is_figure.ensures ∙ c.if-not-is_figure.true) (tells_refused no_record c.args.out.now)
 
 pub returns-then-not-is_style : goal.returns-then-not-is_style
 returns-then-not-is_style c =
     let a = c.args in
-    rw (is_one c.before.before, sym c.is_style.ensures ∙ not-true _ c.if-not-is_style.true) (tells_refused no_record a.out.now)
+    rw (is_one c.before.before, sym c.is_style.ensures ∙ c.if-not-is_style.true) (tells_refused no_record a.out.now)
 
 pub figure_of-requires : goal.figure_of-requires
 figure_of-requires c = figure_length_lem c.args.figure.now (is_one c.before.before)

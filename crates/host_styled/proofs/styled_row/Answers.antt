@@ -1,7 +1,6 @@
 -- `host_styled::styled_row` meets its contract: the call is made on the figure and the style that the numbers are, and its answer told.
 use mathlib.Core.Path.{◌≡◌, sym, ap, ◌∙◌}
 use mathlib.Core.Bool.{true}
-use borrow.Author.Tests.{not-true, not-false}
 use mir.Syntax.{w32}
 use mir.Val.{SFits}
 use mir.Facts.{to_z-of_z}
@@ -19,15 +18,24 @@ use Rattle.host_styled.proofs.styled_row.Tie
 use Rattle.host_styled.proofs.styled_row.Goals as goal
 
 -- the facts known at these places
+abbrev Start : Type 0
+Start = Lts.Start Tie.the-claims Reads.Pre Reads.Post
+
+abbrev Else-not-is_figure : Type 0
+Else-not-is_figure = Lts.Else1 Tie.the-claims Reads.Pre Reads.Post
+
+abbrev Else-not-is_style : Type 0
+Else-not-is_style = Lts.Else2 Tie.the-claims Reads.Pre Reads.Post
+
 abbrev After-styled_row : Type 0
-After-styled_row = Lts.After-styled_row Tie.the-claims Reads.Pre Reads.Post Tie.handed_clauses
+After-styled_row = Lts.After-styled_row Tie.the-claims Reads.Pre Reads.Post
 
 -- the numbers are a figure, and a style
-is_one : (c : goal.Else-not-is_figure) → is_figure c.args.figure.now ≡ true
-is_one c = sym c.is_figure.ensures ∙ not-false _ c.if-not-is_figure.false
+is_one : (c : Else-not-is_figure) → is_figure c.args.figure.now ≡ true
+is_one c = sym c.is_figure.ensures ∙ c.if-not-is_figure.false
 
-is_styled : (c : goal.Else-not-is_style) → is_style c.args.style.now ≡ true
-is_styled c = sym c.is_style.ensures ∙ not-false _ c.if-not-is_style.false
+is_styled : (c : Else-not-is_style) → is_style c.args.style.now ≡ true
+is_styled c = sym c.is_style.ensures ∙ c.if-not-is_style.false
 
 -- what the call says
 says : (c : After-styled_row) → styled_row_outcome c.styled_row.result ≡ styled_row_call
@@ -39,12 +47,12 @@ says c =
 
 pub returns-then-not-is_figure : goal.returns-then-not-is_figure
 returns-then-not-is_figure c =
-    rw (sym c.is_figure.ensures ∙ not-true _ c.if-not-is_figure.true) (tells_refused no_record c.args.out.now)
+    rw (sym c.is_figure.ensures ∙ c.if-not-is_figure.true) (tells_refused no_record c.args.out.now)
 
 pub returns-then-not-is_style : goal.returns-then-not-is_style
 returns-then-not-is_style c =
     let a = c.args in
-    rw (is_one c.before.before, sym c.is_style.ensures ∙ not-true _ c.if-not-is_style.true) (tells_refused no_record a.out.now)
+    rw (is_one c.before.before, sym c.is_style.ensures ∙ c.if-not-is_style.true) (tells_refused no_record a.out.now)
 
 pub figure_of-requires : goal.figure_of-requires
 figure_of-requires c = figure_length_lem c.args.figure.now (is_one c.before.before)

@@ -11,22 +11,22 @@ use Rattle.netpbm_header.proofs.put_header.Goals as goal
 
 -- the facts known at these places
 abbrev Start : Type 0
-Start = Lts.Start Tie.the-claims Reads.Pre Reads.Post Tie.handed_clauses
+Start = Lts.Start Tie.the-claims Reads.Pre Reads.Post
 
 abbrev After-put_magic-width_at : Type 0
-After-put_magic-width_at = Lts.After-put_magic Tie.the-claims Reads.Pre Reads.Post Tie.handed_clauses
+After-put_magic-width_at = Lts.After-put_magic Tie.the-claims Reads.Pre Reads.Post
 
 abbrev After-put_number-space_at : Type 0
-After-put_number-space_at = Lts.After-put_number Tie.the-claims Reads.Pre Reads.Post Tie.handed_clauses
+After-put_number-space_at = Lts.After-put_number Tie.the-claims Reads.Pre Reads.Post
 
 abbrev After-put-height_at : Type 0
-After-put-height_at = Lts.After-put Tie.the-claims Reads.Pre Reads.Post Tie.handed_clauses
+After-put-height_at = Lts.After-put Tie.the-claims Reads.Pre Reads.Post
 
 abbrev After-put_number-ending_at : Type 0
-After-put_number-ending_at = Lts.After-put_number2 Tie.the-claims Reads.Pre Reads.Post Tie.handed_clauses
+After-put_number-ending_at = Lts.After-put_number2 Tie.the-claims Reads.Pre Reads.Post
 
 abbrev After-put_ending : Type 0
-After-put_ending = Lts.After-put_ending Tie.the-claims Reads.Pre Reads.Post Tie.handed_clauses
+After-put_ending = Lts.After-put_ending Tie.the-claims Reads.Pre Reads.Post
 
 -- from each write back to the one before it, and from the first to the entry
 abbrev entry : After-put_magic-width_at → Start
@@ -37,12 +37,6 @@ magic_put c = c.before.before.before.before
 
 abbrev width_put : After-put-height_at → After-put_number-space_at
 width_put c = c.before.before.before.before.before
-
-abbrev space_put : After-put_number-ending_at → After-put-height_at
-space_put c = c.before.before.before.before
-
-abbrev height_put : After-put_ending → After-put_number-ending_at
-height_put c = c.before.before.before.before
 
 pub put_magic-width_at-requires : goal.put_magic-width_at-requires
 put_magic-width_at-requires c =
@@ -72,10 +66,6 @@ put_ending-requires c =
 pub returns : goal.returns
 unfolding header
 returns c =
-    let height = height_put c.before.before.before in
-    let space = space_put height in
-    let width = width_put space in
-    let magic = magic_put width in
-    let to_width = wrote_then magic.put-magic.ensures width.put-number.ensures in
-    let to_height = wrote_then (wrote_then to_width space.put.ensures) height.put-number2.ensures in
+    let to_width = wrote_then c.put_magic-width_at.ensures c.put_number-space_at.ensures in
+    let to_height = wrote_then (wrote_then to_width c.put-height_at.ensures) c.put_number-ending_at.ensures in
     wrote_then to_height c.put_ending.ensures

@@ -20,11 +20,9 @@ after_white-requires c =
 pub returns-then-maximum-eq255 : goal.returns-then-maximum-eq255
 returns-then-maximum-eq255 c =
     let file = c.args.file.now in
-    let given = c.in-Read.given in
-    let seen = sym (ap (λ (r : Number). number_in file r) given.1) ∙ c.read_number.ensures.result_value in record { result_value = c.after_white.ensures.result_value ∙ right_maximum _ given.0.0 _ seen (omega arith); place_within = c.after_white.ensures.place_within }
+    let seen = sym (ap (λ (r : Number). number_in file r) c.in-Read.is) ∙ c.read_number.ensures.result_value in record { result_value = c.after_white.ensures.result_value ∙ right_maximum _ c.in-Read.maximum _ seen (omega arith); place_within = c.after_white.ensures.place_within }
 
 pub returns : goal.returns
 returns c =
     let file = c.args.file.now in
-    let given = c.in-Read.given in
-    let seen = sym (ap (λ (r : Number). number_in file r) given.1) ∙ c.read_number.ensures.result_value in record { result_value = other_maximum _ given.0.0 _ seen c.if-maximum-eq255.false; place_within = tt }
+    let seen = sym (ap (λ (r : Number). number_in file r) c.in-Read.is) ∙ c.read_number.ensures.result_value in record { result_value = other_maximum _ c.in-Read.maximum _ seen c.if-maximum-eq255.false; place_within = tt }

@@ -22,11 +22,10 @@ read_number-requires-2 c =
 pub returns-in_default-read_number : goal.returns-in_default-read_number
 returns-in_default-read_number c =
     let a = c.args in
-    let given = c.in-Read.given in
-    let width = sym (ap (λ (r : Number). number_in a.file.now r) given.1)
+    let width = sym (ap (λ (r : Number). number_in a.file.now r) c.in-Read.is)
     ∙ c.read_number.ensures.result_value in
     let height = sym (ap (λ (r : Number). number_in a.file.now r) c.in_default-read_number.is)
-    ∙ c.read_number-2.ensures.result_value in record { result_value = no_height a.format (number (drop 2 a.file.now)) given.0.0 _ width height; header_within = tt }
+    ∙ c.read_number-2.ensures.result_value in record { result_value = no_height a.format (number (drop 2 a.file.now)) c.in-Read.width _ width height; header_within = tt }
 
 pub raster_place-requires : goal.raster_place-requires
 raster_place-requires c =
@@ -36,29 +35,24 @@ raster_place-requires c =
 pub returns-in_default-raster_place : goal.returns-in_default-raster_place
 returns-in_default-raster_place c =
     let a = c.args in
-    let width_given = c.in-Read.given in
-    let height_given = c.in-Read-read_number.given in
-    let width = sym (ap (λ (r : Number). number_in a.file.now r) width_given.1)
+    let width = sym (ap (λ (r : Number). number_in a.file.now r) c.in-Read.is)
     ∙ c.read_number.ensures.result_value in
-    let height = sym (ap (λ (r : Number). number_in a.file.now r) height_given.1)
+    let height = sym (ap (λ (r : Number). number_in a.file.now r) c.in-Read-read_number.is)
     ∙ c.read_number-2.ensures.result_value in
     let closed = sym (ap (λ (r : Place). place_in a.file.now r) c.in_default-raster_place.is)
-    ∙ c.raster_place.ensures.result_value in record { result_value = both_sides a.format (number (drop 2 a.file.now)) width_given.0.0 height_given.0.0 _ _ none width height closed; header_within = tt }
+    ∙ c.raster_place.ensures.result_value in record { result_value = both_sides a.format (number (drop 2 a.file.now)) c.in-Read.width c.in-Read-read_number.height _ _ none width height closed; header_within = tt }
 
 pub returns : goal.returns
 returns c =
     let a = c.args in
     let file = a.file.now in
     let width_read = c.read_number.ensures in
-    let width_given = c.in-Read.given in
     let height_read = c.read_number-2.ensures in
-    let height_given = c.in-Read-read_number.given in
     let place = c.raster_place.ensures in
-    let place_given = c.in-At.given in
-    let width = sym (ap (λ (r : Number). number_in file r) width_given.1) ∙ c.read_number.ensures.result_value in
-    let height = sym (ap (λ (r : Number). number_in file r) height_given.1) ∙ c.read_number-2.ensures.result_value in
-    let closed = sym (ap (λ (r : Place). place_in file r) place_given.1) ∙ c.raster_place.ensures.result_value in record { result_value = both_sides a.format (number (drop 2 a.file.now)) width_given.0.0 height_given.0.0 _ _ _ width height closed; header_within = (
-        (subst (λ (r : Number). NumberWithin file r) width_given.1 c.read_number.ensures.number_within).0,
-        (subst (λ (r : Number). NumberWithin file r) height_given.1 c.read_number-2.ensures.number_within).0,
-        subst (λ (r : Place). PlaceWithin file r) place_given.1 c.raster_place.ensures.place_within,
+    let width = sym (ap (λ (r : Number). number_in file r) c.in-Read.is) ∙ c.read_number.ensures.result_value in
+    let height = sym (ap (λ (r : Number). number_in file r) c.in-Read-read_number.is) ∙ c.read_number-2.ensures.result_value in
+    let closed = sym (ap (λ (r : Place). place_in file r) c.in-At.is) ∙ c.raster_place.ensures.result_value in record { result_value = both_sides a.format (number (drop 2 a.file.now)) c.in-Read.width c.in-Read-read_number.height _ _ _ width height closed; header_within = (
+        (subst (λ (r : Number). NumberWithin file r) c.in-Read.is c.read_number.ensures.number_within).0,
+        (subst (λ (r : Number). NumberWithin file r) c.in-Read-read_number.is c.read_number-2.ensures.number_within).0,
+        subst (λ (r : Place). PlaceWithin file r) c.in-At.is c.raster_place.ensures.place_within,
       ) }

@@ -34,10 +34,6 @@ returns-in_default c =
     ∙ ap (λ (z : ℤ). rows_by (box_styled_row (stroke_box a.b) (fill_box a.b)) a.style a.size.width a.size.height z
     a.count a.canvas.now) (to_z-of_z c.requires.near.0.fits)
 
--- as a symmetric box
-abbrev entry_of : In-Symmetric → Start
-entry_of c = c.before.before.before
-
 whole : (c : In-Symmetric)
     → WholeSymmetric c.args.b (to_z w32 (of_z w32 c.args.y)) c.args.count
     (Symmetric c.in-Symmetric.symmetric)
@@ -51,12 +47,11 @@ paint_symmetric_box-requires c =
 
 pub returns : goal.returns
 returns c =
-    let entry = entry_of c.before.before.before.before.before in
-    let a = entry.args in
+    let a = c.args in
     let is = whole c.before.before.before.before.before in
     let stroke = sym is.0.0 in
     let fill = sym is.0.1 in
-    let y_is = sym (to_z-of_z entry.pre.1.1.1.0.fits) ∙ is.1 in
+    let y_is = sym (to_z-of_z c.requires.near.0.fits) ∙ is.1 in
     c.paint_symmetric_box.ensures
     ∙ (λ i. rows_by (box_styled_row (stroke i) (fill i)) a.style a.size.width a.size.height
     (stroke i).rectangle.top_left.y (stroke i).rectangle.size.height a.canvas.now)

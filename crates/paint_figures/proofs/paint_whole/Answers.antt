@@ -68,24 +68,22 @@ pub returns-in-Ellipse : goal.returns-in-Ellipse
 returns-in-Ellipse c =
     let a = c.args in
     let seen = c.visible-seen in
-    let known = c.in-Ellipse.given in
-    let shape = styled.Ellipse known.0.0 in
+    let shape = styled.Ellipse c.in-Ellipse.ellipse in
     c.paint_ellipse.ensures
     ∙ ap (λ (z : ℤ). rows_by (row_of shape) a.style a.size.width a.size.height z c.visible-seen.result.count a.canvas.now)
     (to_z-of_z c.visible-seen.ensures.near.0.fits)
-    ∙ visible_rows_whole (row_of shape) a.figure a.style a.size.width a.size.height (rows_of c.before.before.before.before.before.before.before shape known.1)
+    ∙ visible_rows_whole (row_of shape) a.figure a.style a.size.width a.size.height (rows_of c.before.before.before.before.before.before.before shape c.in-Ellipse.is)
     c.shape_rows.result (rows_are c.before.before.before.before.before.before.before) a.canvas.now c.visible-seen.result c.visible-seen.ensures.value
 
 pub returns-in-RoundedBox : goal.returns-in-RoundedBox
 returns-in-RoundedBox c =
     let a = c.args in
     let seen = c.visible-seen in
-    let known = c.in-RoundedBox.given in
-    let shape = styled.RoundedBox known.0.0 in
+    let shape = styled.RoundedBox c.in-RoundedBox.b in
     c.paint_box.ensures
     ∙ ap (λ (z : ℤ). rows_by (row_of shape) a.style a.size.width a.size.height z c.visible-seen.result.count a.canvas.now)
     (to_z-of_z c.visible-seen.ensures.near.0.fits)
-    ∙ visible_rows_whole (row_of shape) a.figure a.style a.size.width a.size.height (rows_of c.before.before.before.before.before.before.before shape known.1)
+    ∙ visible_rows_whole (row_of shape) a.figure a.style a.size.width a.size.height (rows_of c.before.before.before.before.before.before.before shape c.in-RoundedBox.is)
     c.shape_rows.result (rows_are c.before.before.before.before.before.before.before) a.canvas.now c.visible-seen.result c.visible-seen.ensures.value
 
 pub returns-in-Neither : goal.returns-in-Neither

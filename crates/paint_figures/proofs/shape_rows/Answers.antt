@@ -18,15 +18,13 @@ rows_by_fields p q i = record { first = p i; count = q i }
 -- an ellipse
 pub returns-in-Ellipse : goal.returns-in-Ellipse
 returns-in-Ellipse c =
-    let known = c.in-Ellipse.given in
-    let area = subst BoundedShape known.1 c.requires in
-    let made : _ ≡ ellipse_rows known.0.0 = rows_by_fields (to_z-of_z area.at.y.fits) c.row_count.ensures in
-    let within = subst RowsWithin (sym made) (ellipse_rows_within known.0.0 area) in record { value = made ∙ ap rows_of_shape (sym known.1); near = (within.first, within.count) }
+    let area = subst BoundedShape c.in-Ellipse.is c.requires in
+    let made : _ ≡ ellipse_rows c.in-Ellipse.area = rows_by_fields (to_z-of_z area.at.y.fits) c.row_count.ensures in
+    let within = subst RowsWithin (sym made) (ellipse_rows_within c.in-Ellipse.area area) in record { value = made ∙ ap rows_of_shape (sym c.in-Ellipse.is); near = (within.first, within.count) }
 
 -- a box
 pub returns-in-RoundedBox : goal.returns-in-RoundedBox
 returns-in-RoundedBox c =
-    let known = c.in-RoundedBox.given in
-    let area = (subst BoundedShape known.1 c.requires).rectangle in
-    let made : _ ≡ box_rows known.0.0.rectangle = rows_by_fields (to_z-of_z area.at.y.fits) refl in
-    let within = subst RowsWithin (sym made) (box_rows_within known.0.0.rectangle area) in record { value = made ∙ ap rows_of_shape (sym known.1); near = (within.first, within.count) }
+    let area = (subst BoundedShape c.in-RoundedBox.is c.requires).rectangle in
+    let made : _ ≡ box_rows c.in-RoundedBox.b.rectangle = rows_by_fields (to_z-of_z area.at.y.fits) refl in
+    let within = subst RowsWithin (sym made) (box_rows_within c.in-RoundedBox.b.rectangle area) in record { value = made ∙ ap rows_of_shape (sym c.in-RoundedBox.is); near = (within.first, within.count) }

@@ -26,11 +26,14 @@ use Rattle.paint_rows.proofs.paint_box_rows.Goals as goal
 abbrev Start : Type 0
 Start = Lts.Start Tie.the-claims Reads.Pre Reads.Post goal.the-invariant-loop-dy goal.the-decreases-loop-dy Tie.handed_clauses
 
+abbrev After-add-row_y : Type 0
+After-add-row_y = Lts.After-add Tie.the-claims Reads.Pre Reads.Post goal.the-invariant-loop-dy goal.the-decreases-loop-dy Tie.handed_clauses
+
 abbrev After-least-alike : Type 0
 After-least-alike = Lts.After-least Tie.the-claims Reads.Pre Reads.Post goal.the-invariant-loop-dy goal.the-decreases-loop-dy Tie.handed_clauses
 
 -- the row of this turn
-row_is : (c : goal.After-add-row_y) → c.add-row_y.result ≡ to_z w32 (of_z w32 c.args.y) +ℤ pos
+row_is : (c : After-add-row_y) → c.add-row_y.result ≡ to_z w32 (of_z w32 c.args.y) +ℤ pos
     c.loop-dy.dy
 row_is c =
     let at_loop = c.loop-dy in
@@ -41,7 +44,7 @@ row_is c =
     let down = c.from_u32.ensures.is in
     omega (arith, int, add_law (to_z w32 (of_z w32 a.y)) (pos c.loop-dy.dy))
 
-row_near : (c : goal.After-add-row_y) → Near wide_painted c.add-row_y.result
+row_near : (c : After-add-row_y) → Near wide_painted c.add-row_y.result
 row_near c =
     let at_loop = c.loop-dy in
     let a = c.args in

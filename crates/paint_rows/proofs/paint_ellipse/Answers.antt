@@ -28,23 +28,26 @@ use Rattle.paint_rows.proofs.paint_ellipse.Goals as goal
 abbrev Start : Type 0
 Start = Lts.Start Tie.the-claims Reads.Pre Reads.Post goal.the-invariant-loop-dy goal.the-decreases-loop-dy Tie.handed_clauses
 
-abbrev first : goal.After-add-mirrored_y → ℤ
+abbrev After-add-mirrored_y : Type 0
+After-add-mirrored_y = Lts.After-add2 Tie.the-claims Reads.Pre Reads.Post goal.the-invariant-loop-dy goal.the-decreases-loop-dy Tie.handed_clauses
+
+abbrev first : After-add-mirrored_y → ℤ
 first c = to_z w32 (of_z w32 c.args.y)
 
-abbrev done : goal.After-add-mirrored_y → ℕ
+abbrev done : After-add-mirrored_y → ℕ
 done c = c.loop-dy.dy
 
-abbrev mirror : goal.After-add-mirrored_y → ℕ
+abbrev mirror : After-add-mirrored_y → ℕ
 mirror c = c.args.count - 1 - done c
 
-row_is : (c : goal.After-add-mirrored_y) → c.add-row_y.result ≡ first c +ℤ pos (done c)
+row_is : (c : After-add-mirrored_y) → c.add-row_y.result ≡ first c +ℤ pos (done c)
 row_is c =
     let fits = c.requires.near.0.fits in
     let sum = c.add-row_y.ensures.is in
     let down = c.from_u32.ensures.is in
     omega (arith, int, add_law (first c) (pos (done c)))
 
-mirror_is : (c : goal.After-add-mirrored_y) → c.add-mirrored_y.result ≡ first c +ℤ pos (mirror c)
+mirror_is : (c : After-add-mirrored_y) → c.add-mirrored_y.result ≡ first c +ℤ pos (mirror c)
 mirror_is c =
     let fits = c.requires.near.0.fits in
     let sum = c.add-mirrored_y.ensures.is in
@@ -57,22 +60,22 @@ near_down y z k near few is fits =
     let low = near.below in
     record { above = omega (arith, int, is, add_law y (pos k)); below = omega (arith, int, is, add_law y (pos k)); fits = fits }
 
-first_near : (c : goal.After-add-mirrored_y) → Near wide_area_position (first c)
+first_near : (c : After-add-mirrored_y) → Near wide_area_position (first c)
 first_near c = let near = c.requires.near.0 in rw (to_z-of_z near.fits) near
 
-row_near : (c : goal.After-add-mirrored_y) → Near wide_painted c.add-row_y.result
+row_near : (c : After-add-mirrored_y) → Near wide_painted c.add-row_y.result
 row_near c =
     let few = c.requires.near.1 in
     let more = c.loop-dy-test.true in
     near_down (first c) _ (done c) (first_near c) (omega (arith, few, c.loop-dy-test.true)) (row_is c) c.add-row_y.ensures.fits
 
-mirror_near : (c : goal.After-add-mirrored_y) → Near wide_painted c.add-mirrored_y.result
+mirror_near : (c : After-add-mirrored_y) → Near wide_painted c.add-mirrored_y.result
 mirror_near c =
     let few = c.requires.near.1 in
     near_down (first c) _ (mirror c) (first_near c) (omega (arith, few)) (mirror_is c) c.add-mirrored_y.ensures.fits
 
 -- they are alike, if they are a pair
-alike : (c : goal.After-add-mirrored_y) → done c < c.mirrored_pairs-pairs.result
+alike : (c : After-add-mirrored_y) → done c < c.mirrored_pairs-pairs.result
     → ellipse_styled_row c.args.ellipse.area c.args.ellipse.sides (first c +ℤ pos (mirror c))
     ≡ ellipse_styled_row c.args.ellipse.area c.args.ellipse.sides (first c +ℤ pos (done c))
 alike c pair =

@@ -21,10 +21,6 @@ Start = Lts.Start Tie.the-claims Reads.Pre Reads.Post Tie.handed_clauses
 abbrev After-paint_row_on : Type 0
 After-paint_row_on = Lts.After-paint_row_on Tie.the-claims Reads.Pre Reads.Post Tie.handed_clauses
 
--- ---- after the first time
-abbrev entry : After-paint_row_on → Start
-entry c = c.before.before.before
-
 once_is : (c : After-paint_row_on) → c.paint_row_on.new.canvas
     ≡ paint_by (λ _. c.args.row) c.args.style c.args.size.width c.args.size.height c.args.y
     c.args.canvas.now
@@ -47,9 +43,8 @@ returns-then-not-twice c =
 
 pub paint_row_on-requires-2 : goal.paint_row_on-requires-2
 paint_row_on-requires-2 c =
-    let start = entry c.before.before.before.before in
-    let near = start.pre.1.1.1 in
-    let same : length c.paint_row_on.new.canvas ≡ length start.args.canvas.now = search rules in record { canvas_len = same ∙ start.pre.0; width_le_wide_side = start.pre.1.0; near = rw (to_z-of_z near.fits) (painted_near near) }
+    let near = c.requires.near.1 in
+    let same : length c.paint_row_on.new.canvas ≡ length c.args.canvas.now = search rules in record { canvas_len = same ∙ c.requires.canvas_len; width_le_wide_side = c.requires.width_le_wide_side; near = rw (to_z-of_z near.fits) (painted_near near) }
 
 pub returns : goal.returns
 returns c =

@@ -16,11 +16,14 @@ use Rattle.sheet_call_numbers.proofs.encodes_calls.Tie
 use Rattle.sheet_call_numbers.proofs.encodes_calls.Goals as goal
 
 -- the facts known at these places
+abbrev Else-numbers-ne0 : Type 0
+Else-numbers-ne0 = Lts.Else1 Tie.the-claims Reads.Pre Reads.Post goal.the-invariant-loop-j goal.the-decreases-loop-j
+
 abbrev After-is_call : Type 0
-After-is_call = Lts.After-is_call Tie.the-claims Reads.Pre Reads.Post goal.the-invariant-loop-j goal.the-decreases-loop-j Tie.handed_clauses
+After-is_call = Lts.After-is_call Tie.the-claims Reads.Pre Reads.Post goal.the-invariant-loop-j goal.the-decreases-loop-j
 
 -- the length is a multiple of a call's
-encodes : (c : goal.Else-numbers-ne0) → encodes_calls c.args.numbers.now ≡ are_calls c.args.numbers.now 0
+encodes : (c : Else-numbers-ne0) → encodes_calls c.args.numbers.now ≡ are_calls c.args.numbers.now 0
     (call_count c.args.numbers.now)
 unfolding encodes_calls
 encodes c = rw (eq-eqb (length c.args.numbers.now % call_length) 0 c.if-numbers-ne0.false)

@@ -1,7 +1,6 @@
 -- `sheet_call_numbers::is_call` meets its contract: the first number says which of the kinds it may be.
 use mathlib.Core.Path.{◌≡◌, sym, ap, ◌∙◌}
 use mathlib.Core.Bool.{Bool, true}
-use borrow.Author.Tests.{not-true, not-false}
 use lib.IntN.{pos}
 use lib.ListN.{take, drop}
 use lib.Signed.{le_z}
@@ -16,14 +15,20 @@ use Rattle.sheet_call_numbers.proofs.is_call.Tie
 use Rattle.sheet_call_numbers.proofs.is_call.Goals as goal
 
 -- the facts known at these places
+abbrev Start : Type 0
+Start = Lts.Start Tie.the-claims Reads.Pre Reads.Post
+
 abbrev After-is_within : Type 0
-After-is_within = Lts.After-is_within Tie.the-claims Reads.Pre Reads.Post Tie.handed_clauses
+After-is_within = Lts.After-is_within Tie.the-claims Reads.Pre Reads.Post
+
+abbrev Else-not-is_within : Type 0
+Else-not-is_within = Lts.Else1 Tie.the-claims Reads.Pre Reads.Post
 
 abbrev After-t4-1 : Type 0
-After-t4-1 = Lts.After-if22 Tie.the-claims Reads.Pre Reads.Post Tie.handed_clauses
+After-t4-1 = Lts.After-if22 Tie.the-claims Reads.Pre Reads.Post
 
 abbrev After-is_figure : Type 0
-After-is_figure = Lts.After-is_figure Tie.the-claims Reads.Pre Reads.Post Tie.handed_clauses
+After-is_figure = Lts.After-is_figure Tie.the-claims Reads.Pre Reads.Post
 
 kind : (c : After-is_within) → within add_kind remove_kind (number_at c.args.numbers.now call_kind_at)
     ≡ c.is_within.result
@@ -31,8 +36,8 @@ kind c =
     sym (c.is_within.ensures ∙ ap (within add_kind remove_kind)
     (read_back c.args.numbers.now call_kind_at c.is_within-arg-1.given))
 
-after_kind : (c : goal.Else-not-is_within) → within add_kind remove_kind (number_at c.args.numbers.now call_kind_at) ≡ true
-after_kind c = kind c.before ∙ not-false _ c.if-not-is_within.false
+after_kind : (c : Else-not-is_within) → within add_kind remove_kind (number_at c.args.numbers.now call_kind_at) ≡ true
+after_kind c = kind c.before ∙ c.if-not-is_within.false
 
 -- whether it names a layer
 by_kind : (c : After-t4-1) {t : Bool} → le_z paint_kind (to_z w32 (of_z w32 (number_at c.args.numbers.now call_kind_at))) ≡ t
@@ -46,7 +51,7 @@ figure c = sym c.is_figure.ensures
 
 pub returns-then-not-is_within : goal.returns-then-not-is_within
 unfolding is_call
-returns-then-not-is_within c = rw (kind c.before ∙ not-true _ c.if-not-is_within.true)
+returns-then-not-is_within c = rw (kind c.before ∙ c.if-not-is_within.true)
 
 pub returns-then-numbers-ge-PAINT : goal.returns-then-numbers-ge-PAINT
 unfolding is_call
@@ -63,7 +68,7 @@ returns-then-not-is_figure c =
       after_kind c.before.before.before.before.before,
       by_kind c.before.before.before.before c.if-numbers-ge-PAINT.false,
       figure
-          c.before ∙ not-true _ c.if-not-is_figure.true,
+          c.before ∙ c.if-not-is_figure.true,
     )
 
 pub returns : goal.returns
@@ -74,5 +79,5 @@ returns c =
       after_kind c.before.before.before.before.before.before.before,
       by_kind c.before.before.before.before.before.before
           c.if-numbers-ge-PAINT.false,
-      figure c.before.before.before ∙ not-false _ c.if-not-is_figure.false,
+      figure c.before.before.before ∙ c.if-not-is_figure.false,
     ) c.is_style.ensures

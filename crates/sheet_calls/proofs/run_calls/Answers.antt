@@ -3,7 +3,7 @@
 use mathlib.Core.Path.{◌≡◌, refl, sym, ap, ap₂, ◌∙◌}
 use Prim.Native.Nat.{◌≤◌}
 use native.Mathlib.Omega.{arith}
-use borrow.Author.Tests.{not-true, not-false}
+use borrow.Author.Tests.{not-false}
 use lib.ListN.{length}
 use Rattle.refusal.specs.declared.Refusal.TheVariants.{BufferLength}
 use Rattle.refusal.specs.declared.Checked.TheVariants.{Passed}
@@ -78,7 +78,7 @@ returns-in_default c =
 pub returns-then-not-encodes_calls : goal.returns-then-not-encodes_calls
 returns-then-not-encodes_calls c =
     let a = c.args in
-    let none = sym c.encodes_calls.ensures ∙ not-true _ c.if-not-encodes_calls.true in record { answer_value = sym (run_not_calls a.width a.height a.calls.now (length a.canvas.now) (length a.answers.now) (passed c.before.before.before) none); run_leaves = record {
+    let none = sym c.encodes_calls.ensures ∙ c.if-not-encodes_calls.true in record { answer_value = sym (run_not_calls a.width a.height a.calls.now (length a.canvas.now) (length a.answers.now) (passed c.before.before.before) none); run_leaves = record {
           sheet = c.open-opened.ensures.sheet_value;
           kept_canvas = refl;
           kept_answers = refl;

@@ -30,6 +30,12 @@ use Rattle.sheet_checks.proofs.asked_row.Tie
 use Rattle.sheet_checks.proofs.asked_row.Goals as goal
 
 -- the facts known at these places
+abbrev Start : Type 0
+Start = Lts.Start Tie.the-claims Reads.Pre Reads.Post Tie.handed_clauses
+
+abbrev Else-not-tested : Type 0
+Else-not-tested = Lts.Else1 Tie.the-claims Reads.Pre Reads.Post Tie.handed_clauses
+
 abbrev In-Passed : Type 0
 In-Passed = Lts.Past-After-enum_told Tie.the-claims Reads.Pre Reads.Post Tie.handed_clauses
 
@@ -39,18 +45,18 @@ After-own-1 = Lts.After-own Tie.the-claims Reads.Pre Reads.Post Tie.handed_claus
 abbrev After-some_owes : Type 0
 After-some_owes = Lts.After-some_owes Tie.the-claims Reads.Pre Reads.Post Tie.handed_clauses
 
-sixteen : (c : goal.Start) → length c.args.places ≡ 16
+sixteen : (c : Start) → length c.args.places ≡ 16
 sixteen c = omega arith
 
 -- the rules are kept
-abbrev start : goal.Else-not-tested → goal.Start
+abbrev start : Else-not-tested → Start
 start c = c.before.before.before.before
 
-rules : (c : goal.Else-not-tested) → keeps_rules drawing c.args.size.width c.args.size.height
+rules : (c : Else-not-tested) → keeps_rules drawing c.args.size.width c.args.size.height
     (layers_of c.args.count c.args.places) ≡ true
 rules c = sym c.test_rules-tested.ensures.kept_value ∙ not-false _ c.if-not-tested.false
 
-few : (c : goal.Else-not-tested) → c.args.count ≤ 16
+few : (c : Else-not-tested) → c.args.count ≤ 16
 few c =
     kept_few c.args.size.width c.args.size.height c.args.count c.args.places
     (sixteen c.before.before.before.before) (rules c)
@@ -64,18 +70,18 @@ size c canvas long =
     ap (canvas_length_check a.size.width a.size.height) long ∙ sym c.check_length-sized.ensures ∙ c.in-Passed.is
 
 -- the rows of the layer
-abbrev kept : After-own-1 → goal.Else-not-tested
+abbrev kept : After-own-1 → Else-not-tested
 kept c = c.before.before.before.before
 
 abbrev layer : After-own-1 → Layer
-layer c = get_or (start c.before.before.before.before).args.places c.args.layer blank_layer
+layer c = get_or c.args.places c.args.layer blank_layer
 
 abbrev own : After-own-1 → LayerRows
 own c = get_or c.test_rules-tested.result.rows c.args.layer no_rows
 
 found : (c : After-own-1)
-    → take (start c.before.before.before.before).args.count c.test_rules-tested.result.rows
-    ≡ map layer_rows (take (start c.before.before.before.before).args.count (start c.before.before.before.before).args.places)
+    → take c.args.count c.test_rules-tested.result.rows
+    ≡ map layer_rows (take c.args.count c.args.places)
 found c = c.test_rules-tested.ensures.rows_value (not-false _ c.if-not-tested.false)
 
 own_is : (c : After-own-1) → own c ≡ layer_rows (layer c)
@@ -102,8 +108,8 @@ by_end c test =
 -- whether an earlier layer owes the row is what was asked
 owed : (c : After-some_owes)
     → some_rows_owe
-    (map layer_rows (take (start c.before.before.before.before.before.before.before.before.before).args.layer
-    (start c.before.before.before.before.before.before.before.before.before).args.places))
+    (map layer_rows (take c.args.layer
+    c.args.places))
     (layer_rows (layer c.before.before.before.before.before)).next
     ≡ c.some_owes.result
 owed c =

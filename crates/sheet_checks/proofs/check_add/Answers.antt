@@ -5,9 +5,16 @@ use borrow.Author.Rules.{rules}
 use borrow.Author.Tests.{not-true, not-false}
 use lib.ListN.{length}
 use Rattle.sheet_checks.proofs.Answers.{add_broken, add_full, add_free}
+use Rattle.sheet_checks.proofs.check_add.Lts
+use Rattle.sheet_checks.proofs.check_add.Reads
+use Rattle.sheet_checks.proofs.check_add.Tie
 use Rattle.sheet_checks.proofs.check_add.Goals as goal
 
-sixteen : (c : goal.Start) → length c.args.places ≡ 16
+-- the facts known at these places
+abbrev Start : Type 0
+Start = Lts.Start Tie.the-claims Reads.Pre Reads.Post Tie.handed_clauses
+
+sixteen : (c : Start) → length c.args.places ≡ 16
 sixteen c = omega arith
 
 -- 7

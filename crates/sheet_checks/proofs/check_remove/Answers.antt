@@ -15,12 +15,15 @@ use Rattle.sheet_checks.proofs.check_remove.Goals as goal
 
 -- the facts known at these places
 abbrev Start : Type 0
-Start = Lts.Start Tie.the-claims Reads.Pre Reads.Post Tie.handed_clauses
+Start = Lts.Start Tie.the-claims Reads.Pre Reads.Post
+
+abbrev Else-not-kept : Type 0
+Else-not-kept = Lts.Else1 Tie.the-claims Reads.Pre Reads.Post
 
 abbrev After-or_else-lent : Type 0
-After-or_else-lent = Lts.After-or_else Tie.the-claims Reads.Pre Reads.Post Tie.handed_clauses
+After-or_else-lent = Lts.After-or_else Tie.the-claims Reads.Pre Reads.Post
 
-abbrev kept : After-or_else-lent → goal.Else-not-kept
+abbrev kept : After-or_else-lent → Else-not-kept
 kept c = c.before.before.before
 
 abbrev size : After-or_else-lent → CanvasSize

@@ -5,9 +5,16 @@ use native.Mathlib.Omega.{arith}
 use lib.ListN.{length}
 use Rattle.sheet_layers.proofs.LayerRules.{not_kept}
 use Rattle.sheet_checks.proofs.Places.{broken_size, broken_count, kept_by_layers}
+use Rattle.sheet_checks.proofs.test_rules.Lts
+use Rattle.sheet_checks.proofs.test_rules.Reads
+use Rattle.sheet_checks.proofs.test_rules.Tie
 use Rattle.sheet_checks.proofs.test_rules.Goals as goal
 
-sixteen : (c : goal.Start) → length c.args.places ≡ 16
+-- the facts known at these places
+abbrev Start : Type 0
+Start = Lts.Start Tie.the-claims Reads.Pre Reads.Post Tie.handed_clauses
+
+sixteen : (c : Start) → length c.args.places ≡ 16
 sixteen c = omega arith
 
 -- a size beyond the limits

@@ -13,6 +13,9 @@ use Rattle.sheet_layers.proofs.test_rules.Tie
 use Rattle.sheet_layers.proofs.test_rules.Goals as goal
 
 -- the facts known at these places
+abbrev Start : Type 0
+Start = Lts.Start Tie.the-claims Reads.Pre Reads.Post goal.the-invariant-loop-i goal.the-decreases-loop-i Tie.handed_clauses
+
 abbrev After-rows : Type 0
 After-rows = Lts.After-rows Tie.the-claims Reads.Pre Reads.Post goal.the-invariant-loop-i goal.the-decreases-loop-i Tie.handed_clauses
 
@@ -26,7 +29,7 @@ here c =
     let within = c.loop-i.invariant.0 in
     omega arith
 
-enough : (c : goal.Start) → c.args.count ≤ length c.args.layers
+enough : (c : Start) → c.args.count ≤ length c.args.layers
 enough c = omega arith
 
 pub loop-i-init : goal.loop-i-init

@@ -23,26 +23,29 @@ use Rattle.sheet_remove.proofs.lay_over.Goals as goal
 abbrev Start : Type 0
 Start = Lts.Start Tie.the-claims Reads.Pre Reads.Post goal.the-invariant-loop-j goal.the-decreases-loop-j Tie.handed_clauses
 
+abbrev After-least-bottom : Type 0
+After-least-bottom = Lts.After-least Tie.the-claims Reads.Pre Reads.Post goal.the-invariant-loop-j goal.the-decreases-loop-j Tie.handed_clauses
+
 sixteen : (c : Start) → length c.args.layers ≡ 16
 sixteen c = omega arith
 
-abbrev place : goal.After-least-bottom → ℕ
+abbrev place : After-least-bottom → ℕ
 place c = c.loop-j.j
 
-abbrev layer : goal.After-least-bottom → Layer
+abbrev layer : After-least-bottom → Layer
 layer c = get_or c.args.layers (place c) blank_layer
 
-left : (c : goal.After-least-bottom) → place c < c.args.end
+left : (c : After-least-bottom) → place c < c.args.end
 left c = c.loop-j-test.true
 
-within : (c : goal.After-least-bottom) → LayerWithin (layer c)
+within : (c : After-least-bottom) → LayerWithin (layer c)
 within c = c.requires.end_le_max_layers.1.within (place c) (left c)
 
-rows_are : (c : goal.After-least-bottom) → get_or c.args.rows (place c) no_rows ≡ layer_rows (layer c)
+rows_are : (c : After-least-bottom) → get_or c.args.rows (place c) no_rows ≡ layer_rows (layer c)
 rows_are c = c.requires.end_le_max_layers.1.rows_are (place c) (left c)
 
 -- its first and its last row among those laid over
-top_is : (c : goal.After-least-bottom)
+top_is : (c : After-least-bottom)
     → c.most-top.result ≡ max c.args.from (floor0 (layer_rows (layer c)).first)
 top_is c =
     c.most-top.ensures
@@ -50,7 +53,7 @@ top_is c =
     (c.floor0.ensures
     ∙ ap floor0 (row_held (rows_are c) (λ r. r.first) (within c).rows.first))
 
-bottom_is : (c : goal.After-least-bottom)
+bottom_is : (c : After-least-bottom)
     → c.least-bottom.result ≡ min c.args.to (floor0 (layer_rows (layer c)).next)
 bottom_is c =
     c.least-bottom.ensures

@@ -13,7 +13,14 @@ use Rattle.book.specs.Sheet.{paint_row}
 use Rattle.book.specs.Whole.{paint_rows}
 use Rattle.book.proofs.Picture.{paint_row_length}
 use Rattle.drawing.specs.Drawing.{StyledFigure, styled_figure, drawing}
+use Rattle.sheet_remove.proofs.paint_rows.Lts
+use Rattle.sheet_remove.proofs.paint_rows.Reads
+use Rattle.sheet_remove.proofs.paint_rows.Tie
 use Rattle.sheet_remove.proofs.paint_rows.Goals as goal
+
+-- the facts known at these places
+abbrev After-from_u32 : Type 0
+After-from_u32 = Lts.After-from_u32 Tie.the-claims Reads.Pre Reads.Post goal.the-invariant-loop-y goal.the-decreases-loop-y Tie.handed_clauses
 
 -- one row more is painted
 step : (W H : ℕ) (item : StyledFigure) (y to : ℕ) (canvas : List ℕ) → y < to
@@ -33,7 +40,7 @@ none_left W H item y to canvas past =
     ap (λ (n : ℕ). paint_rows drawing W H item (pos y) n canvas) none
 
 -- the row as 32 bits hold it
-row_is : (c : goal.After-from_u32) → to_z w32 (of_z w32 c.from_u32.result) ≡ pos c.loop-y.y
+row_is : (c : After-from_u32) → to_z w32 (of_z w32 c.from_u32.result) ≡ pos c.loop-y.y
 row_is c = to_z-of_z c.from_u32.ensures.fits ∙ c.from_u32.ensures.is
 
 pub loop-y-init : goal.loop-y-init

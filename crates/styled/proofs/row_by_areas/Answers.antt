@@ -24,12 +24,11 @@ use Rattle.styled.proofs.row_by_areas.Tie
 use Rattle.styled.proofs.row_by_areas.Goals as goal
 
 -- the facts known at these places
+abbrev Start : Type 0
+Start = Lts.Start Tie.the-claims Reads.Pre Reads.Post Tie.handed_clauses
+
 abbrev After-sub-inward : Type 0
 After-sub-inward = Lts.After-sub Tie.the-claims Reads.Pre Reads.Post Tie.handed_clauses
-
--- ---- the two offsets
-abbrev start : After-sub-inward → goal.Start
-start c = c.before.before.before.before.before
 
 outward_is : (c : After-sub-inward) → c.from_u32-outward.result ≡ pos (outside_stroke_width c.args.style)
 outward_is c =
@@ -87,13 +86,12 @@ sub-inward-requires c =
 
 pub ellipse_row_at-requires : goal.ellipse_row_at-requires
 ellipse_row_at-requires c =
-    let begin = start c.before in
-    let small = begin.pre.1.0 in
-    let near = begin.pre.1.1 in record { own_rectangle = subst OwnFigure c.in-Ellipse.is begin.pre.0; outside_le_wide_offset = (
+    let small = c.requires.stroke_width_bound in
+    let near = c.requires.near in record { own_rectangle = subst OwnFigure c.in-Ellipse.is c.requires.own_figure; outside_le_wide_offset = (
           omega
-              (arith, c.outside_stroke_width-outside.ensures, outside_within_stroke begin.args.style),
+              (arith, c.outside_stroke_width-outside.ensures, outside_within_stroke c.args.style),
           omega
-              (arith, c.inside_stroke_width-inside.ensures, inside_within_stroke begin.args.style),
+              (arith, c.inside_stroke_width-inside.ensures, inside_within_stroke c.args.style),
         ); near = rw (to_z-of_z near.fits) near }
 
 pub crate_row_at-requires : goal.crate_row_at-requires
@@ -111,14 +109,13 @@ w3c_row_at-requires c =
 pub returns-in-Ellipse : goal.returns-in-Ellipse
 unfolding styled_row_of_shapes
 returns-in-Ellipse c =
-    let figure = c.in-Ellipse.given in
     let args = c.args in
     c.ellipse_row_at.ensures
     ∙ (λ i. ellipse_styled_row
-    (rectangle_offset figure.0.0 (pos (c.outside_stroke_width-outside.ensures i)))
-    (rectangle_offset figure.0.0 (neg_ℤ (pos (c.inside_stroke_width-inside.ensures i)))).size
+    (rectangle_offset c.in-Ellipse.rectangle (pos (c.outside_stroke_width-outside.ensures i)))
+    (rectangle_offset c.in-Ellipse.rectangle (neg_ℤ (pos (c.inside_stroke_width-inside.ensures i)))).size
     (to_z-of_z c.requires.near.fits i))
-    ∙ ap (λ (f : Figure). styled_row f args.style args.y) (sym figure.1)
+    ∙ ap (λ (f : Figure). styled_row f args.style args.y) (sym c.in-Ellipse.is)
 
 -- the offsets as the callee reads them
 outward_held : (c : After-sub-inward)
@@ -131,19 +128,17 @@ inward_held c = to_z-of_z (inward_near c).ranges ∙ inward_is c
 pub returns-in-CrateBox : goal.returns-in-CrateBox
 unfolding styled_row_of_shapes
 returns-in-CrateBox c =
-    let figure = c.in-CrateBox.given in
     let args = c.args in
     c.crate_row_at.ensures
-    ∙ (λ i. box_styled_row (crate_area figure.0.0 (outward_held c.before.before i))
-    (crate_area figure.0.0 (inward_held c.before.before i)) (to_z-of_z c.requires.near.fits i))
-    ∙ ap (λ (f : Figure). styled_row f args.style args.y) (sym figure.1)
+    ∙ (λ i. box_styled_row (crate_area c.in-CrateBox.b (outward_held c.before.before i))
+    (crate_area c.in-CrateBox.b (inward_held c.before.before i)) (to_z-of_z c.requires.near.fits i))
+    ∙ ap (λ (f : Figure). styled_row f args.style args.y) (sym c.in-CrateBox.is)
 
 pub returns-in-W3cBox : goal.returns-in-W3cBox
 unfolding styled_row_of_shapes
 returns-in-W3cBox c =
-    let figure = c.in-W3cBox.given in
     let args = c.args in
     c.w3c_row_at.ensures
-    ∙ (λ i. box_styled_row (w3c_area figure.0.0 (outward_held c.before.before i)) (w3c_area figure.0.0 (inward_held c.before.before i))
+    ∙ (λ i. box_styled_row (w3c_area c.in-W3cBox.b (outward_held c.before.before i)) (w3c_area c.in-W3cBox.b (inward_held c.before.before i))
     (to_z-of_z c.requires.near.fits i))
-    ∙ ap (λ (f : Figure). styled_row f args.style args.y) (sym figure.1)
+    ∙ ap (λ (f : Figure). styled_row f args.style args.y) (sym c.in-W3cBox.is)

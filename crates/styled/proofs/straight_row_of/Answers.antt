@@ -17,8 +17,17 @@ use Rattle.styled.proofs.straight_row_of.Tie
 use Rattle.styled.proofs.straight_row_of.Goals as goal
 
 -- the facts known at these places
+abbrev Start : Type 0
+Start = Lts.Start Tie.the-claims Reads.Pre Reads.Post Tie.handed_clauses
+
 abbrev After-inside_stroke_width-inside : Type 0
 After-inside_stroke_width-inside = Lts.After-inside_stroke_width Tie.the-claims Reads.Pre Reads.Post Tie.handed_clauses
+
+abbrev Joined-figure : Type 0
+Joined-figure = Lts.At-match-branch Tie.the-claims Reads.Pre Reads.Post Tie.handed_clauses
+
+abbrev After-straight_row : Type 0
+After-straight_row = Lts.After-straight_row Tie.the-claims Reads.Pre Reads.Post Tie.handed_clauses
 
 -- the stroke's widths are within bounds
 widths : (c : After-inside_stroke_width-inside)
@@ -32,7 +41,7 @@ widths c =
     )
 
 -- past the match the figure is a box
-is_box : (c : goal.Joined-figure) → IsBox c.args.figure c.match-figure.b
+is_box : (c : Joined-figure) → IsBox c.args.figure c.match-figure.b
 is_box c =
     ⊎_elim (λ w. inl (w.1.given.1 ∙ ap CrateBox (sym w.3))) (λ w. inr (w.1.given.1 ∙ ap W3cBox (sym w.3)))
     c.match-figure.branch
@@ -42,7 +51,7 @@ straight_row-requires c =
     let near = c.requires.near in record { own_box = own_box _ _ (is_box c) c.requires.own_figure; outside_le_wide_offset = widths c.before; near = rw (to_z-of_z near.fits) near }
 
 -- what is told of the box, of the figure
-straight_told : (c : goal.After-straight_row)
+straight_told : (c : After-straight_row)
     → Told c.straight_row.result (styled_row c.args.figure c.args.style
     c.args.y)
 straight_told c =

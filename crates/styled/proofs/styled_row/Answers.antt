@@ -21,6 +21,9 @@ use Rattle.styled.proofs.styled_row.Tie
 use Rattle.styled.proofs.styled_row.Goals as goal
 
 -- the facts known at these places
+abbrev Start : Type 0
+Start = Lts.Start Tie.the-claims Reads.Pre Reads.Post Tie.handed_clauses
+
 abbrev After-or_else-checked : Type 0
 After-or_else-checked = Lts.After-or_else2 Tie.the-claims Reads.Pre Reads.Post Tie.handed_clauses
 

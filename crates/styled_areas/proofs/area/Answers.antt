@@ -9,7 +9,14 @@ use Rattle.figure.specs.Bounds.{OwnFigure, AreaRectangle, AreaBox, ConfinedAreaB
 use Rattle.figure.proofs.Within.{own_area, area_bounded, offset_area, offset_box_bounded, confined_bounded}
 use native.Mathlib.Omega.{arith}
 use Rattle.signed.proofs.Laws.{int}
+use Rattle.styled_areas.proofs.area.Lts
+use Rattle.styled_areas.proofs.area.Reads
+use Rattle.styled_areas.proofs.area.Tie
 use Rattle.styled_areas.proofs.area.Goals as goal
+
+-- the facts known at these places
+abbrev After-offset_box : Type 0
+After-offset_box = Lts.After-offset_box Tie.the-claims Reads.Pre Reads.Post Tie.handed_clauses
 
 pub offset-requires : goal.offset-requires
 offset-requires c =
@@ -20,13 +27,13 @@ offset_box-requires c =
     let near = c.requires.near in record { own_box = subst OwnFigure c.in-CrateBox.is c.requires.own_figure; near = omega (arith, int) }
 
 -- the crate box offset, and that its area is bounded
-offset_is : (c : goal.After-offset_box) → c.offset_box.result
+offset_is : (c : After-offset_box) → c.offset_box.result
     ≡ offset_box c.in-CrateBox.b c.args.k
 offset_is c =
     c.offset_box.ensures
     ∙ ap (offset_box c.in-CrateBox.b) (to_z-of_z c.ranges.k)
 
-offset_bounded : (c : goal.After-offset_box) → AreaBox c.offset_box.result
+offset_bounded : (c : After-offset_box) → AreaBox c.offset_box.result
 offset_bounded c =
     subst AreaBox (sym (offset_is c))
     (offset_box_bounded _ c.args.k (subst OwnFigure c.in-CrateBox.is c.requires.own_figure) c.requires.near)

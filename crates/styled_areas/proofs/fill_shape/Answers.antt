@@ -7,10 +7,17 @@ use Rattle.styled_areas.specs.Areas.{area}
 use Rattle.style.proofs.StrokeWidths.{inside_within_stroke}
 use Rattle.signed.proofs.Laws.{int, positive_of_opposite, negative_of_opposite}
 use native.Mathlib.Omega.{arith}
+use Rattle.styled_areas.proofs.fill_shape.Lts
+use Rattle.styled_areas.proofs.fill_shape.Reads
+use Rattle.styled_areas.proofs.fill_shape.Tie
 use Rattle.styled_areas.proofs.fill_shape.Goals as goal
 
+-- the facts known at these places
+abbrev After-sub : Type 0
+After-sub = Lts.After-sub Tie.the-claims Reads.Pre Reads.Post Tie.handed_clauses
+
 -- 0 less the inside width is its opposite
-opposite : (c : goal.After-sub) → c.sub.result ≡ neg_ℤ (pos c.inside_stroke_width.result)
+opposite : (c : After-sub) → c.sub.result ≡ neg_ℤ (pos c.inside_stroke_width.result)
 opposite c =
     let is = c.from_u32-inside.ensures.is in
     let difference = c.sub.ensures.is in

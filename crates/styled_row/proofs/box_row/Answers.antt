@@ -49,8 +49,7 @@ pub returns : goal.returns
 unfolding box_styled_row
 returns c =
     let args = c.args in
-    let run = c.in-Run.given in
     let fill = plain_box args.fill in
-    ap Runs (c.around_fill.ensures ∙ ap (around_fill run.0.0)
-    (c.fill_alone.ensures ∙ ap (λ (z : ℤ). fill_run fill z run.0.0) (to_z-of_z c.requires.near.fits)))
-    ∙ ap (λ (r : Row). styled_by r (fill_run fill args.y)) (row_is c.before.before.before _ run.1)
+    ap Runs (c.around_fill.ensures ∙ ap (around_fill c.in-Run.run')
+    (c.fill_alone.ensures ∙ ap (λ (z : ℤ). fill_run fill z c.in-Run.run') (to_z-of_z c.requires.near.fits)))
+    ∙ ap (λ (r : Row). styled_by r (fill_run fill args.y)) (row_is c.before.before.before _ c.in-Run.is)

@@ -59,8 +59,7 @@ row_place c =
 row_is : (c : After-row) (told : Row) → c.row.result ≡ told → told ≡ ellipse_points_row c.args.area
     c.args.y
 row_is c told is =
-    let entry = start c.before in
-    sym is ∙ c.row.ensures.0 ∙ ap (ellipse_points_row entry.args.area) (to_z-of_z entry.pre.1.1.fits)
+    sym is ∙ c.row.ensures.0 ∙ ap (ellipse_points_row c.args.area) (to_z-of_z c.requires.near.fits)
 
 -- ---- where it has a run: where that starts
 abbrev found : In-Run → After-row
@@ -84,7 +83,7 @@ abbrev told : After-floor0-s → In-Run
 told c = c.before.before.before.before
 
 place_is : (c : After-floor0-s) → c.floor0-s.result ≡ floor0
-    (c.in-Run.run'.start -ℤ (entry c.before.before.before.before).args.area.top_left.x)
+    (c.in-Run.run'.start -ℤ c.args.area.top_left.x)
 place_is c =
     let sum = c.sub.ensures in
     c.floor0-s.ensures
@@ -92,12 +91,11 @@ place_is c =
     (λ i. to_z-of_z (run_start_fits c.before.before.before.before) i -ℤ to_z-of_z (entry c.before.before.before.before).requires.0.at.x.fits i))
 
 first_is : (c : After-floor0-s)
-    → first_inside (entry c.before.before.before.before).args.area.size.width (entry c.before.before.before.before).args.area.size.height
+    → first_inside c.args.area.size.width c.args.area.size.height
     (found c.before.before.before.before).before.before.dy.given.0.0 ≡ At c.floor0-s.result
 first_is c =
     let args = (entry c.before.before.before.before).args in
-    let run = c.in-Run.given in
-    run_first args.area args.y run.0.0 (row_is (found c.before.before.before.before) _ run.1) (found c.before.before.before.before).before.before.dy.given.0.0
+    run_first args.area args.y c.in-Run.run' (row_is (found c.before.before.before.before) _ c.in-Run.is) (found c.before.before.before.before).before.before.dy.given.0.0
     (row_place (found c.before.before.before.before).before)
     ∙ ap At (sym (place_is c))
 
@@ -134,7 +132,6 @@ ellipse_runs-requires c =
 pub returns : goal.returns
 returns c =
     let args = (entry c.before.before.before.before.before.before.before).args in
-    let run = c.in-Run.given in
     let w = args.area.size.width in
     let s = c.floor0-s.result in
     ap Runs
@@ -143,4 +140,4 @@ returns c =
     (find_from (column_inside (contains_of args.sides.width args.sides.height) w (c.gap-distance.ensures.0 i))
     (w - 2 * c.floor0-s.result) c.floor0-s.result)))
     ∙ styled_found args.area args.sides args.y _ (row_place (found c.before.before.before.before.before.before.before).before)
-    (rows_there args.area args.y run.0.0 (row_is (found c.before.before.before.before.before.before.before) _ run.1)) c.floor0-s.result (first_is c.before.before.before)
+    (rows_there args.area args.y c.in-Run.run' (row_is (found c.before.before.before.before.before.before.before) _ c.in-Run.is)) c.floor0-s.result (first_is c.before.before.before)

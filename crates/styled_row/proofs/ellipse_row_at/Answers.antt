@@ -14,21 +14,27 @@ use Rattle.styled_row.proofs.ellipse_row_at.Tie
 use Rattle.styled_row.proofs.ellipse_row_at.Goals as goal
 
 -- the facts known at these places
+abbrev Start : Type 0
+Start = Lts.Start Tie.the-claims Reads.Pre Reads.Post Tie.handed_clauses
+
+abbrev After-offset-area : Type 0
+After-offset-area = Lts.After-offset Tie.the-claims Reads.Pre Reads.Post Tie.handed_clauses
+
+abbrev After-sub : Type 0
+After-sub = Lts.After-sub Tie.the-claims Reads.Pre Reads.Post Tie.handed_clauses
+
 abbrev After-offset-inner : Type 0
 After-offset-inner = Lts.After-offset2 Tie.the-claims Reads.Pre Reads.Post Tie.handed_clauses
 
 -- the two areas' rectangles
-area_is : (c : goal.After-offset-area)
+area_is : (c : After-offset-area)
     → c.offset-area.result ≡ rectangle_offset c.args.rectangle (pos c.args.outside)
 area_is c =
     c.offset-area.ensures
     ∙ ap (rectangle_offset c.args.rectangle)
     (to_z-of_z c.from_u32.ensures.fits ∙ c.from_u32.ensures.is)
 
-abbrev start : goal.After-sub → goal.Start
-start c = c.before.before.before.before
-
-opposite : (c : goal.After-sub) → c.sub.result ≡ neg_ℤ (pos c.args.inside)
+opposite : (c : After-sub) → c.sub.result ≡ neg_ℤ (pos c.args.inside)
 opposite c =
     let is = c.from_u32-2.ensures.is in
     let difference = c.sub.ensures.is in
@@ -60,14 +66,13 @@ offset-inner-requires c =
 
 pub ellipse_row-requires : goal.ellipse_row-requires
 ellipse_row-requires c =
-    let entry = start c.before.before in
-    let small = entry.pre.1.0 in
-    let near = entry.pre.1.1 in
-    let inside = entry.args.inside in record { bounded = area_bounded _
+    let small = c.requires.outside_le_wide_offset in
+    let near = c.requires.near in
+    let inside = c.args.inside in record { bounded = area_bounded _
           (subst AreaRectangle (sym (area_is c.before.before.before.before))
-          (offset_area entry.args.rectangle (pos entry.args.outside) entry.pre.0 (omega (arith, int)))); size_up_to = (area_bounded _
+          (offset_area c.args.rectangle (pos c.args.outside) c.requires.own_rectangle (omega (arith, int)))); size_up_to = (area_bounded _
             (subst AreaRectangle (sym (inner_is c.before))
-            (offset_area entry.args.rectangle (neg_ℤ (pos inside)) entry.pre.0
+            (offset_area c.args.rectangle (neg_ℤ (pos inside)) c.requires.own_rectangle
             (omega (arith, int, positive_of_opposite (pos inside), negative_of_opposite (pos inside)))))
             ).size; near = rw (to_z-of_z near.fits) near }
 

@@ -17,12 +17,11 @@ use Rattle.styled_row.proofs.ellipse_runs.Tie
 use Rattle.styled_row.proofs.ellipse_runs.Goals as goal
 
 -- the facts known at these places
+abbrev Start : Type 0
+Start = Lts.Start Tie.the-claims Reads.Pre Reads.Post Tie.handed_clauses
+
 abbrev After-first_inside : Type 0
 After-first_inside = Lts.After-first_inside Tie.the-claims Reads.Pre Reads.Post Tie.handed_clauses
-
--- the place found is the definition's
-abbrev entry : After-first_inside → goal.Start
-entry c = c.before.before
 
 abbrev answer : After-first_inside → Place
 answer c =
@@ -39,20 +38,16 @@ answer_is c told is =
 
 pub returns-in_default : goal.returns-in_default
 returns-in_default c =
-    let start = entry c.before.before in
     c.hollow_runs.ensures
-    ∙ ap (λ (z : ℤ). runs_from z start.args.width start.args.s Nowhere) (to_z-of_z start.fits.left)
-    ∙ ap (runs_from start.args.left start.args.width start.args.s) (answer_is c.before.before Nowhere c.in_default.is)
+    ∙ ap (λ (z : ℤ). runs_from z c.args.width c.args.s Nowhere) (to_z-of_z c.fits.left)
+    ∙ ap (runs_from c.args.left c.args.width c.args.s) (answer_is c.before.before Nowhere c.in_default.is)
 
 pub filled_runs-requires : goal.filled_runs-requires
 filled_runs-requires c =
-    let start = entry c.before in
-    let below = (found_at _ _ _ _ (sym (answer_is c.before _ c.in-At.is))).below in record { near = rw (to_z-of_z start.fits.left) start.pre.0; width_le_wide_side = (omega arith, omega arith, omega arith) }
+    let below = (found_at _ _ _ _ (sym (answer_is c.before _ c.in-At.is))).below in record { near = rw (to_z-of_z c.fits.left) c.requires.near; width_le_wide_side = (omega arith, omega arith, omega arith) }
 
 pub returns : goal.returns
 returns c =
-    let start = entry c.before.before in
-    let found = c.in-At.given in
     c.filled_runs.ensures
-    ∙ ap (λ (z : ℤ). runs_from z start.args.width start.args.s (At found.0.0)) (to_z-of_z start.fits.left)
-    ∙ ap (runs_from start.args.left start.args.width start.args.s) (answer_is c.before.before (At found.0.0) found.1)
+    ∙ ap (λ (z : ℤ). runs_from z c.args.width c.args.s (At c.in-At.c)) (to_z-of_z c.fits.left)
+    ∙ ap (runs_from c.args.left c.args.width c.args.s) (answer_is c.before.before (At c.in-At.c) c.in-At.is)

@@ -44,15 +44,13 @@ returns-in_default c =
 
 pub row_fill-found-requires : goal.row_fill-found-requires
 row_fill-found-requires c =
-    let dy = c.in-At.given in
     let made = c.new.ensures in
-    let first = c.requires.bounded_box.at.x in record { near = rw (to_z-of_z first.fits) first; ready_box = c.new.ensures.2; dy_lt_height = subst (λ (s : Size). dy.0.0 < s.height) (sym c.new.ensures.0) (row_place c.before.before.before.before.before (At dy.0.0) dy.1).1; near_run = c.requires.near_run }
+    let first = c.requires.bounded_box.at.x in record { near = rw (to_z-of_z first.fits) first; ready_box = c.new.ensures.2; dy_lt_height = subst (λ (s : Size). c.in-At.dy < s.height) (sym c.new.ensures.0) (row_place c.before.before.before.before.before (At c.in-At.dy) c.in-At.is).1; near_run = c.requires.near_run }
 
 pub returns : goal.returns
 returns c =
-    let dy = c.in-At.given in
     let made = c.new.ensures in
     let args = c.args in
     c.row_fill-found.ensures
-    ∙ (λ i. row_fill (c.new.ensures.1 i) (c.new.ensures.0 i) (to_z-of_z c.requires.bounded_box.at.x.fits i) dy.0.0 args.run)
-    ∙ fill_relative (plain_box args.b) args.y args.run dy.0.0 (row_place c.before.before.before.before.before.before (At dy.0.0) dy.1)
+    ∙ (λ i. row_fill (c.new.ensures.1 i) (c.new.ensures.0 i) (to_z-of_z c.requires.bounded_box.at.x.fits i) c.in-At.dy args.run)
+    ∙ fill_relative (plain_box args.b) args.y args.run c.in-At.dy (row_place c.before.before.before.before.before.before (At c.in-At.dy) c.in-At.is)

@@ -1,7 +1,6 @@
 -- `styled_straight::row_past` meets its contract: a row that both tests let pass lies past the corners that reach no further than
 -- told, so
 -- its run is the whole area and its fill needs no test.
-use borrow.Author.Tests.{not-false}
 use mathlib.Core.Path.{◌≡◌, sym, ap, subst, ◌∙◌}
 use Prim.Native.Nat.{◌-◌, ◌≤◌, ◌<◌}
 use native.Mathlib.Omega.{arith}
@@ -56,15 +55,11 @@ abbrev outer : In-At-place_of → In-At
 outer c = c.before.before.before.before.before
 
 inner_place : (c : In-At-place_of)
-    → Placed (start c.before.before.before.before.before).args.inner.top_left.y (start c.before.before.before.before.before).args.inner.size.height (start c.before.before.before.before.before).args.y
+    → Placed c.args.inner.top_left.y c.args.inner.size.height c.args.y
     (At c.in-At-place_of.inner_dy)
 inner_place c =
     placed_told _ _ _ (start c.before.before.before.before.before).requires.1.0.at.y.fits (start c.before.before.before.before.before).requires.1.1.fits
     c.place_of-2.ensures c.in-At-place_of.is
-
--- the stroke area's run
-abbrev placed : After-run_between-run → In-At-place_of
-placed c = c.before.before.before.before.before.before
 
 run_is : (c : After-run_between-run) → c.run_between-run.result ≡ whole_run (start (outer c.before.before.before.before.before.before)).args.area
 run_is c =
@@ -88,9 +83,8 @@ place_of-requires c =
 
 pub place_of-requires-2 : goal.place_of-requires-2
 place_of-requires-2 c =
-    let entry = start c.before.before.before.before in
-    let inner = area_bounded _ entry.pre.1.0 in
-    let near = entry.pre.1.1 in record { near = rw (to_z-of_z inner.at.y.fits) inner.at.y; n_le_wide_side = inner.size.height; near_2 = rw (to_z-of_z near.fits) near }
+    let inner = area_bounded _ c.requires.area_rectangle_2 in
+    let near = c.requires.near in record { near = rw (to_z-of_z inner.at.y.fits) inner.at.y; n_le_wide_side = inner.size.height; near_2 = rw (to_z-of_z near.fits) near }
 
 pub is_past-requires : goal.is_past-requires
 is_past-requires c = (row_place c.before.before.before.before.before.before).1
@@ -117,19 +111,17 @@ filled_between-requires c =
 
 pub returns : goal.returns
 returns c = λ c₁ d reach_c reach_d.
-    let at = placed c.before.before.before in
-    let entry = start (outer at) in
-    let a = entry.args in
+    let a = c.args in
     let past = c.is_past.ensures
-    (not-false _ c.if-not-is_past.false) in
-    let past₂ = c.is_past-2.ensures (not-false _ c.if-not-is_past-2.false) in
+    (c.if-not-is_past.false) in
+    let past₂ = c.is_past-2.ensures (c.if-not-is_past-2.false) in
     ap Runs
     (c.around_fill.ensures
     ∙ ap (around_fill c.run_between-run.result)
     (c.filled_between.ensures
     ∙ ap (λ (x : _). fill_between x a.inner.size.width c.run_between-run.result 0)
-    (to_z-of_z entry.pre.1.0.at.x.fits))
+    (to_z-of_z c.requires.area_rectangle_2.at.x.fits))
     ∙ ap (λ (r : Range). around_fill r (fill_between a.inner.top_left.x a.inner.size.width r 0)) (run_is c.before.before.before))
-    ∙ straight_row_is a.area a.inner c₁ d a.y _ _ (row_place (outer at)) (inner_place at)
-    (straight c₁ a.area.size _ a.stroke (row_place (outer at)).1 past reach_c)
-    (straight d a.inner.size _ a.fill (inner_place at).1 past₂ reach_d)
+    ∙ straight_row_is a.area a.inner c₁ d a.y _ _ (row_place c.before.before.before.before.before.before.before.before.before.before.before.before.before.before) (inner_place c.before.before.before.before.before.before.before.before.before)
+    (straight c₁ a.area.size _ a.stroke (row_place c.before.before.before.before.before.before.before.before.before.before.before.before.before.before).1 past reach_c)
+    (straight d a.inner.size _ a.fill (inner_place c.before.before.before.before.before.before.before.before.before).1 past₂ reach_d)

@@ -25,25 +25,37 @@ use Rattle.styled_straight.proofs.straight_row.Goals as goal
 abbrev Start : Type 0
 Start = Lts.Start Tie.the-claims Reads.Pre Reads.Post Tie.handed_clauses
 
+abbrev After-offset-area : Type 0
+After-offset-area = Lts.After-offset Tie.the-claims Reads.Pre Reads.Post Tie.handed_clauses
+
+abbrev After-sub : Type 0
+After-sub = Lts.After-sub Tie.the-claims Reads.Pre Reads.Post Tie.handed_clauses
+
+abbrev After-offset-inner : Type 0
+After-offset-inner = Lts.After-offset2 Tie.the-claims Reads.Pre Reads.Post Tie.handed_clauses
+
+abbrev After-row_past : Type 0
+After-row_past = Lts.After-row_past Tie.the-claims Reads.Pre Reads.Post Tie.handed_clauses
+
 -- the two areas' rectangles
-abbrev start : goal.After-offset-area → Start
+abbrev start : After-offset-area → Start
 start c = c.before.before.before.before.before.before.before.before.before.before
 
-area_is : (c : goal.After-offset-area)
+area_is : (c : After-offset-area)
     → c.offset-area.result ≡ rectangle_offset c.args.b.rectangle (pos c.args.outside)
 area_is c =
     c.offset-area.ensures
     ∙ ap (rectangle_offset c.args.b.rectangle)
     (to_z-of_z c.from_u32.ensures.fits ∙ c.from_u32.ensures.is)
 
-opposite : (c : goal.After-sub) → c.sub.result ≡ neg_ℤ (pos c.args.inside)
+opposite : (c : After-sub) → c.sub.result ≡ neg_ℤ (pos c.args.inside)
 opposite c =
     let is = c.from_u32-2.ensures.is in
     let difference = c.sub.ensures.is in
     let inside = c.args.inside in
     omega (arith, int, positive_of_opposite (pos inside), negative_of_opposite (pos inside))
 
-inner_is : (c : goal.After-offset-inner)
+inner_is : (c : After-offset-inner)
     → c.offset-inner.result
     ≡ rectangle_offset c.args.b.rectangle
     (neg_ℤ (pos c.args.inside))
@@ -65,48 +77,41 @@ sub-requires c =
 
 pub offset-inner-requires : goal.offset-inner-requires
 offset-inner-requires c =
-    let entry = start c.before.before in
-    let small = entry.pre.1.0 in record { bounded = area_bounded _ (own_area _ entry.pre.0.rectangle); near = omega (
+    let small = c.requires.outside_le_wide_offset in record { bounded = area_bounded _ (own_area _ c.requires.own_box.rectangle); near = omega (
         arith,
         int,
         opposite c,
-        positive_of_opposite (pos entry.args.inside),
+        positive_of_opposite (pos c.args.inside),
         negative_of_opposite
-            (pos entry.args.inside),
+            (pos c.args.inside),
       ) }
 
 pub overflow_add-upper : goal.overflow_add-upper
 overflow_add-upper c =
-    let begin = start c.before.before.before in
-    let small = begin.pre.1.0.0 in
-    let left = begin.pre.0.corners.top_left.height in
-    let right = begin.pre.0.corners.top_right.height in
+    let small = c.requires.outside_le_wide_offset.0 in
+    let left = c.requires.own_box.corners.top_left.height in
+    let right = c.requires.own_box.corners.top_right.height in
     record { fits = omega (arith, c.most-upper.ensures) }
 
 pub overflow_add-lower : goal.overflow_add-lower
 overflow_add-lower c =
-    let begin = start c.before.before.before in
-    let small = begin.pre.1.0.0 in
-    let left = begin.pre.0.corners.bottom_left.height in
-    let right = begin.pre.0.corners.bottom_right.height in
+    let small = c.requires.outside_le_wide_offset.0 in
+    let left = c.requires.own_box.corners.bottom_left.height in
+    let right = c.requires.own_box.corners.bottom_right.height in
     record { fits = omega (arith, c.most-lower.ensures) }
 
 pub row_past-requires : goal.row_past-requires
 row_past-requires c =
-    let entry = start c.before.before.before.before.before in
-    let own = entry.pre.0.rectangle in
-    let small = entry.pre.1.0 in
-    let near = entry.pre.1.1 in
-    let inside = entry.args.inside in record { area_rectangle = subst AreaRectangle (sym (area_is c.before.before.before.before.before))
-          (offset_area entry.args.b.rectangle (pos entry.args.outside) own (omega (arith, int))); area_rectangle_2 = subst AreaRectangle (sym (inner_is c.before.before))
-            (offset_area entry.args.b.rectangle (neg_ℤ (pos inside)) own
+    let own = c.requires.own_box.rectangle in
+    let small = c.requires.outside_le_wide_offset in
+    let near = c.requires.near in
+    let inside = c.args.inside in record { area_rectangle = subst AreaRectangle (sym (area_is c.before.before.before.before.before))
+          (offset_area c.args.b.rectangle (pos c.args.outside) own (omega (arith, int))); area_rectangle_2 = subst AreaRectangle (sym (inner_is c.before.before))
+            (offset_area c.args.b.rectangle (neg_ℤ (pos inside)) own
             (omega (arith, int, positive_of_opposite (pos inside), negative_of_opposite (pos inside)))); near = rw (to_z-of_z near.fits) near }
 
-abbrev entry : goal.After-row_past → Start
-entry c = start c.before.before.before.before.before.before
-
 -- the box's own corners reach as far as was found
-own_reach : (c : goal.After-row_past) → Reach c.args.b.corners
+own_reach : (c : After-row_past) → Reach c.args.b.corners
     (record {
       upper = c.most-upper.result;
       lower = c.most-lower.result;
@@ -118,7 +123,7 @@ own_reach c =
     }
 
 -- the corners of the areas, by radii no larger than the box's own
-told : (c : goal.After-row_past) (r s t : CornerRadii) → RadiiWithin r c.args.b.corners
+told : (c : After-row_past) (r s t : CornerRadii) → RadiiWithin r c.args.b.corners
     → RadiiWithin s (corner_radii_offset r (pos c.args.outside))
     → RadiiWithin t (corner_radii_offset r (neg_ℤ (pos c.args.inside)))
     → Told c.row_past.result

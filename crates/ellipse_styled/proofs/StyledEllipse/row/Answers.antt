@@ -79,27 +79,24 @@ scan_inside-requires c =
 
 pub returns-in_default-scan_inside : goal.returns-in_default-scan_inside
 returns-in_default-scan_inside c =
-    let entry = asked c.before in
-    styled_none entry.args.self.area entry.args.self.sides entry.args.y _
+    styled_none c.args.self.area c.args.self.sides c.args.y _
     (row_place c.before.before.before.before.before.before) (rows_there c.before.before.before.before)
     (stroke_start c.before ∙ c.in_default-scan_inside.is)
 
 pub runs_at-found-requires : goal.runs_at-found-requires
 runs_at-found-requires c =
-    let entry = asked c.before.before.before.before in
     let half = first_inside_half _ _ _ _ (stroke_start c.before.before.before.before ∙ c.in-At-scan_inside.is) in
-    let tall = entry.pre.0.area.size.height in
-    let near = entry.pre.0.area.at.x in record { near = rw (to_z-of_z near.fits) near; width_le_wide_side = (entry.pre.0.area.size.width, omega arith, omega arith); small_weights = entry.pre.0.fill_weights }
+    let tall = c.requires.ready_ellipse.area.size.height in
+    let near = c.requires.ready_ellipse.area.at.x in record { near = rw (to_z-of_z near.fits) near; width_le_wide_side = (c.requires.ready_ellipse.area.size.width, omega arith, omega arith); small_weights = c.requires.ready_ellipse.fill_weights }
 
 pub returns : goal.returns
 returns c =
     let at_gap = c.gap-distance in
-    let entry = asked c.before.before.before.before.before in
-    let w = entry.args.self.area.size.width in
+    let w = c.args.self.area.size.width in
     let s = c.in-At-scan_inside.s in
     ap Runs
     (c.runs_at-found.ensures
-    ∙ (λ i. runs_from (to_z-of_z entry.pre.0.area.at.x.fits i) w s
-    (find_from (column_inside (entry.pre.0.fill i) w (c.gap-distance.ensures.0 i)) (w - 2 * s) s)))
-    ∙ styled_found entry.args.self.area entry.args.self.sides entry.args.y _ (row_place c.before.before.before.before.before.before.before.before.before.before) (rows_there c.before.before.before.before.before.before.before.before) s
+    ∙ (λ i. runs_from (to_z-of_z c.requires.ready_ellipse.area.at.x.fits i) w s
+    (find_from (column_inside (c.requires.ready_ellipse.fill i) w (c.gap-distance.ensures.0 i)) (w - 2 * s) s)))
+    ∙ styled_found c.args.self.area c.args.self.sides c.args.y _ (row_place c.before.before.before.before.before.before.before.before.before.before) (rows_there c.before.before.before.before.before.before.before.before) s
     (stroke_start c.before.before.before.before.before ∙ c.in-At-scan_inside.is)

@@ -18,6 +18,9 @@ use Rattle.figure.proofs.Figure.row.Tie
 use Rattle.figure.proofs.Figure.row.Goals as goal
 
 -- the facts known at these places
+abbrev Start : Type 0
+Start = Lts.Start Tie.the-claims Reads.Pre Reads.Post Tie.handed_clauses
+
 abbrev After-or_else-checked : Type 0
 After-or_else-checked = Lts.After-or_else Tie.the-claims Reads.Pre Reads.Post Tie.handed_clauses
 

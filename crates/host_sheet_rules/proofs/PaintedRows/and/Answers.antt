@@ -14,7 +14,7 @@ use Rattle.host_sheet_rules.proofs.PaintedRows.and.Goals as goal
 
 -- the facts known at these places
 abbrev Start : Type 0
-Start = Lts.Start Tie.the-claims Reads.Pre Reads.Post Tie.handed_clauses
+Start = Lts.Start Tie.the-claims Reads.Pre Reads.Post
 
 -- what the numbers fit
 rows_fit : (c : Start) → RowsFit c.args.rows

@@ -18,6 +18,9 @@ use Rattle.rectangle.proofs.Rectangle.offset.Tie
 use Rattle.rectangle.proofs.Rectangle.offset.Goals as goal
 
 -- the facts known at these places
+abbrev Start : Type 0
+Start = Lts.Start Tie.the-claims Reads.Pre Reads.Post Tie.handed_clauses
+
 abbrev After-or_else-checked : Type 0
 After-or_else-checked = Lts.After-or_else Tie.the-claims Reads.Pre Reads.Post Tie.handed_clauses
 

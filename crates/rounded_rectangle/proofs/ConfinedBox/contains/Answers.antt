@@ -19,15 +19,18 @@ use Rattle.rounded_rectangle.proofs.ConfinedBox.contains.Goals as goal
 abbrev Start : Type 0
 Start = Lts.Start Tie.the-claims Reads.Pre Reads.Post Tie.handed_clauses
 
+abbrev After-corners-1 : Type 0
+After-corners-1 = Lts.After-corners Tie.the-claims Reads.Pre Reads.Post Tie.handed_clauses
+
 -- where the asked column and row stand
-column_place : (c : goal.After-corners-1) →
+column_place : (c : After-corners-1) →
     Placed c.args.self.rectangle.top_left.x c.args.self.rectangle.size.width
     c.args.point.x (At c.in-At.dx)
 column_place c =
     let at_place_of = c.place_of in
     placed_told _ _ _ c.requires.bounded_box.at.x.fits c.requires.point_near.x.fits c.place_of.ensures c.in-At.is
 
-row_place : (c : goal.After-corners-1) →
+row_place : (c : After-corners-1) →
     Placed c.args.self.rectangle.top_left.y c.args.self.rectangle.size.height
     c.args.point.y (At c.in-At-place_of.dy)
 row_place c =

@@ -19,8 +19,14 @@ use Rattle.shape.proofs.box_rules.offset_w3c_box.Tie
 use Rattle.shape.proofs.box_rules.offset_w3c_box.Goals as goal
 
 -- the facts known at these places
+abbrev Start : Type 0
+Start = Lts.Start Tie.the-claims Reads.Pre Reads.Post Tie.handed_clauses
+
 abbrev After-plain-once : Type 0
 After-plain-once = Lts.After-plain Tie.the-claims Reads.Pre Reads.Post Tie.handed_clauses
+
+abbrev After-spread : Type 0
+After-spread = Lts.After-spread Tie.the-claims Reads.Pre Reads.Post Tie.handed_clauses
 
 pub confined_w3c-requires : goal.confined_w3c-requires
 confined_w3c-requires c = own_box_bounded _ c.requires.own_box
@@ -40,17 +46,17 @@ pub spread-requires : goal.spread-requires
 spread-requires c =
     let near = c.requires.near in record { radii_up_to = radii_up_to_wider wide_own_side wide_radius _ (omega arith) (once_own c.before.before.before).corners; near = omega (arith, int) }
 
-abbrev spread_box_lem : goal.After-spread → RoundedRectangle
+abbrev spread_box_lem : After-spread → RoundedRectangle
 spread_box_lem c = record { rectangle = c.offset.result; corners = c.spread.result }
 
-spread_is : (c : goal.After-spread) → spread_box_lem c ≡ spread_box (plain_box (confined_w3c c.args.b)) c.args.k
+spread_is : (c : After-spread) → spread_box_lem c ≡ spread_box (plain_box (confined_w3c c.args.b)) c.args.k
 unfolding spread_box
 spread_is c =
     box_by_fields c.offset.ensures c.spread.ensures
     ∙ ap (spread_box c.plain-once.result) (to_z-of_z c.ranges.k)
     ∙ ap (λ (q : RoundedRectangle). spread_box q c.args.k) (once_is c.before.before.before.before)
 
-spread_area : (c : goal.After-spread) → AreaBox (spread_box (plain_box (confined_w3c c.args.b)) c.args.k)
+spread_area : (c : After-spread) → AreaBox (spread_box (plain_box (confined_w3c c.args.b)) c.args.k)
 spread_area c = spread_box_bounded _ c.args.k (confined_w3c_own _ c.requires.own_box) c.requires.near
 
 pub confined_w3c-requires-2 : goal.confined_w3c-requires-2

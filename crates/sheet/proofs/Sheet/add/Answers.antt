@@ -31,6 +31,9 @@ Start = Lts.Start Tie.the-claims Reads.Pre Reads.Post Tie.handed_clauses
 abbrev After-or_else-checked : Type 0
 After-or_else-checked = Lts.After-or_else Tie.the-claims Reads.Pre Reads.Post Tie.handed_clauses
 
+abbrev In-Passed : Type 0
+In-Passed = Lts.Past-After-enum_told Tie.the-claims Reads.Pre Reads.Post Tie.handed_clauses
+
 sixteen : (c : Start) → length c.args.self.layers ≡ 16
 sixteen c = sixteen_places c.args.self.layers c.well-formed.0.1.1.1.1.1.0.1.0.1
 
@@ -48,17 +51,17 @@ checked c =
     ∙ ap (λ (t : Checked). or_else t c.check_add-room.result) (sym c.check.ensures)
     ∙ sym c.or_else-checked.ensures
 
-passed : (c : goal.In-Passed) → sheet_answer c.args.self [] (call_add (item c.before.before.before.before.before)) ≡ Passed
+passed : (c : In-Passed) → sheet_answer c.args.self [] (call_add (item c.before.before.before.before.before)) ≡ Passed
 passed c = checked c.before ∙ c.in-Passed.is
 
-figure_passed : (c : goal.In-Passed) → styled_check c.args.figure c.args.style ≡ Passed
+figure_passed : (c : In-Passed) → styled_check c.args.figure c.args.style ≡ Passed
 figure_passed c =
     let figure = c.check in
     sym c.check.ensures
     ∙ passed_first c.check.result c.check_add-room.result
     (sym c.or_else-checked.ensures ∙ c.in-Passed.is)
 
-room : (c : goal.In-Passed) → c.args.self.count < 16
+room : (c : In-Passed) → c.args.self.count < 16
 room c =
     let s = c.args.self in
     added_room s.width s.height s.count s.layers (sixteen c.before.before.before.before.before) (item c.before.before.before.before.before) [] (passed c)

@@ -6,9 +6,16 @@ use Rattle.refusal.specs.declared.Checked.TheVariants.{Refused}
 use Rattle.sheet_layers.specs.declared.Layer.{Layer}
 use Rattle.sheet.specs.declared.Sheet.{Sheet}
 use Rattle.sheet.specs.Sheet.{opened_sheet}
+use Rattle.sheet.proofs.Sheet.open.Lts
+use Rattle.sheet.proofs.Sheet.open.Reads
+use Rattle.sheet.proofs.Sheet.open.Tie
 use Rattle.sheet.proofs.Sheet.open.Goals as goal
 
-made : (c : goal.After-blank-blank)
+-- the facts known at these places
+abbrev After-blank-blank : Type 0
+After-blank-blank = Lts.After-blank Tie.the-claims Reads.Pre Reads.Post Tie.handed_clauses
+
+made : (c : After-blank-blank)
     → ◌≡◌ {A =
     Sheet} (record {
       width = c.args.width;

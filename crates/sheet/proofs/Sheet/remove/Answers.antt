@@ -65,7 +65,7 @@ passed c = sym (checked c.before) ∙ c.in-Passed.is
 
 told : (c : In-Passed)
     → RemoveAccepted (sheet c.before).width (sheet c.before).height (sheet c.before).count (sheet c.before).layers (sixteen (entry c.before))
-    (entry c.before).args.layer (entry c.before).args.background.now (entry c.before).args.canvas.now
+    c.args.layer c.args.background.now c.args.canvas.now
 told c =
     let a = (entry c.before).args in
     let s = sheet c.before in
@@ -117,11 +117,10 @@ without-requires c =
 pub returns : goal.returns
 unfolding carried_out_sheet
 returns c =
-    let start = entry c.before.before.before.before.before.before.before.before in
-    let a = start.args in
+    let a = c.args in
     let s = a.self in
     let own = layer_of (get_or s.layers a.layer blank_layer) in record { answer_value = sym (passed c.before.before.before.before.before.before.before); sheet_value = ap (λ (l : List Layer). record { width = s.width; height = s.height; count = s.count - 1; layers = l }) c.without.ensures
-            ∙ sym (removed_record s (sixteen start) a.canvas.now a.layer a.background.now (passed c.before.before.before.before.before.before.before)); canvas_after = c.restore.ensures
+            ∙ sym (removed_record s (sixteen c.before.before.before.before.before.before.before.before.before.before.before.before.before) a.canvas.now a.layer a.background.now (passed c.before.before.before.before.before.before.before)); canvas_after = c.restore.ensures
               ∙ ap (λ (l : Layers drawing). restored drawing s.width s.height (some own) (without a.layer l) a.background.now
-              a.canvas.now) (sym (layers_are s.count s.layers (sixteen start) (few c.before.before.before.before.before.before.before)))
-              ∙ sym (removed_canvas s (sixteen start) a.canvas.now a.layer a.background.now (passed c.before.before.before.before.before.before.before)); background_value = refl }
+              a.canvas.now) (sym (layers_are s.count s.layers (sixteen c.before.before.before.before.before.before.before.before.before.before.before.before.before) (few c.before.before.before.before.before.before.before)))
+              ∙ sym (removed_canvas s (sixteen c.before.before.before.before.before.before.before.before.before.before.before.before.before) a.canvas.now a.layer a.background.now (passed c.before.before.before.before.before.before.before)); background_value = refl }

@@ -26,11 +26,14 @@ use Rattle.sheet_layers.proofs.Layer.rows.Goals as goal
 abbrev Start : Type 0
 Start = Lts.Start Tie.the-claims Reads.Pre Reads.Post Tie.handed_clauses
 
+abbrev In-Passed : Type 0
+In-Passed = Lts.Past-After-enum_told Tie.the-claims Reads.Pre Reads.Post Tie.handed_clauses
+
 abbrev After-add-end : Type 0
 After-add-end = Lts.After-add Tie.the-claims Reads.Pre Reads.Post Tie.handed_clauses
 
 -- within limits
-passed : (c : goal.In-Passed)
+passed : (c : In-Passed)
     → styled_check c.args.self.figure c.args.self.style ≡ Passed
 passed c = sym c.check.ensures ∙ c.in-Passed.is
 

@@ -3,7 +3,6 @@ use mathlib.Core.Path.{◌≡◌, refl, sym, ap, ◌∙◌}
 use mathlib.Core.Bool.{Bool, true, false, ◌&&◌}
 use Prim.Native.Nat.{◌+◌, ◌-◌, ◌≤◌}
 use native.Mathlib.Omega.{arith}
-use borrow.Author.Tests.{not-true, not-false}
 use lib.ListN.{length, take, drop}
 use Rattle.sheet_layers.specs.LayerRows.{rows_in_order}
 use Rattle.sheet_layers.proofs.RowTests.{order_here, order_past}
@@ -13,10 +12,13 @@ use Rattle.sheet_layers.proofs.rows.in_order.Tie
 use Rattle.sheet_layers.proofs.rows.in_order.Goals as goal
 
 -- the facts known at these places
+abbrev Start : Type 0
+Start = Lts.Start Tie.the-claims Reads.Pre Reads.Post goal.the-invariant-loop-i goal.the-decreases-loop-i Tie.handed_clauses
+
 abbrev After-none_overtakes : Type 0
 After-none_overtakes = Lts.After-none_overtakes Tie.the-claims Reads.Pre Reads.Post goal.the-invariant-loop-i goal.the-decreases-loop-i Tie.handed_clauses
 
-enough : (c : goal.Start) → c.args.count ≤ length c.args.rows
+enough : (c : Start) → c.args.count ≤ length c.args.rows
 enough c = omega arith
 
 -- what is left, by the layer that stands there
@@ -41,13 +43,13 @@ pub none_overtakes-requires : goal.none_overtakes-requires
 none_overtakes-requires c = record { from_le_count = omega arith; count_le_max_layers = omega arith }
 
 pub returns-then-not-none_overtakes : goal.returns-then-not-none_overtakes
-returns-then-not-none_overtakes c = sym (step c.before false (not-true _ c.if-not-none_overtakes.true))
+returns-then-not-none_overtakes c = sym (step c.before false (c.if-not-none_overtakes.true))
 
 pub loop-i-smaller : goal.loop-i-smaller
 loop-i-smaller c = omega arith
 
 pub loop-i-preserved : goal.loop-i-preserved
-loop-i-preserved c = (omega arith, sym (step c.before true (not-false _ c.if-not-none_overtakes.false)))
+loop-i-preserved c = (omega arith, sym (step c.before true (c.if-not-none_overtakes.false)))
 
 pub returns : goal.returns
 returns c =

@@ -16,18 +16,21 @@ use Rattle.sheet_layers.proofs.rows.some_owes.Tie
 use Rattle.sheet_layers.proofs.rows.some_owes.Goals as goal
 
 -- the facts known at these places
+abbrev Start : Type 0
+Start = Lts.Start Tie.the-claims Reads.Pre Reads.Post goal.the-invariant-loop-i goal.the-decreases-loop-i
+
 abbrev After-owes : Type 0
-After-owes = Lts.After-owes Tie.the-claims Reads.Pre Reads.Post goal.the-invariant-loop-i goal.the-decreases-loop-i Tie.handed_clauses
+After-owes = Lts.After-owes Tie.the-claims Reads.Pre Reads.Post goal.the-invariant-loop-i goal.the-decreases-loop-i
 
 -- the row as it is held
-held_row : (c : goal.Start) {t : Bool} → some_rows_owe (take c.args.layers c.args.rows) (to_z w32 (of_z w32 c.args.y))
+held_row : (c : Start) {t : Bool} → some_rows_owe (take c.args.layers c.args.rows) (to_z w32 (of_z w32 c.args.y))
     ≡ t
     → some_rows_owe (take c.args.layers c.args.rows) c.args.y ≡ t
 held_row c e =
     let fits : SFits w32 c.args.y = search rules in
     sym (ap (some_rows_owe (take c.args.layers c.args.rows)) (to_z-of_z fits)) ∙ e
 
-enough : (c : goal.Start) → c.args.layers ≤ length c.args.rows
+enough : (c : Start) → c.args.layers ≤ length c.args.rows
 enough c = omega arith
 
 abbrev place : After-owes → ℕ

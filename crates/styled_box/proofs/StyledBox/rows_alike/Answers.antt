@@ -39,12 +39,9 @@ row_place c =
     let at_place_of = c.place_of in
     placed_told _ _ _ c.requires.ready_styled_box.area.at.y.fits c.requires.near.fits c.place_of.ensures c.in-At.is
 
-abbrev outer : In-At-place_of → In-At
-outer c = c.before.before.before.before.before.before
-
 inner_place : (c : In-At-place_of)
-    → Placed (start c.before.before.before.before.before.before).args.self.inner.top_left.y (start c.before.before.before.before.before.before).args.self.inner.size.height
-    (start c.before.before.before.before.before.before).args.y (At c.in-At-place_of.inner_dy)
+    → Placed c.args.self.inner.top_left.y c.args.self.inner.size.height
+    c.args.y (At c.in-At-place_of.inner_dy)
 inner_place c =
     let at_place_of2 = c.place_of-2 in
     placed_told _ _ _ (start c.before.before.before.before.before.before).requires.0.fill.at.y.fits (start c.before.before.before.before.before.before).requires.1.fits c.place_of-2.ensures
@@ -72,8 +69,7 @@ returns-in_default-place_of c =
 
 pub straight_rows-requires : goal.straight_rows-requires
 straight_rows-requires c =
-    let at = outer c.before.before in
-    let ready = (start at).pre.0 in record { ready_box = ready.stroke; dy_lt_height = subst (λ (s : Size). at.before.dy.given.0.0 < s.height) ready.stroke_size (row_place at).1 }
+    let ready = c.requires.ready_styled_box in record { ready_box = ready.stroke; dy_lt_height = subst (λ (s : Size). c.in-At.dy < s.height) ready.stroke_size (row_place c.before.before.before.before.before.before.before.before).1 }
 
 pub straight_rows-requires-2 : goal.straight_rows-requires-2
 straight_rows-requires-2 c =
@@ -81,20 +77,19 @@ straight_rows-requires-2 c =
 
 pub returns : goal.returns
 returns c =
-    let at = outer c.before.before.before.before.before in
-    let b = (start at).args.self in
-    let ready = (start at).pre.0 in
+    let b = c.args.self in
+    let ready = c.requires.ready_styled_box in
     let stroke = c.straight_rows in
     let fill = c.straight_rows-2 in
     let n_is = c.least.ensures in
     let some₁ = c.straight_rows.ensures.0 in
     let some₂ = c.straight_rows-2.ensures.0 in
     let alike =
-    rows_straight (stroke_box b) (fill_box b) (start at).args.y at.before.dy.given.0.0 c.in-At-place_of.inner_dy
+    rows_straight (stroke_box b) (fill_box b) c.args.y c.in-At.dy c.in-At-place_of.inner_dy
     c.straight_rows.result c.straight_rows-2.result
-    (row_place at) (inner_place c.before.before.before.before.before)
-    (subst (λ (s : Size). StraightFor (radii b.stroke) s at.before.dy.given.0.0 c.straight_rows.result) (sym ready.stroke_size)
+    (row_place c.before.before.before.before.before.before.before.before.before.before.before) (inner_place c.before.before.before.before.before)
+    (subst (λ (s : Size). StraightFor (radii b.stroke) s c.in-At.dy c.straight_rows.result) (sym ready.stroke_size)
     c.straight_rows.ensures.1)
     (subst (λ (s : Size). StraightFor (radii b.fill) s c.in-At-place_of.inner_dy c.straight_rows-2.result) (sym ready.fill.size)
     c.straight_rows-2.ensures.1) in
-    (omega (arith, c.least.ensures, some₁, some₂), subst (Alike (box_styled_row (stroke_box b) (fill_box b)) (start at).args.y) (sym c.least.ensures) alike)
+    (omega (arith, c.least.ensures, some₁, some₂), subst (Alike (box_styled_row (stroke_box b) (fill_box b)) c.args.y) (sym c.least.ensures) alike)

@@ -28,25 +28,19 @@ returns-then-dy-border c =
 pub corner_left_out-k-requires : goal.corner_left_out-k-requires
 corner_left_out-k-requires c = c.requires.ready_symmetric.inner_corner
 
--- what is known of the fill area's columns
-abbrev entry : After-corner_left_out-k → Start
-entry c = c.before.before.before
-
 pub filled_between-requires : goal.filled_between-requires
 filled_between-requires c =
-    let start = entry c.before.before.before.before.before in
-    let a = start.args in
-    let ready = start.pre.0 in
+    let a = c.args in
+    let ready = c.requires.ready_symmetric in
     let left = ready.inner_at.x in
-    let columns = between a.self ready a.dy start.pre.1.0 a.run c.if-dy-border.false
-    c.corner_left_out-k.result c.corner_left_out-k.ensures in record { near = rw (to_z-of_z left.fits) left; width_le_wide_stroke_side = (ready.inner_size.width, columns.half); near_run = start.pre.1.1 }
+    let columns = between a.self ready a.dy c.requires.corner_rows_bound a.run c.if-dy-border.false
+    c.corner_left_out-k.result c.corner_left_out-k.ensures in record { near = rw (to_z-of_z left.fits) left; width_le_wide_stroke_side = (ready.inner_size.width, columns.half); near_run = c.requires.near_run }
 
 pub returns : goal.returns
 returns c =
-    let start = entry c.before.before.before.before.before in
-    let a = start.args in
+    let a = c.args in
     let k = c.corner_left_out-k.result in
     c.filled_between.ensures
-    ∙ ap (λ (z : ℤ). fill_between z a.self.inner.size.width a.run c.corner_left_out-k.result) (to_z-of_z start.pre.0.inner_at.x.fits)
-    ∙ fill_found a.self start.pre.0 a.dy start.pre.1.0 a.run c.if-dy-border.false c.corner_left_out-k.result
+    ∙ ap (λ (z : ℤ). fill_between z a.self.inner.size.width a.run c.corner_left_out-k.result) (to_z-of_z c.requires.ready_symmetric.inner_at.x.fits)
+    ∙ fill_found a.self c.requires.ready_symmetric a.dy c.requires.corner_rows_bound a.run c.if-dy-border.false c.corner_left_out-k.result
     c.corner_left_out-k.ensures

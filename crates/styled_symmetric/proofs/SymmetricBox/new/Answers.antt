@@ -1,5 +1,4 @@
 -- `styled_symmetric::SymmetricBox::new` meets its contract: the tests on the way say each thing that is asked of a symmetric box.
-use borrow.Author.Tests.{not-false}
 use native.Mathlib.Omega.{arith}
 use mathlib.Core.Path.{sym, subst}
 use Prim.Native.Nat.{◌≤◌}
@@ -19,7 +18,10 @@ use Rattle.styled_symmetric.proofs.SymmetricBox.new.Goals as goal
 abbrev Start : Type 0
 Start = Lts.Start Tie.the-claims Reads.Pre Reads.Post Tie.handed_clauses
 
-border_is : (c : goal.In-At)
+abbrev In-At : Type 0
+In-At = Lts.Past-After-known_told Tie.the-claims Reads.Pre Reads.Post Tie.handed_clauses
+
+border_is : (c : In-At)
     → Placed c.args.b.area.top_left.y c.args.b.area.size.height
     c.args.b.inner.top_left.y (At c.in-At.border)
 border_is c =
@@ -27,13 +29,13 @@ border_is c =
     placed_told _ _ _ c.requires.area.at.y.fits c.requires.fill.at.y.fits c.place_of.ensures
     c.in-At.is
 
-border_small : (c : goal.In-At) → c.in-At.border ≤ wide_stroke_side
+border_small : (c : In-At) → c.in-At.border ≤ wide_stroke_side
 border_small c =
     let below = (border_is c).1 in
     let small = c.requires.area.size.height in
     omega (arith, below, small)
 
-inner_small : (c : goal.In-At) → SizeUpTo wide_stroke_side c.args.b.inner.size
+inner_small : (c : In-At) → SizeUpTo wide_stroke_side c.args.b.inner.size
 inner_small c = let fill = c.requires.fill in subst (SizeUpTo wide_stroke_side) (sym fill.size) fill.ready.size
 
 pub place_of-requires : goal.place_of-requires
@@ -75,8 +77,8 @@ pub returns : goal.returns
 returns c =
     let b = c.args.b in
     let ready = c.requires in
-    let stroke = c.corners_alike.ensures (not-false _ c.if-not-corners_alike.false) in
-    let fill = c.corners_alike-2.ensures (not-false _ c.if-not-corners_alike-2.false) in
+    let stroke = c.corners_alike.ensures (c.if-not-corners_alike.false) in
+    let fill = c.corners_alike-2.ensures (c.if-not-corners_alike-2.false) in
     let rows = c.most-corner_rows.ensures in
     let border = border_is c.before.before.before.before.before.before.before.before.before.before.before.before.before.before in (
       λ i. record { rectangle = b.area; corners = stroke i },

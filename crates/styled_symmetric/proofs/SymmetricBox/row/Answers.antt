@@ -31,14 +31,13 @@ use Rattle.styled_symmetric.proofs.SymmetricBox.row.Goals as goal
 abbrev Start : Type 0
 Start = Lts.Start Tie.the-claims Reads.Pre Reads.Post Tie.handed_clauses
 
--- ---- the stroke area's run, by its insets; it keeps to the area's columns, and is the row of the definition
-abbrev entry : goal.After-run_between-run → Start
-entry c = c.before.before.before.before.before.before.before
+abbrev After-run_between-run : Type 0
+After-run_between-run = Lts.After-run_between Tie.the-claims Reads.Pre Reads.Post Tie.handed_clauses
 
-in_area : (c : goal.After-run_between-run) → c.args.dy < c.args.self.area.size.height
+in_area : (c : After-run_between-run) → c.args.dy < c.args.self.area.size.height
 in_area c = let upper = c.requires.corner_rows_bound in omega (arith, upper)
 
-run_is : (c : goal.After-run_between-run) → c.run_between-run.result
+run_is : (c : After-run_between-run) → c.run_between-run.result
     ≡ run_between c.args.self.area.top_left.x c.args.self.area.size.width
     (row_insets (four_corners c.args.self.corner.radius) c.args.self.area.size.width
     c.args.self.area.size.height c.args.dy)
@@ -57,14 +56,14 @@ run_is c =
     c.run_between-run.ensures
     ∙ (λ i. run_between (to_z-of_z c.requires.ready_symmetric.area.at.x.fits i) area.size.width (record { left = is i; right = is i }))
 
-run_ends : (c : goal.After-run_between-run)
+run_ends : (c : After-run_between-run)
     → EndsWithin c.args.self.area.top_left.x c.args.self.area.size.width c.run_between-run.result
 run_ends c =
     let area = c.args.self.area in
     subst (EndsWithin area.top_left.x area.size.width) (sym (run_is c))
     (between_within area.top_left.x area.size.width _ (side_inset_le _ _ _ _ _) (side_inset_le _ _ _ _ _))
 
-row_is : (c : goal.After-run_between-run) → Run c.run_between-run.result
+row_is : (c : After-run_between-run) → Run c.run_between-run.result
     ≡ rounded_rectangle_row (symmetric_stroke c.args.self) (c.args.self.area.top_left.y +ℤ pos
     c.args.dy)
 row_is c = ap Run (run_is c) ∙ row_placed (symmetric_stroke c.args.self) _ c.args.dy (refl, in_area c)
@@ -80,10 +79,9 @@ run_between-run-requires c =
 
 pub fill-filled-requires : goal.fill-filled-requires
 fill-filled-requires c =
-    let start = entry c in
-    let area = start.pre.0.area in
-    let ends = run_ends c in record { ready_symmetric = start.pre.0; corner_rows_bound = start.pre.1; near_run = record {
-          start = start_is_near _ _ _ area.at.x
+    let area = c.requires.ready_symmetric.area in
+    let ends = run_ends c in record { ready_symmetric = c.requires.ready_symmetric; corner_rows_bound = c.requires.corner_rows_bound; near_run = record {
+          c.before.before.before.before.before.before.before = start_is_near _ _ _ area.at.x
               area.size.width ends;
           end = end_is_near _ _ _ area.at.x area.size.width ends;
         } }
