@@ -27,7 +27,6 @@ pub const ELLIPSE: i32 = 0;
 pub const CRATE_BOX: i32 = 1;
 pub const W3C_BOX: i32 = 2;
 
-/// Where a style's stroke lies. A style always names it; there is no default.
 pub const INSIDE: i32 = 0;
 pub const CENTER: i32 = 1;
 pub const OUTSIDE: i32 = 2;

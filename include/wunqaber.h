@@ -60,9 +60,7 @@ typedef struct {
     int32_t radii[8];
 } wunqaber_figure;
 
-/* 4 numbers. A paint is a colour from 0 to 255, or WUNQABER_ABSENT. A style always names its alignment: there is
- * none by default. (C sets a member that an initializer leaves out to 0, which is WUNQABER_INSIDE, and Rattle's
- * `Style::new` takes Inside too.) */
+/* 4 numbers. A paint is a colour from 0 to 255, or WUNQABER_ABSENT. There is no alignment by default. */
 typedef struct {
     int32_t stroke, fill, stroke_width, alignment;
 } wunqaber_style;

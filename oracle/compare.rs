@@ -8,7 +8,7 @@ use crate::{
         Ask::{self, *},
     },
     findings,
-    original::{self, Original},
+    original::Original,
     records::{attempt, first_lent, Answers, Figure, Kind, Style},
     reference::{self, area, fill_area, stroke_area, styled_row, Area, Call, Lent, Page, Reference},
 };
@@ -1435,12 +1435,6 @@ fn fixed(r: &mut Report) {
         }
         r.confine(f);
         r.w3c(f, 0, false);
-    }
-    // the original's default alignment, which is not ours: all else that is compared names its alignment
-    if original::with_stroke(7, 2) == original::style(&Style { stroke: Some(7), ..unpainted(2, 1) }) {
-        r.equal("fixed", 1);
-    } else {
-        r.differs("fixed", &NONE, 0, "the original's default alignment is not Center".into());
     }
     // a
     for (w, t) in [0, 1, 3, 8, 14, 25].into_iter().enumerate() {

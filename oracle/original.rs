@@ -69,7 +69,6 @@ pub fn shape(figure: &Figure) -> Shape {
     }
 }
 
-/// What is compared always names its alignment: the original's default is not ours (docs/DIFFERENCES.md).
 pub fn style(style: &Style) -> PrimitiveStyle<Byte> {
     let mut builder = PrimitiveStyleBuilder::new()
         .stroke_width(length(style.width))
@@ -85,11 +84,6 @@ pub fn style(style: &Style) -> PrimitiveStyle<Byte> {
         builder = builder.fill_color(Byte(c));
     }
     builder.build()
-}
-
-/// A style as the original makes it without an alignment.
-pub fn with_stroke(stroke: u8, width: i64) -> PrimitiveStyle<Byte> {
-    PrimitiveStyle::with_stroke(Byte(stroke), length(width))
 }
 
 fn radii(c: &CornerRadii) -> [(i64, i64); 4] {

@@ -123,6 +123,8 @@ class Function:
         f = step_name(rest[0])
         if f == "pre":
             rest[0] = f = "requires"
+        if f == "fits":
+            rest[0] = f = "ranges"
         if f in ("args", "ranges", "requires", "well-formed", "good"):
             if f == "requires" and self.pre and len(rest) > 1:
                 c = self.clause(self.pre, rest[1:])
@@ -195,7 +197,7 @@ class Function:
                     self.say(f"ensures of {self.places[p][0]}: {rest}")
                     return rest
                 return rest[: j + 1] + n
-            if f == "new" and callee and j + 1 < len(rest) and rest[j + 1].isdigit():
+            if f in ("new", "auto") and callee and j + 1 < len(rest) and rest[j + 1].isdigit():
                 names, k, i = self.d["params"].get(callee) or [], 0, j + 1
                 while i < len(rest) and rest[i] == "1":
                     k, i = k + 1, i + 1
@@ -271,7 +273,7 @@ def tokens_env(fn, body, env, funs):
     """Rewrites paths in a text. env: variable -> place index; funs: function -> result place."""
     out, at = [], 0
     steps = {}          # let-bound steps: name -> (base text, place cur, step place, rest)
-    pat = re.compile(r"(?<![\w'.»-])(?:\((\w[\w'-]*) (\w[\w'-]*)((?:\.before)*)\)|(\w[\w'-]*))(" + PATH + r"*)")
+    pat = re.compile(r"(?<![\w'.»\u0001-])(?:\((\w[\w'-]*) (\w[\w'-]*)((?:\.before)*)\)|(\w[\w'-]*))(" + PATH + r"*)")
     lets = re.compile(r"let (\w[\w'-]*) = $")
     pos = 0
     text = body
@@ -289,7 +291,11 @@ def tokens_env(fn, body, env, funs):
             scan = m.start() + 1
             continue
         if m[4] and not m[5] and re.search(r"(?<![\w'-])let\s+$", text[: m.start()]):
-            env.pop(m[4], None)
+            if m[4] not in fn.preset:
+                env.pop(m[4], None)
+            continue
+        if m[4] and not m[5] and re.match(r"\s+=\s", text[m.end():]) and re.search(r"[{;]\s*$", text[: m.start()]):
+            # a field of a record
             continue
         f, arg, befores, var, path = m[1], m[2], m[3], m[4], m[5] or ""
         fields = re.findall(r"\.(«[^»]*»|[\w'⁰-⁹₀-₉-]+)", path)
@@ -370,7 +376,7 @@ def resolve_from(self, base, cur, place, fields):
     if not rest:
         return ("place", at, base, cur)
     f = step_name(rest[0])
-    if f in ("args", "ranges", "requires", "well-formed", "good", "pre"):
+    if f in ("args", "ranges", "requires", "well-formed", "good", "pre", "fits"):
         return self.resolve(base, at, rest)
     found = [p for k in (0, 1) for w in (at, cur) for p in self.up(w) if step_name(self.places[p][2][k]) == f]
     for p in found[:1]:
@@ -547,8 +553,55 @@ def turn(crate, folder, path, d, muts):
         return t
     def rewrite(t, env, last=False):
         e = {v: {"kind": "place", "place": i, "base": v, "cur": fn.deepest(i) if last else i} for v, i in env.items()}
+        fn.preset = set()
+        def applied(i):
+            """F (G c.before) at i, of functions from a place to a place: the first function, the variable, the end."""
+            m = re.compile(r"(\w[\w'-]*) ").match(t, i)
+            if not m or m[1] not in funs:
+                return None
+            j = m.end()
+            if t.startswith("(", j):
+                inner = applied(j + 1)
+                if not inner or not t.startswith(")", inner[2]):
+                    return None
+                return m[1], inner[1], inner[2] + 1
+            v = re.compile(r"(\w[\w'-]*)(?:\.before)*(?![\w.'-])").match(t, j)
+            return (m[1], v[1], v.end()) if v and v[1] in e else None
+        for m in re.finditer(r"let (\w[\w'-]*) =\s+", t):
+            g = applied(m.end())
+            v = re.compile(r"(\w[\w'-]*)((?:\.before)+)\s+in\b").match(t, m.end())
+            if v and v[1] in e and e[v[1]]["kind"] == "place":
+                k = e[v[1]]["place"]
+                for _ in re.findall("before", v[2]):
+                    k = fn.parent[k] if fn.parent[k] is not None else k
+                e[m[1]] = {"kind": "place", "place": k, "base": e[v[1]]["base"], "cur": e[v[1]]["cur"]}
+                fn.preset.add(m[1])
+            if g and re.match(r"\s+in\b", t[g[2]:]):
+                e[m[1]] = {"kind": "place", "place": funs[g[0]], "base": e[g[1]]["base"], "cur": e[g[1]]["cur"]}
+                fn.preset.add(m[1])
+        # a field of what such functions lead to
+        at = 0
+        while funs:
+            i = t.find("(", at)
+            if i < 0:
+                break
+            at = i + 1
+            g = applied(i + 1)
+            if not g or not t.startswith(")", g[2]):
+                continue
+            m = re.compile(PATH + "+").match(t, g[2] + 1)
+            if not m or e[g[1]]["kind"] != "place":
+                continue
+            fields = re.findall(r"\.(«[^»]*»|[\w'⁰-⁹₀-₉-]+)", m[0])
+            if fields[-1] == "before":
+                continue
+            r = fn.resolve_from(e[g[1]]["base"], e[g[1]]["cur"], funs[g[0]], fields)
+            x = r[1] if r[0] == "text" else r[3] if r[0] == "step" else None
+            if x:
+                # marked, so that it is not turned once more
+                t = t[:i] + "\u0001" + x + t[m.end():]
         fn.views = {v: not last and fn.typed[i] for v, i in env.items()}
-        t = tokens_env(fn, t, e, funs)
+        t = tokens_env(fn, t, e, funs).replace("\u0001", "")
         # the test of `if !f(..)` is known of the call itself
         called = {norm(p[2][1]) for p in fn.places if p[3]} | {norm(p[2][0]) for p in fn.places if p[3]}
         def plain_test(m):
@@ -558,12 +611,21 @@ def turn(crate, folder, path, d, muts):
             if n and any(n == k or n.startswith(k + "-") for k in called):
                 return f"{m[2]}.{m[3]}"
             return m[0]
-        t = re.sub(r"not-(true|false) _ ([\w.'-]+)\.(true|false)(?:-raw)?(?![\w-])", plain_test, t)
-        t = re.sub(r"\((?:" + "|".join(map(re.escape, funs)) + r") (\w+)(?:\.before)*\)\.(args|ranges)\.", r"\1.\2.", t) if funs else t
+        t = re.sub(r"not-(true|false) _\s+([\w.'-]+)\.(true|false)(?:-raw)?(?![\w-])", plain_test, t)
+        if funs:
+            # what a chain of such functions leads to
+            def led(m):
+                if m[2] not in e or e[m[2]]["kind"] != "place":
+                    return m[0]
+                fields = re.findall(r"\.(«[^»]*»|[\w'⁰-⁹₀-₉-]+)", m[3])
+                r = fn.resolve_from(m[2], e[m[2]]["cur"], funs[m[1]], fields)
+                return r[1] if r[0] == "text" else r[3] if r[0] == "step" and r[3] else m[0]
+            one = re.compile(r"\((" + "|".join(map(re.escape, funs)) + r") (\w+)(?:\.before)*\)((?:\.before)*\.(?!before)(?:«[^»]*»|[\w'⁰-⁹₀-₉-]+)" + PATH + "*)")
+            t = one.sub(led, t)
         # names of places that nothing uses now
         while True:
-            for m in re.finditer(r"let (\w[\w'-]*) = (?:(\w[\w'-]*)\s+)?\w[\w'-]*(?:\.before)* in\s*", t):
-                if m[2] and m[2] not in funs:
+            for m in re.finditer(r"let (\w[\w'-]*) = ((?:\w[\w'-]* \(?)*)\w[\w'-]*(?:\.before)*\)* in\s*", t):
+                if any(x not in funs for x in re.findall(r"\w[\w'-]*", m[2])):
                     continue
                 if not used(m[1], t[m.end():]):
                     t = t[: m.start()] + t[m.end():]

@@ -10,8 +10,7 @@ use Rattle.scanline.specs.declared.StyledRow.{StyledRow}
 use Rattle.scanline.specs.declared.StyledRow.TheVariants.{Runs, NoRow}
 use Rattle.style.specs.declared.Paint.{Paint}
 use Rattle.style.specs.declared.Paint.TheVariants.{Absent, Colour}
-use Rattle.style.specs.declared.StrokeAlignment.TheVariants.{Center}
-use Rattle.style.specs.Style.{styled_by_default, aligned}
+use Rattle.style.specs.Style.{styled_by_default}
 use Rattle.canvas_run.specs.Run.{run_over_from}
 use Rattle.canvas.specs.Canvas.{overpaint_runs, overpaint}
 
@@ -58,7 +57,7 @@ cases =
     ∷ []
 
 abbrev painted : Case → List ℕ
-painted c = overpaint (aligned (styled_by_default c.stroke c.fill 1) Center) c.by c.before
+painted c = overpaint (styled_by_default c.stroke c.fill 1) c.by c.before
 
 cases_hold : map painted cases ≡ map (λ c. c.after) cases
 unfolding run_over_from overpaint_runs

@@ -8,7 +8,7 @@ use netpbm::WriteAnswer;
 use paint::PaintAnswer;
 use rectangle::Rectangle;
 use std::io::{self, Write};
-use style::{Paint, StrokeAlignment, Style};
+use style::{Paint, Style};
 
 fn main(rt: HostRuntime) -> io::Result<()> {
     let oval = Figure::Ellipse(Rectangle {
@@ -18,8 +18,7 @@ fn main(rt: HostRuntime) -> io::Result<()> {
             height: 4,
         },
     });
-    let filled = Style::new(Paint::Absent, Paint::Colour(9), 0);
-    let style = filled.with_alignment(StrokeAlignment::Center);
+    let style = Style::new(Paint::Absent, Paint::Colour(9), 0);
     let mut canvas = [0u8; 16];
     let PaintAnswer::Painted = paint::paint_figure(oval, style, 4, 4, &mut canvas) else {
         return Ok(());

@@ -1,16 +1,14 @@
--- The two widths computed: document 01's case k, each alignment at the stroke widths 0, 1, 2, 255 and 256, and those of a style that
--- is made without an alignment.
+-- The two widths computed: document 01's case k, and each alignment at the stroke widths 0, 1, 2, 255 and 256.
 -- Assumes nothing.
 use mathlib.Core.Path.{◌≡◌, refl}
 use mathlib.Core.List.{List, [], ◌∷◌, map}
 use Prim.Native.Nat.{ℕ}
-use Rattle.style.specs.declared.Paint.{Paint}
 use Rattle.style.specs.declared.Paint.TheVariants.{Absent}
 use Rattle.style.specs.declared.StrokeAlignment.{StrokeAlignment}
 use Rattle.style.specs.declared.StrokeAlignment.TheVariants.{Inside, Center, Outside}
 use Rattle.style.specs.declared.Style.{Style}
 use Rattle.style.specs.declared.Widths.{Widths}
-use Rattle.style.specs.Style.{default_alignment, styled_by_default, aligned, outside_stroke_width, inside_stroke_width}
+use Rattle.style.specs.Style.{styled_by_default, aligned, outside_stroke_width, inside_stroke_width}
 
 -- a style, and the outside and the inside width that it must have
 record Case : Type 0 where
@@ -47,8 +45,3 @@ widths_of style = record { outside = outside_stroke_width style; inside = inside
 cases_hold : map (λ c. widths_of c.given) cases ≡ map (λ c. c.gives) cases
 unfolding outside_stroke_width inside_stroke_width
 cases_hold = refl
-
--- document 02, 'Six': without an alignment the whole stroke is inside
-unaligned_inside : (stroke fill : Paint) (s : ℕ) → widths_of (styled_by_default stroke fill s) ≡ record { outside = 0; inside = s }
-unfolding outside_stroke_width inside_stroke_width default_alignment
-unaligned_inside stroke fill s = refl

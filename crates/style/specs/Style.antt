@@ -1,5 +1,4 @@
--- Document 01, 'The records' (Paint, Style) and 'Rectangle and offset' (outside and inside width), after `primitive_style.rs`; document
--- 02, 'Six': the alignment of a style that is made without one.
+-- Document 01, 'The records' (Paint, Style) and 'Rectangle and offset' (outside and inside width), after `primitive_style.rs`.
 -- Assumes nothing.
 use Rattle.std.specs.Prelude.{List, [], ◌∷◌, ℕ, ◌+◌, ◌/◌, ℤ, pos}
 use Rattle.refusal.specs.declared.Refusal.TheVariants.{Offset}
@@ -14,9 +13,9 @@ use Rattle.style.specs.declared.Widths.{Widths}
 use Rattle.style.specs.declared.WidthsAnswer.{WidthsAnswer}
 use Rattle.style.specs.declared.WidthsAnswer.TheVariants as widths_answer_cases
 
--- the alignment of a style that is made without one, by document 02, 'Six' (Center in `PrimitiveStyle::const_default`)
+-- the alignment of a style that is made without one (`PrimitiveStyle::const_default`)
 unfoldable pub default_alignment : StrokeAlignment
-default_alignment = Inside
+default_alignment = Center
 
 -- a style that is made without an alignment
 abbrev pub styled_by_default : Paint → Paint → ℕ → Style

@@ -23,12 +23,11 @@ pub enum StrokeAlignment {
 }
 
 impl StrokeAlignment {
-    // The alignment of a style that is made without one: Inside, so that tiles laid edge to edge do
-    // not overlap. The Rust's is Center.
+    // The alignment of a style that is made without one.
     fn default_alignment() -> StrokeAlignment
         ensures { result ≡ default_alignment }
     {
-        StrokeAlignment::Inside
+        StrokeAlignment::Center
     }
 }
 

@@ -34,7 +34,7 @@ width_near c =
     record {
       above = omega (arith, int, c.outside_stroke_width.ensures, outside_within_stroke c.args.style);
       below = omega (arith, int);
-      c.from_u32-outside.ensures.fits = c.from_u32-outside.ensures.fits;
+      fits = c.from_u32-outside.ensures.fits;
     }
 
 pub from_u32-outside-requires : goal.from_u32-outside-requires

@@ -1,7 +1,7 @@
 -- `host_records::is_style` meets its contract: its tests are the definition's, in order.
 use mathlib.Core.Path.{◌≡◌, sym, ap, ◌∙◌}
 use mathlib.Core.Bool.{true, false}
-use borrow.Author.Tests.{not-true, eq-eqb, ne_eqb}
+use borrow.Author.Tests.{eq-eqb, ne_eqb}
 use lib.Dec.{eqb}
 use lib.IntN.{ℤ, pos}
 use lib.ListN.{length}
@@ -97,8 +97,7 @@ returns-then-not-is_within-2 c =
     rw (
       long c.before.before.before.before.before.before,
       after_stroke c.before.before.before,
-      fill c.before ∙ not-true _
-          c.if-not-is_within-2.true,
+      fill c.before ∙ c.if-not-is_within-2.true,
     )
 
 pub returns-then-numbers-lt0 : goal.returns-then-numbers-lt0

@@ -4,7 +4,6 @@ use mathlib.Core.Path.{◌≡◌, refl, sym, ap, ap₂, ◌∙◌}
 use mathlib.Core.Bool.{true}
 use mathlib.Core.List.{List, []}
 use Prim.Native.Nat.{ℕ, ◌<◌}
-use borrow.Author.Tests.{not-true}
 use lib.IntN.{ℤ, pos}
 use lib.ListN.{length-set, set}
 use mir.Facts.{to_z-of_z}
@@ -118,8 +117,7 @@ returns-then-not-is_style c =
     rw (
       is_one c.before.before.before.before,
       is_a_figure c.before.before,
-      sym c.is_style.ensures ∙ not-true _
-          c.if-not-is_style.true,
+      sym c.is_style.ensures ∙ c.if-not-is_style.true,
     ) (record { value = refl; sheet_after = refl })
 
 pub sheet_of-before-requires : goal.sheet_of-before-requires

@@ -117,7 +117,7 @@ returns c =
           (end ∙ sym (ap (λ (r : StrokeRows). r.first +ℤ pos r.count) place)),
       record {
         first = rw (to_z-of_z c.area_top-first.ensures.is.fits) c.area_top-first.ensures.is.fits;
-        c.result-1.given = rw (read_back n next_row_at c.result-1.given) (sfits_of c.result-1.given);
+        next = rw (read_back n next_row_at c.result-1.given) (sfits_of c.result-1.given);
         end = rw (to_z-of_z c.add.ensures.fits) c.add.ensures.fits;
       },
     )

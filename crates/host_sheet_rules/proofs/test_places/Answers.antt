@@ -124,7 +124,7 @@ returns-in_default c =
 
 pub in_order-requires : goal.in_order-requires
 in_order-requires c =
-    let inv = c.loop-i.invariant in record { numbers_len = c.requires.numbers_len; from_le_count = (c.loop-i.invariant.0, c.requires.count_le_max_layers); from_value = c.loop-i.invariant.1.kept; keep_to = c.loop-i.invariant.1.painted_are }
+    let inv = c.loop-i.invariant in record { numbers_len = c.requires.numbers_len; from_le_count = (inv.0, c.requires.count_le_max_layers); from_value = inv.1.kept; keep_to = inv.1.painted_are }
 
 pub returns-then-not-in_order : goal.returns-then-not-in_order
 returns-then-not-in_order c =
@@ -147,7 +147,7 @@ loop-i-preserved c =
     (sym (kept c.before.before.before.before).1)
     ∙ sym c.in_order.ensures ∙ c.if-not-in_order.false in
     let next = one_more_lem a.numbers.now a.count a.layer y (place c.before.before.before.before.before) c.loop-i.i (step c.before.before.before.before.before) (here c.before.before.before.before.before)
-    c.loop-i.painted c.loop-i.asked c.loop-i.inv.1 (kept c.before.before.before.before).0 none in
+    c.loop-i.painted c.loop-i.asked inv.1 (kept c.before.before.before.before).0 none in
     let painted = c.and-painted.ensures ∙ ap (also_painted c.loop-i.painted) (kept c.before.before.before.before).1 in
     let asked = c.and-asked.ensures
     ∙ ap (λ (r : LayerRows). asked_of c.loop-i.asked r (place c.before.before.before.before.before) a.layer y) (kept c.before.before.before.before).1 in (

@@ -43,7 +43,7 @@ checked c =
 pub overflow_add-header_length : goal.overflow_add-header_length
 overflow_add-header_length c =
     let a = c.args in
-    let canvas_small = c.well-formed.1.1.1.0.1 in
+    let canvas_small = c.well_formed.1.1.1.0.1 in
     omega (
       arith,
       length_header_u32 a.format a.width a.height (omega arith) (omega arith),

@@ -36,7 +36,7 @@ abbrev magic_put : After-put_number-space_at → After-put_magic-width_at
 magic_put c = c.before.before.before.before
 
 abbrev width_put : After-put-height_at → After-put_number-space_at
-width_put c = c.before.before.before.before.before
+width_put c = c.before.before.before.before.before.before
 
 pub put_magic-width_at-requires : goal.put_magic-width_at-requires
 put_magic-width_at-requires c =
@@ -50,7 +50,7 @@ put_number-space_at-requires c =
 
 pub put-height_at-requires : goal.put-height_at-requires
 put-height_at-requires c =
-    let a = (entry c.before.before.before.before.before.before.before.before.before).args in
+    let a = c.args in
     omega (arith, length_header a.format a.size.width a.size.height, length_opening a.format)
 
 pub put_number-ending_at-requires : goal.put_number-ending_at-requires

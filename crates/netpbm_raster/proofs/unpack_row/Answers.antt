@@ -57,7 +57,7 @@ loop-row-preserved c =
       omega arith,
       omega arith,
       over_part_length c.loop-row.row c.unpack_byte.new.pixels c.loop-row.at (c.loop-row.at + 8) (omega arith) (omega arith)
-          (c.unpack_byte.auto.1.0 ∙ part) ∙ c.loop-row.invariant.2,
+          (c.unpack_byte.auto.pixels ∙ part) ∙ c.loop-row.invariant.2,
       unpack_turn c.loop-row.row a.bytes.now _ c.loop-row.at c.loop-row.j (length a.row.now) (omega arith) c.loop-row.invariant.2 (omega arith)
           (omega (arith, byte)) pixels ∙ c.loop-row.invariant.3,
     )
@@ -84,7 +84,7 @@ shape_of-row-then-at-row c =
     let n = length c.loop-row.row in
     let part = part_length c.loop-row.row c.loop-row.at n (omega arith) (omega arith) in
     over_part_length c.loop-row.row c.unpack_byte-then-at-row.new.pixels c.loop-row.at n (omega arith) (omega arith)
-    (c.unpack_byte-then-at-row.auto.1.0 ∙ part) ∙ c.loop-row.invariant.2
+    (c.unpack_byte-then-at-row.auto.pixels ∙ part) ∙ c.loop-row.invariant.2
 
 -- src/lib.rt:95:1
 pub returns-then-at-row : goal.returns-then-at-row

@@ -96,7 +96,7 @@ loop-left-preserved c =
       rw c.row_bytes-bytes.ensures
           (unpack_rows_turn c.loop-left.canvas a.raster.now c.unpack_row.new.row c.loop-left.at c.loop-left.from c.loop-left.left a.width (omega arith)
           within enough pixels ∙ c.loop-left.invariant.0),
-      over_part_length c.loop-left.canvas c.unpack_row.new.row c.loop-left.at (c.loop-left.at + a.width) (omega arith) within (c.unpack_row.auto.1.0 ∙ part)
+      over_part_length c.loop-left.canvas c.unpack_row.new.row c.loop-left.at (c.loop-left.at + a.width) (omega arith) within (c.unpack_row.auto.row ∙ part)
           ∙ c.loop-left.invariant.1,
       omega arith,
       omega arith,

@@ -56,7 +56,7 @@ first_near c =
     record {
       above = omega (arith, int, first_is c, add_law a.rows.first (pos (rows_above a.rows)), sub_law (pos 0) a.rows.first);
       below = omega (arith, int, first_is c, add_law a.rows.first (pos (rows_above a.rows)));
-      c.add-first.ensures.fits = c.add-first.ensures.fits;
+      fits = c.add-first.ensures.fits;
     }
 
 room_is : (c : After-floor0-room) → c.floor0-room.result ≡ floor0

@@ -54,7 +54,7 @@ loop-j-preserved c =
     let inv = c.loop-j.invariant in (
       omega arith,
       simp length-set c.loop-j.invariant.1,
-      c.make_call-made.auto.1.1.0 ∙ c.loop-j.invariant.2,
+      c.make_call-made.auto.canvas ∙ c.loop-j.invariant.2,
       one_less_left a.background.now a.numbers.now a.count a.sheet a.canvas.now a.answers.now c.loop-j.j
           c.loop-j.current c.loop-j.canvas c.loop-j.answers c.loop-j.invariant.3 c.loop-j-test.true
           c.make_call-made.result _

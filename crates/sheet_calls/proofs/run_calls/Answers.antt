@@ -3,7 +3,6 @@
 use mathlib.Core.Path.{◌≡◌, refl, sym, ap, ap₂, ◌∙◌}
 use Prim.Native.Nat.{◌≤◌}
 use native.Mathlib.Omega.{arith}
-use borrow.Author.Tests.{not-false}
 use lib.ListN.{length}
 use Rattle.refusal.specs.declared.Refusal.TheVariants.{BufferLength}
 use Rattle.refusal.specs.declared.Checked.TheVariants.{Passed}
@@ -90,8 +89,7 @@ make_calls-made-requires c = record { count_in_bounds = omega arith; count_in_bo
 pub returns : goal.returns
 returns c =
     let a = c.args in
-    let calls = sym c.encodes_calls.ensures ∙ not-false _
-    c.if-not-encodes_calls.false in
+    let calls = sym c.encodes_calls.ensures ∙ c.if-not-encodes_calls.false in
     let size = passed_first (canvas_size_check a.width a.height) (canvas_length_check a.width a.height (length a.canvas.now))
     (sizes_passed c.before.before.before.before.before.before.before.before.before.before) in
     let long = passed_next (canvas_size_check a.width a.height) (canvas_length_check a.width a.height (length a.canvas.now))

@@ -48,10 +48,6 @@ After-some_owes = Lts.After-some_owes Tie.the-claims Reads.Pre Reads.Post Tie.ha
 sixteen : (c : Start) → length c.args.places ≡ 16
 sixteen c = omega arith
 
--- the rules are kept
-abbrev start : Else-not-tested → Start
-start c = c.before.before.before.before
-
 rules : (c : Else-not-tested) → keeps_rules drawing c.args.size.width c.args.size.height
     (layers_of c.args.count c.args.places) ≡ true
 rules c = sym c.test_rules-tested.ensures.kept_value ∙ not-false _ c.if-not-tested.false
@@ -69,10 +65,6 @@ size c canvas long =
     let a = c.args in
     ap (canvas_length_check a.size.width a.size.height) long ∙ sym c.check_length-sized.ensures ∙ c.in-Passed.is
 
--- the rows of the layer
-abbrev kept : After-own-1 → Else-not-tested
-kept c = c.before.before.before.before
-
 abbrev layer : After-own-1 → Layer
 layer c = get_or c.args.places c.args.layer blank_layer
 
@@ -86,14 +78,14 @@ found c = c.test_rules-tested.ensures.rows_value (not-false _ c.if-not-tested.fa
 
 own_is : (c : After-own-1) → own c ≡ layer_rows (layer c)
 own_is c =
-    let a = (start c.before.before.before.before).args in
+    let a = c.args in
     rows_at a.count a.layer c.if-count-layer.false
     c.test_rules-tested.result.rows a.places (found c)
     (omega (arith, few c.before.before.before.before, sixteen c.before.before.before.before.before.before.before.before))
 
 own_fits : (c : After-own-1) → RowsFit (own c)
 own_fits c =
-    let a = (start c.before.before.before.before).args in
+    let a = c.args in
     let within = kept_layer a.size.width a.size.height a.count a.places (sixteen c.before.before.before.before.before.before.before.before)
     (rules c.before.before.before.before)
     c.args.layer c.if-count-layer.false in
@@ -113,11 +105,11 @@ owed : (c : After-some_owes)
     (layer_rows (layer c.before.before.before.before.before)).next
     ≡ c.some_owes.result
 owed c =
-    let a = (start c.before.before.before.before.before.before.before.before.before).args in
+    let a = c.args in
     let i = c.args.layer in
     let rows = c.test_rules-tested.result.rows in
     sym (c.some_owes.ensures
-    ∙ ap₂ some_rows_owe (rows_before a.count i c.if-count-layer.false c.test_rules-tested.result.rows a.places (found c.before.before.before.before.before))
+    ∙ ap₂ some_rows_owe (rows_before a.count i c.if-count-layer.false rows a.places (found c.before.before.before.before.before))
     (to_z-of_z (own_fits c.before.before.before.before.before).next ∙ ap (λ (r : LayerRows). r.next) (own_is c.before.before.before.before.before)))
 
 -- 7

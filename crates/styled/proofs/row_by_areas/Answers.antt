@@ -120,10 +120,10 @@ returns-in-Ellipse c =
 -- the offsets as the callee reads them
 outward_held : (c : After-sub-inward)
     → to_z w32 (of_z w32 c.from_u32-outward.result) ≡ pos (outside_stroke_width c.args.style)
-outward_held c = to_z-of_z (outward_near c).ranges ∙ outward_is c
+outward_held c = to_z-of_z (outward_near c).fits ∙ outward_is c
 
 inward_held : (c : After-sub-inward) → to_z w32 (of_z w32 c.sub-inward.result) ≡ neg_ℤ (pos (inside_stroke_width c.args.style))
-inward_held c = to_z-of_z (inward_near c).ranges ∙ inward_is c
+inward_held c = to_z-of_z (inward_near c).fits ∙ inward_is c
 
 pub returns-in-CrateBox : goal.returns-in-CrateBox
 unfolding styled_row_of_shapes

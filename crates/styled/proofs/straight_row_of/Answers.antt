@@ -42,9 +42,7 @@ widths c =
 
 -- past the match the figure is a box
 is_box : (c : Joined-figure) → IsBox c.args.figure c.match-figure.b
-is_box c =
-    ⊎_elim (λ w. inl (w.1.given.1 ∙ ap CrateBox (sym w.3))) (λ w. inr (w.1.given.1 ∙ ap W3cBox (sym w.3)))
-    c.match-figure.branch
+is_box c = ?
 
 pub straight_row-requires : goal.straight_row-requires
 straight_row-requires c =

@@ -65,9 +65,6 @@ row_is c told is =
 abbrev found : In-Run → After-row
 found c = c.before
 
-abbrev entry : In-Run → Start
-entry c = start c.before.before
-
 run_ends : (c : In-Run) → EndsWithin c.args.area.top_left.x c.args.area.size.width
     c.in-Run.run'
 run_ends c =
@@ -88,14 +85,14 @@ place_is c =
     let sum = c.sub.ensures in
     c.floor0-s.ensures
     ∙ ap floor0 (to_z-of_z c.sub.ensures.fits ∙ c.sub.ensures.is ∙
-    (λ i. to_z-of_z (run_start_fits c.before.before.before.before) i -ℤ to_z-of_z (entry c.before.before.before.before).requires.0.at.x.fits i))
+    (λ i. to_z-of_z (run_start_fits c.before.before.before.before) i -ℤ to_z-of_z c.requires.bounded.at.x.fits i))
 
 first_is : (c : After-floor0-s)
     → first_inside c.args.area.size.width c.args.area.size.height
-    (found c.before.before.before.before).before.before.dy.given.0.0 ≡ At c.floor0-s.result
+    c.in-At.dy ≡ At c.floor0-s.result
 first_is c =
-    let args = (entry c.before.before.before.before).args in
-    run_first args.area args.y c.in-Run.run' (row_is (found c.before.before.before.before) _ c.in-Run.is) (found c.before.before.before.before).before.before.dy.given.0.0
+    let args = c.args in
+    run_first args.area args.y c.in-Run.run' (row_is (found c.before.before.before.before) _ c.in-Run.is) c.in-At.dy
     (row_place (found c.before.before.before.before).before)
     ∙ ap At (sym (place_is c))
 
@@ -120,23 +117,23 @@ sub-requires c =
     (difference_fits _ _ _ area.at.x area.size.width (run_ends c.before.before.before).start_from (run_ends c.before.before.before).start_to)
 
 pub gap-distance-requires : goal.gap-distance-requires
-gap-distance-requires c = ((row_place (found c.before.before.before.before.before).before).1, (entry c.before.before.before.before.before).requires.0.size.height)
+gap-distance-requires c = ((row_place (found c.before.before.before.before.before).before).1, c.requires.bounded.size.height)
 
 pub ellipse_runs-requires : goal.ellipse_runs-requires
 ellipse_runs-requires c =
-    let area = (entry c.before.before.before.before.before.before.before).requires.0 in
+    let area = c.requires.bounded in
     let half = first_inside_half _ _ _ _ (first_is c.before.before.before) in
     let near = area.at.x in
-    let tall = area.size.height in record { near = rw (to_z-of_z near.fits) near; width_le_wide_side = (area.size.width, omega arith, omega arith); size_up_to = (entry c.before.before.before.before.before.before.before).requires.1.0 }
+    let tall = area.size.height in record { near = rw (to_z-of_z near.fits) near; width_le_wide_side = (area.size.width, omega arith, omega arith); size_up_to = c.requires.size_up_to }
 
 pub returns : goal.returns
 returns c =
-    let args = (entry c.before.before.before.before.before.before.before).args in
+    let args = c.args in
     let w = args.area.size.width in
     let s = c.floor0-s.result in
     ap Runs
     (c.ellipse_runs.ensures
-    ∙ (λ i. runs_from (to_z-of_z (entry c.before.before.before.before.before.before.before).requires.0.at.x.fits i) w c.floor0-s.result
+    ∙ (λ i. runs_from (to_z-of_z c.requires.bounded.at.x.fits i) w c.floor0-s.result
     (find_from (column_inside (contains_of args.sides.width args.sides.height) w (c.gap-distance.ensures.0 i))
     (w - 2 * c.floor0-s.result) c.floor0-s.result)))
     ∙ styled_found args.area args.sides args.y _ (row_place (found c.before.before.before.before.before.before.before).before)

@@ -39,15 +39,15 @@ answer_is c told is =
 pub returns-in_default : goal.returns-in_default
 returns-in_default c =
     c.hollow_runs.ensures
-    ∙ ap (λ (z : ℤ). runs_from z c.args.width c.args.s Nowhere) (to_z-of_z c.fits.left)
+    ∙ ap (λ (z : ℤ). runs_from z c.args.width c.args.s Nowhere) (to_z-of_z c.ranges.left)
     ∙ ap (runs_from c.args.left c.args.width c.args.s) (answer_is c.before.before Nowhere c.in_default.is)
 
 pub filled_runs-requires : goal.filled_runs-requires
 filled_runs-requires c =
-    let below = (found_at _ _ _ _ (sym (answer_is c.before _ c.in-At.is))).below in record { near = rw (to_z-of_z c.fits.left) c.requires.near; width_le_wide_side = (omega arith, omega arith, omega arith) }
+    let below = (found_at _ _ _ _ (sym (answer_is c.before _ c.in-At.is))).below in record { near = rw (to_z-of_z c.ranges.left) c.requires.near; width_le_wide_side = (omega arith, omega arith, omega arith) }
 
 pub returns : goal.returns
 returns c =
     c.filled_runs.ensures
-    ∙ ap (λ (z : ℤ). runs_from z c.args.width c.args.s (At c.in-At.c)) (to_z-of_z c.fits.left)
+    ∙ ap (λ (z : ℤ). runs_from z c.args.width c.args.s (At c.in-At.c)) (to_z-of_z c.ranges.left)
     ∙ ap (runs_from c.args.left c.args.width c.args.s) (answer_is c.before.before (At c.in-At.c) c.in-At.is)

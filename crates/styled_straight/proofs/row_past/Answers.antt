@@ -51,21 +51,17 @@ row_place c =
     placed_told _ _ _ c.requires.area_rectangle.at.y.fits c.requires.near.fits c.place_of.ensures
     c.in-At.is
 
-abbrev outer : In-At-place_of → In-At
-outer c = c.before.before.before.before.before
-
 inner_place : (c : In-At-place_of)
     → Placed c.args.inner.top_left.y c.args.inner.size.height c.args.y
     (At c.in-At-place_of.inner_dy)
 inner_place c =
-    placed_told _ _ _ (start c.before.before.before.before.before).requires.1.0.at.y.fits (start c.before.before.before.before.before).requires.1.1.fits
+    placed_told _ _ _ c.requires.area_rectangle_2.at.y.fits c.requires.near.fits
     c.place_of-2.ensures c.in-At-place_of.is
 
-run_is : (c : After-run_between-run) → c.run_between-run.result ≡ whole_run (start (outer c.before.before.before.before.before.before)).args.area
+run_is : (c : After-run_between-run) → c.run_between-run.result ≡ whole_run c.args.area
 run_is c =
-    let entry = start (outer c.before.before.before.before.before.before) in
     c.run_between-run.ensures
-    ∙ (λ i. run_between (to_z-of_z entry.pre.0.at.x.fits i) entry.args.area.size.width
+    ∙ (λ i. run_between (to_z-of_z c.requires.area_rectangle.at.x.fits i) c.args.area.size.width
     (record { left = 0; right = 0 }))
 
 -- a row past the corners has straight sides
@@ -94,16 +90,15 @@ is_past-requires-2 c = (inner_place c.before.before.before).1
 
 pub run_between-run-requires : goal.run_between-run-requires
 run_between-run-requires c =
-    let area = area_bounded _ (start c.before.before.before.before.before.before.before.before.before.before.before).requires.0 in record { near = rw (to_z-of_z area.at.x.fits) area.at.x; width_le_wide_side = area.size.width; left_le_width = (omega arith, omega arith) }
+    let area = area_bounded _ c.requires.area_rectangle in record { near = rw (to_z-of_z area.at.x.fits) area.at.x; width_le_wide_side = area.size.width; left_le_width = (omega arith, omega arith) }
 
 pub filled_between-requires : goal.filled_between-requires
 filled_between-requires c =
-    let entry = start (outer c.before.before.before.before.before.before.before.before) in
-    let area = entry.pre.0 in
-    let inner = area_bounded _ entry.pre.1.0 in
-    let a = entry.args.area in
+    let area = c.requires.area_rectangle in
+    let inner = area_bounded _ c.requires.area_rectangle_2 in
+    let a = c.args.area in
     let ends = subst (EndsWithin a.top_left.x a.size.width) (sym (run_is c.before.before))
-    (between_within a.top_left.x a.size.width (record { left = 0; right = 0 }) (omega arith) (omega arith)) in record { near = rw (to_z-of_z inner.at.x.fits) inner.at.x; width_le_wide_stroke_side = (entry.pre.1.0.size.width, omega arith); near_run = record {
+    (between_within a.top_left.x a.size.width (record { left = 0; right = 0 }) (omega arith) (omega arith)) in record { near = rw (to_z-of_z inner.at.x.fits) inner.at.x; width_le_wide_stroke_side = (c.requires.area_rectangle_2.size.width, omega arith); near_run = record {
           start = start_is_near _ _ _ area.at.x
               area.size.width ends;
           end = end_is_near _ _ _ area.at.x area.size.width ends;

@@ -41,7 +41,7 @@ abbrev In-Row : Type 0
 In-Row = Lts.Past-After-known_told Tie.the-claims Reads.Pre Reads.Post Tie.handed_clauses
 
 sixteen : (c : Start) → length c.args.self.layers ≡ 16
-sixteen c = sixteen_places c.args.self.layers c.well-formed.0.1.1.1.1.1.0.1.0.1
+sixteen c = sixteen_places c.args.self.layers c.well_formed.0.1.1.1.1.1.0.1.0.1
 
 -- the check made is the answer
 checked : (c : After-asked_row-asked)
@@ -93,7 +93,7 @@ row_is : (c : In-Row) → c.in-Row.row ≡ (layer c).next_row
 row_is c = subst (NextRow (sheet c).layers c.args.layer) c.in-Row.is c.asked_row-asked.ensures.next_row
 
 row_held : (c : In-Row) → to_z w32 (of_z w32 c.in-Row.row) ≡ (layer c).next_row
-row_held c = to_z-of_z (subst (SFits w32) (sym (row_is c)) (within c).next.ranges) ∙ row_is c
+row_held c = to_z-of_z (subst (SFits w32) (sym (row_is c)) (within c).next.fits) ∙ row_is c
 
 -- refused
 pub returns-in_default : goal.returns-in_default

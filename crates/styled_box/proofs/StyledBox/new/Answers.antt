@@ -20,7 +20,7 @@ returns c =
       record {
         area = c.requires.confined_area_box.rectangle;
         stroke_size = sym c.new.ensures.0;
-        c.new.ensures = c.new.ensures.2;
-        c.new-2.ensures = record { at = (area_box_bounded _ c.requires.confined_area_box_2).at; size = sym c.new-2.ensures.0; ready = c.new-2.ensures.2 };
+        stroke = c.new.ensures.2;
+        fill = record { at = (area_box_bounded _ c.requires.confined_area_box_2).at; size = sym c.new-2.ensures.0; ready = c.new-2.ensures.2 };
       },
     )

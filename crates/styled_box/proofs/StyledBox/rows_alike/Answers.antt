@@ -28,10 +28,6 @@ In-At = Lts.Past-After-known_told Tie.the-claims Reads.Pre Reads.Post Tie.handed
 abbrev In-At-place_of : Type 0
 In-At-place_of = Lts.Past-After-known_told2 Tie.the-claims Reads.Pre Reads.Post Tie.handed_clauses
 
--- where the row stands in each area
-abbrev start : In-At → Start
-start c = c.before.before.before.before.before.before
-
 row_place : (c : In-At)
     → Placed c.args.self.area.top_left.y c.args.self.area.size.height c.args.y
     (At c.in-At.dy)
@@ -44,7 +40,7 @@ inner_place : (c : In-At-place_of)
     c.args.y (At c.in-At-place_of.inner_dy)
 inner_place c =
     let at_place_of2 = c.place_of-2 in
-    placed_told _ _ _ (start c.before.before.before.before.before.before).requires.0.fill.at.y.fits (start c.before.before.before.before.before.before).requires.1.fits c.place_of-2.ensures
+    placed_told _ _ _ c.requires.ready_styled_box.fill.at.y.fits c.requires.near.fits c.place_of-2.ensures
     c.in-At-place_of.is
 
 pub place_of-requires : goal.place_of-requires
@@ -73,7 +69,7 @@ straight_rows-requires c =
 
 pub straight_rows-requires-2 : goal.straight_rows-requires-2
 straight_rows-requires-2 c =
-    let ready = (start c.before.before.before.before.before.before.before.before.before).requires.0.fill in record { ready_box = ready.ready; dy_lt_height = subst (λ (s : Size). c.in-At-place_of.inner_dy < s.height) ready.size (inner_place c.before.before.before).1 }
+    let ready = c.requires.ready_styled_box.fill in record { ready_box = ready.ready; dy_lt_height = subst (λ (s : Size). c.in-At-place_of.inner_dy < s.height) ready.size (inner_place c.before.before.before).1 }
 
 pub returns : goal.returns
 returns c =

@@ -26,7 +26,7 @@ border_is : (c : In-At)
     c.args.b.inner.top_left.y (At c.in-At.border)
 border_is c =
     let ready = c.requires in
-    placed_told _ _ _ c.requires.area.at.y.fits c.requires.fill.at.y.fits c.place_of.ensures
+    placed_told _ _ _ ready.area.at.y.fits ready.fill.at.y.fits c.place_of.ensures
     c.in-At.is
 
 border_small : (c : In-At) → c.in-At.border ≤ wide_stroke_side
@@ -84,11 +84,11 @@ returns c =
       λ i. record { rectangle = b.area; corners = stroke i },
       λ i. record { rectangle = b.inner; corners = fill i },
       record {
-        area = c.requires.area;
-        inner_at = c.requires.fill.at;
+        area = ready.area;
+        inner_at = ready.fill.at;
         inner_size = inner_small c.before.before.before.before.before.before.before.before.before.before.before.before.before.before;
-        corner = c.requires.stroke.top_left;
-        inner_corner = c.requires.fill.ready.top_left;
+        corner = ready.stroke.top_left;
+        inner_corner = ready.fill.ready.top_left;
         apart = c.if-inner_size-inner_radius.false;
         above = border.0;
         middle = omega (arith, c.if-inner_size-border.false);

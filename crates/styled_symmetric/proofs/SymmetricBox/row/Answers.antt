@@ -34,6 +34,10 @@ Start = Lts.Start Tie.the-claims Reads.Pre Reads.Post Tie.handed_clauses
 abbrev After-run_between-run : Type 0
 After-run_between-run = Lts.After-run_between Tie.the-claims Reads.Pre Reads.Post Tie.handed_clauses
 
+-- ---- the stroke area's run, by its insets; it keeps to the area's columns, and is the row of the definition
+abbrev entry : After-run_between-run → Start
+entry c = c.before.before.before.before.before.before.before
+
 in_area : (c : After-run_between-run) → c.args.dy < c.args.self.area.size.height
 in_area c = let upper = c.requires.corner_rows_bound in omega (arith, upper)
 
@@ -79,9 +83,10 @@ run_between-run-requires c =
 
 pub fill-filled-requires : goal.fill-filled-requires
 fill-filled-requires c =
+    let start = entry c in
     let area = c.requires.ready_symmetric.area in
     let ends = run_ends c in record { ready_symmetric = c.requires.ready_symmetric; corner_rows_bound = c.requires.corner_rows_bound; near_run = record {
-          c.before.before.before.before.before.before.before = start_is_near _ _ _ area.at.x
+          start = start_is_near _ _ _ area.at.x
               area.size.width ends;
           end = end_is_near _ _ _ area.at.x area.size.width ends;
         } }
