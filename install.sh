@@ -3,8 +3,8 @@
 #
 #   sh install.sh PREFIX      PREFIX/include/wunqaber.h, PREFIX/lib/libwunqaber.a, PREFIX/lib/pkgconfig/wunqaber.pc
 #
-# The library is $WUNQABER_LIBRARY, a file built before; else target/staticlib/libwunqaber.a, which is proved and built here where it is
-# not there or where a file of the crates is newer. Nothing is put under the prefix before the library is there. To install again
+# The library is $WUNQABER_LIBRARY, a file built before; else crates/wunqaber/out/libwunqaber.a, which is proved and built here where
+# it is not there or where a file of the crates is newer. Nothing is put under the prefix before the library is there. To install again
 # replaces what differs and leaves the rest alone.
 set -eu
 version=0.1.0
@@ -34,8 +34,8 @@ esac
 
 library=${WUNQABER_LIBRARY:-}
 if [ -z "$library" ]; then
-    library=$root/target/staticlib/libwunqaber.a
-    if [ ! -f "$library" ] || [ -n "$(find "$root/crates" "$root/crates.txt" -type f -newer "$library" | head -n 1)" ]; then
+    library=$root/crates/wunqaber/out/libwunqaber.a
+    if [ ! -f "$library" ] || [ -n "$(find "$root/crates" "$root/crates.txt" -name out -prune -o -type f -newer "$library" -print | head -n 1)" ]; then
         command -v rt > /dev/null || fail 'the library is not built and there is no rt to build it: install the Rattle kit, or set WUNQABER_LIBRARY'
         echo 'install.sh: proving and building the library; from nothing this takes minutes'
         sh "$root/tests/library.sh" || fail 'the library is not proved, or not built'

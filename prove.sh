@@ -1,12 +1,11 @@
 #!/bin/sh
 # Proves crates and all that they stand on, and says how far it is:
 #
-#   sh prove.sh NAME...      a program is also compiled, to target/bin/NAME, run, and held to its file `stdout`
+#   sh prove.sh NAME...      their must-fail edits are tried too, and a program is run and held to its file `stdout`
 #
-# It is `rt check` with the prover's files in memory and one line for each crate. What does not change is not proved again.
+# It is `rt ci NAME...` with one line for each crate. What has not changed since a run on this machine is not proved again.
 set -eu
 cd "$(dirname "$0")"
-. tests/memory.sh
 if [ $# = 0 ]; then
     echo 'usage: sh prove.sh NAME...      where NAME is a crate of crates.txt, as clock' >&2
     exit 2
@@ -16,7 +15,7 @@ fi
 all=$(WANTED="$*" awk '
     { sub(/#.*/, "") }
     { i = index($0, ":") }
-    i { name = substr($0, 1, i - 1); gsub(/[ \t]/, "", name); stands[name] = substr($0, i + 1) }
+    i { split(substr($0, 1, i - 1), words, " "); stands[words[1]] = substr($0, i + 1) }
     function visit(name,    parts, k, n) {
         if (!(name in stands) || (name in seen)) return
         seen[name] = 1
@@ -34,27 +33,27 @@ work=$(mktemp -d)
 trap 'rm -rf "$work"' EXIT
 {
     status=0
-    rt check "$@" 2>&1 || status=$?
+    rt ci "$@" 2>&1 || status=$?
     echo "$status" > "$work/status"
 } | tee "$work/log" | {
     proved=0
     while IFS= read -r line; do
         case $line in
-            'rt: '*' proved ('*)
+            'rt: '*': its tests are proved') ;;
+            'rt: '*' NOT PROVED'*) echo "${line#rt: }" ;;
+            'rt: '*' proved' | 'rt: '*' is kept: an earlier run '*)
                 proved=$((proved + 1))
                 line=${line#rt: }
-                echo "$proved of $all proved: ${line%% *} ${line#* proved }"
+                how=
+                case $line in *' is kept: '*) how=', by an earlier run' ;; esac
+                echo "$proved of $all proved: ${line%% *}$how"
                 ;;
             'rt: '*) echo "${line#rt: }" ;;
         esac
     done
 }
 status=$(cat "$work/status")
-# What was not proved, in the prover's words; target/log has all of it.
-[ "$status" = 0 ] || grep ': error' "$work/log" | cut -c 1-400 | head -n 20 >&2
-if [ "$status" = 0 ]; then
-    for name in "$@"; do
-        [ ! -f "crates/$name/src/main.rt" ] || echo "$name is target/bin/$name; it writes what crates/$name/stdout has"
-    done
-fi
+# What was not proved, in the prover's words.
+[ "$status" = 0 ] || grep -E ': error|^error|no proof' "$work/log" | cut -c 1-400 | head -n 20 >&2
+tail -n 1 "$work/log"
 exit "$status"

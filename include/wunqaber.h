@@ -1,6 +1,6 @@
 /* Wunqaber for C: rounded boxes and ovals on a canvas of bytes.
  *
- * Link target/staticlib/libwunqaber.a, which `rt staticlib wunqaber` proves and builds. What each call
+ * Link crates/wunqaber/out/libwunqaber.a, which `rt lib` in crates/wunqaber proves and builds. What each call
  * promises stands in crates/wunqaber: for every list of numbers and every length, an equation for the
  * answer and for each buffer lent (for wunqaber_run_calls, that answers and canvas are those of the sheet calls made one
  * after the other, and those of a plain book where removals have the canvas as lent for their background).

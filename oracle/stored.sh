@@ -4,7 +4,7 @@
 #   sh oracle/stored.sh [SOURCE [BUILD]]            SOURCE and BUILD as build.sh takes them
 #   sh oracle/stored.sh --check [SOURCE [BUILD]]    only whether the stored files are the ones that would be made
 #
-#   LIBRARY=FILE   the library that hosts link; else target/staticlib/libwunqaber.a
+#   LIBRARY=FILE   the library that hosts link; else crates/wunqaber/out/libwunqaber.a
 #   STORED=FOLDER  with --check: where the stored files are; else crates/replay
 #
 # The answers are the ORIGINAL Rust's own where it finishes, else the reference's (written from the definitions). None comes from
@@ -19,7 +19,7 @@ if [ "${1:-}" = --check ]; then
 fi
 source=${1:-${EG_SOURCE:-$root/../shared/docs/src}}
 build=${2:-${ORACLE_BUILD:-$here/build}}
-library=${LIBRARY:-$root/target/staticlib/libwunqaber.a}
+library=${LIBRARY:-$root/crates/wunqaber/out/libwunqaber.a}
 stored=${STORED:-$root/crates/replay}
 fail() {
     echo "stored.sh: $1" >&2
@@ -48,7 +48,7 @@ if [ -n "$check" ]; then
 fi
 cp "$work/stdin" "$work/stdout" "$root/crates/replay/"
 cd "$root"
-rt check replay > "$work/log" 2>&1 || {
+rt ci replay > "$work/log" 2>&1 || {
     tail -n 5 "$work/log" >&2
     fail 'replay is not proved, or what it wrote differs from the stored answers'
 }

@@ -26,6 +26,6 @@ if [ "$(uname -m)" != x86_64 ]; then
 fi
 if [ -z "$library" ]; then
     quietly 'wunqaber is not proved, or its library is not built' sh "$root/tests/library.sh"
-    library=$root/target/staticlib/libwunqaber.a
+    library=$root/crates/wunqaber/out/libwunqaber.a
 fi
 [ -f "$library" ] || fail "there is no library '$library'"

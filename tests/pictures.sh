@@ -1,7 +1,7 @@
 #!/bin/sh
 # Makes the pictures of README and docs/ anew from the bytes that the programs write: enlarged so that
 # pixels show, and with the brightest byte made white. corners.c and leaving.c link the library that
-# `rt staticlib wunqaber` has built of this tree.
+# `sh tests/library.sh` has built of this tree.
 set -eu
 cd "$(dirname "$0")/.."
 picture() { # the program, how much it is enlarged, the brightest byte
@@ -15,7 +15,7 @@ pamenlarge 3 crates/panel/stdout | pnmtopng > docs/pictures/panel.png
 work=$(mktemp -d)
 trap 'rm -rf "$work"' EXIT
 drawn() { # the program, how much its picture is enlarged
-    cc -Iinclude -o "$work/$1" "hosts/$1.c" target/staticlib/libwunqaber.a
+    cc -Iinclude -o "$work/$1" "hosts/$1.c" crates/wunqaber/out/libwunqaber.a
     "$work/$1" > "$work/$1.pgm"
     pamenlarge "$2" "$work/$1.pgm" | pnmtopng > "docs/pictures/$1.png"
 }

@@ -1,8 +1,8 @@
 #!/usr/bin/env python3
 """Which public functions have a promise that is no equation.
 
-A promise is an equation if it says the whole answer and every buffer that is lent to be written, without a condition: `r ≡ ..`,
-`outcome r ≡ ..`, one equation for each field of a struct, `now (buffer .exit) ≡ ..`, or a definition made of such equations
+A promise is an equation if it says the whole answer and every buffer that is lent to be written, without a condition: `result ≡ ..`,
+`.._outcome result ≡ ..`, one equation for each field of a struct, `buffer.new ≡ ..`, or a definition made of such equations
 (EQUATIONS); the other side speaks neither of the answer nor of a buffer as it is left. More may be promised beside it. Every other
 public function stands in the table of docs/PROMISES.md with what it leaves open; this ends with 1 if that table has one too many or
 too few, or where a promise cannot be read.
@@ -16,8 +16,11 @@ import sys
 # its list; bytes written and the place after them.
 EQUATIONS = ('Is', 'Tells', 'Wrote')
 
-# Definitions that lose nothing of an answer but which refusal has a number: what it says (and every `..Outcome`), a constructor.
-KEEP_ALL = ('said', 'runSaid', 'At')
+# Definitions that lose nothing of an answer but which refusal has a number: what it says (and every `.._outcome`), a constructor.
+KEEP_ALL = ('said', 'run_said', 'At')
+
+# What a function answers, in a clause.
+ANSWER = 'result'
 
 ROOT = os.path.join(os.path.dirname(os.path.abspath(__file__)), '..')
 OPEN, CLOSE = '([{⌜', ')]}⌝'
@@ -62,28 +65,24 @@ def mentions(text, name):
 
 def left(text):
     """The buffers of which a text speaks as they are left."""
-    return re.findall(r'now \(«?(\w+)»? \.exit\)', text)
+    return re.findall(r'(?<![\w.«])«?(\w+)»?\.new(?![\w-])', text)
 
 
-def says(text, name):
-    """What of the answer `name`, or of which buffer, one side of an equation says: '' for nothing, 'all', a field, or a buffer."""
+def says(text):
+    """What of the answer, or of which buffer, one side of an equation says: '' for nothing, 'all', a field, or a buffer."""
     text = bare(text)
     told = re.match(r'(\w+) (.*)$', text)
-    if told and (told.group(1) in KEEP_ALL or told.group(1).endswith('Outcome')):
+    if told and (told.group(1) in KEEP_ALL or told.group(1).endswith('_outcome')):
         text = bare(told.group(2))
-    field = re.match(r'%s \.«?(\w+)»?$' % name, text)
-    buffer = re.match(r'now \(«?(\w+)»? \.exit\)$', text)
-    return field.group(1) if field else buffer.group(1) if buffer else 'all' if text == name else ''
+    field = re.match(r'%s\.«?(\w+)»?$' % ANSWER, text)
+    buffer = re.match(r'«?(\w+)»?\.new$', text)
+    return field.group(1) if field else buffer.group(1) if buffer else 'all' if text == ANSWER else ''
 
 
 def covered(clause):
     """The parts of the answer and the buffers that a clause has an equation for."""
-    read = re.match(r'λ (\w+)\. ⌜ (.*) ⌝$', clause)
-    if not read:
-        fail('cannot read the promise ' + clause)
-    name, body = read.groups()
     parts = set()
-    conjuncts = split(bare(body), '×')
+    conjuncts = split(bare(clause), '×')
     # a pair of something and a fact of it says only that there is such a thing
     if any(re.match(r'\(?[\w ]+ : ', part) for part in conjuncts[:-1]):
         return parts
@@ -92,21 +91,41 @@ def covered(clause):
         if len(split(conjunct, '→')) > 1 or len(split(conjunct, '⊎')) > 1:
             continue
         if conjunct.split(' ')[0] in EQUATIONS:
-            parts |= set(left(conjunct)) | ({'all'} if mentions(conjunct, name) else set())
+            parts |= set(left(conjunct)) | ({'all'} if mentions(conjunct, ANSWER) else set())
             continue
         sides = split(conjunct, '≡')
         if len(sides) == 2:
             for one, other in (sides, sides[::-1]):
-                if not mentions(other, name) and not left(other):
-                    parts |= {says(one, name)} - {''}
+                if not mentions(other, ANSWER) and not left(other):
+                    parts |= {says(one)} - {''}
     return parts
 
 
 def source(path):
-    """The code without comments, each clause of a contract on one line."""
+    """The code without comments."""
     with open(path, encoding='utf-8') as file:
-        text = re.sub(r'//[^\n]*', '', file.read())
-    return re.sub(r'(?:requires|ensures) \{ [^{}]*? \}(?=\n)', lambda clause: re.sub(r'\s*\n\s*', ' ', clause.group(0)), text)
+        return re.sub(r'//[^\n]*', '', file.read())
+
+
+def contract(text, name):
+    """What a function ensures, a line for each clause, of the text behind its answer's type."""
+    ensures = []
+    at = re.match(r'(?:\s+where\b[^{}]*?(?=\s+(?:ghost|requires|ensures)\b|\s*\{))?', text).end()
+    while True:
+        clause = re.match(r'\s+(ghost|requires|ensures)(\*?)(?: «?\w+»?:?)? \{', text[at:])
+        if not clause:
+            break
+        begin = at + clause.end()
+        at = next((i + 1 for i, letter, depth in depths(text[begin:]) if letter == '}' and depth == -1), None)
+        if at is None:
+            fail('cannot read the contract of ' + name)
+        at += begin
+        # a starred clause speaks of memory
+        if clause.group(1) == 'ensures' and not clause.group(2):
+            ensures.append(' '.join(text[begin:at - 1].split()))
+    if not re.match(r'\s*\{', text[at:]):
+        fail('cannot read the contract of ' + name)
+    return ensures
 
 
 def is_public(path, module):
@@ -123,7 +142,7 @@ def functions():
         for s in re.finditer(r'^(?:pub )?struct (\w+) \{(.*?)^\}', text, re.S | re.M):
             structs[crate, s.group(1)] = re.findall(r'^ *(?:pub )?(\w+):(?!:)', s.group(2), re.M)
         owner = ''
-        for m in re.finditer(r'^impl (\w+) \{|^\}|^ *pub (?:extern "C" )?fn (\w+)(?:<[^(]*>)?\(', text, re.M):
+        for m in re.finditer(r'^impl(?:<[^>]*>)? (\w+)(?:<[^>]*>)? \{|^\}|^ *pub (?:extern "C" )?fn (\w+)(?:<[^(]*>)?\(', text, re.M):
             if not m.group(2):
                 owner = m.group(1) + '::' if m.group(1) else ''
                 continue
@@ -133,11 +152,9 @@ def functions():
             name = '::'.join(filter(None, (crate, '' if module == 'lib' else module, owner + m.group(2))))
             end = next(i for i, letter, depth in depths(text[m.end():]) if letter == ')' and depth == -1) + m.end()
             head = re.match(r'\)(?: -> (.*?))?(?= \{|\n)', text[end:])
-            clauses = re.match(r'(?:\s+(?:requires|ensures) \{ [^\n]* \}(?=\n))*', text[end + head.end():])
-            if not re.match(r'\s*\{', text[end + head.end() + clauses.end():]):
-                fail('cannot read the contract of ' + name)
-            ensures = re.findall(r'ensures \{ (.*) \}', clauses.group(0))
-            found.append((crate, name, (head.group(1) or '').strip(), re.findall(r'(\w+): &mut', text[m.end():end]), ensures))
+            ensures = contract(text[end + head.end():], name)
+            buffers = re.findall(r"(\w+): &(?:'\w+ )?mut", text[m.end():end]) + re.findall(r'&mut (self)', text[m.end():end])
+            found.append((crate, name, (head.group(1) or '').strip(), buffers, ensures))
     return found, structs
 
 

@@ -2,21 +2,20 @@
 # All tests. The gate, `rt ci`, comes first: it proves every crate, tries every must-fail edit and runs every program. Over what it
 # proved the static library is built; hosts in C and Rust, the comparison at scale, the speed table's self-check and the installed
 # library go by that.
-# Each part ends the script where it fails. The last line is that of `rt ci`, and is there only if all parts passed.
+# Each part ends the script where it fails, with the status of `rt ci` where that failed. The last line is that of `rt ci`, and is
+# there only if all parts passed.
 set -eu
 cd "$(dirname "$0")/.."
 
 # The library that is tested is built here, and so is what it is compared with.
 unset WUNQABER_LIBRARY ORACLE_COMPILED OVERFLOW_CHECKS PROGRAM
 
-. tests/memory.sh
-
 work=$(mktemp -d)
 # A test that still runs beside others ends before its files go.
 trap 'wait; rm -rf "$work"' EXIT
-fail() {
+fail() { # what failed, the status if not 1
     echo "run.sh: $1" >&2
-    exit 1
+    exit "${2:-1}"
 }
 began=$(date +%s)
 # Says what a part took.
@@ -40,17 +39,13 @@ python3 tests/unused.py || fail 'tests/unused.py failed'
 # netpbm's tools, installed where they are missing, read stored files: nothing that is proved here.
 beside tests/netpbm.sh
 
-# Shows what the gate says as it comes, but for its last line, which is held back until the rest has passed; and notes when the first
-# edit was tried.
+# Shows what the gate says as it comes, but for its last line, which is held back until the rest has passed.
 show() {
     any=
     while IFS= read -r line; do
         [ -z "$any" ] || printf '%s\n' "$held"
         any=yes
         held=$line
-        case $line in
-            'rt: must-fail '*) [ -f "$work/edits" ] || date +%s > "$work/edits" ;;
-        esac
     done
 }
 {
@@ -58,16 +53,22 @@ show() {
     rt ci 2>&1 || status=$?
     echo "$status" > "$work/status"
 } | tee "$work/log" | show
+status=$(cat "$work/status")
 last=$(tail -n 1 "$work/log")
-[ "$(cat "$work/status")" = 0 ] || fail "rt ci ended with status $(cat "$work/status"), and with the line: $last"
+[ "$status" = 0 ] || fail "rt ci ended with status $status, and with the line: $last" "$status"
 case $last in
     *[0-9]' passed, 0 failed') ;;
     *) fail "rt ci ended with the line: $last" ;;
 esac
-if [ -f "$work/edits" ]; then
-    echo "run.sh: proving: $(($(cat "$work/edits") - began)) s"
-    took 'edits and programs' "$(cat "$work/edits")"
-fi
+# A bad edit fails nothing there. Here each edit is read, tried and refused.
+edits=$(find crates -path 'crates/*/must-fail/*' -type f | wc -l)
+found=$(sed -n 's/^rt: ok;.*; must-fail edits: \([^;]*\);.*/\1/p' "$work/log")
+case "$found," in
+    *[0-9]' bad,'*) fail "rt ci could not try each must-fail edit: $found" ;;
+    "$((edits)) refused,"*) ;;
+    *) fail "there are $((edits)) must-fail edits, and rt ci says of them: ${found:-nothing}" ;;
+esac
+took 'proofs, edits and programs' "$began"
 wait
 said tests/netpbm.sh
 
@@ -81,11 +82,11 @@ if [ "$(uname -m)" = x86_64 ]; then
         compiled=$work/oracle
         beside oracle/build.sh --compile "$source" "$compiled"
     fi
-    rt staticlib wunqaber > "$work/library" 2>&1 || {
+    sh tests/library.sh --after-ci > "$work/library" 2>&1 || {
         tail -n 20 "$work/library" >&2
         fail 'the static library is not built'
     }
-    WUNQABER_LIBRARY=$PWD/target/staticlib/libwunqaber.a
+    WUNQABER_LIBRARY=$PWD/crates/wunqaber/out/libwunqaber.a
     export WUNQABER_LIBRARY
     wait
     if [ -n "$compiled" ]; then

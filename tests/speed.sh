@@ -28,7 +28,7 @@ trap 'rm -rf "$work"' EXIT
 library=${WUNQABER_LIBRARY:-}
 if [ -z "$library" ]; then
     sh "$root/tests/library.sh" > "$work/log" 2>&1 || { tail -5 "$work/log" >&2; exit 1; }
-    library=$root/target/staticlib/libwunqaber.a
+    library=$root/crates/wunqaber/out/libwunqaber.a
 fi
 if [ "$mode" = check ] && [ -n "${ORACLE_COMPILED:-}" ]; then
     build=$ORACLE_COMPILED

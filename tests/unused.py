@@ -14,21 +14,24 @@ ROOT = os.path.join(os.path.dirname(os.path.abspath(__file__)), '..')
 
 # Laws that no proof needs: each says to a reader that a definition means what it should.
 FOR_READERS = {
-    'checked-drawings', 'own-drawings',  # the checked drawings of the scope, and our own
-    'host-demand3', 'sheet-comes-to-the-same',  # README, 'What is proved'
-    'over-lent-same', 'over-lent-no-removal',  # of which lists of `run_calls` demand 3 speaks
-    'add-told-seven', 'paint-told-seven', 'remove-told-seven',  # docs/ARCHITECTURE.md, 'Where the demands are stated'
-    'answers-on-rows',  # the test of a row answers as the paper's test
-    'area-is-offset',  # an area has the rows of the figure that an offset call gives
-    'growth-by-four', 'grown-box',  # what follows from the rule by which a W3C box's corners grow
-    'w3c-within-box',  # under the W3C's rule no corner is larger than the box
-    'rows-all-inside',  # the first row decides for all rows of an ellipse
-    'length-decimal-least',  # every number has a digit
-    'overpaint-pixel',  # a canvas byte after a styled row, by the runs that have it
-    'length-header-most',  # a file takes at most 17 bytes more than its canvas
-    'row-repacks',  # bytes that were unpacked pack to themselves, where the filling bits are 0
-    'written-reads-back',  # README, 'What is proved'
+    'checked_drawings', 'own_drawings',  # the checked drawings of the scope, and our own
+    'host_demand3', 'sheet_comes_to_the_same',  # README, 'What is proved'
+    'over_lent_same', 'over_lent_no_removal',  # of which lists of `run_calls` demand 3 speaks
+    'add_told_seven', 'paint_told_seven', 'remove_told_seven',  # docs/ARCHITECTURE.md, 'Where the demands are stated'
+    'answers_on_rows',  # the test of a row answers as the paper's test
+    'area_is_offset',  # an area has the rows of the figure that an offset call gives
+    'growth_by_four', 'grown_box',  # what follows from the rule by which a W3C box's corners grow
+    'w3c_within_box',  # under the W3C's rule no corner is larger than the box
+    'rows_all_inside',  # the first row decides for all rows of an ellipse
+    'length_decimal_least',  # every number has a digit
+    'overpaint_pixel',  # a canvas byte after a styled row, by the runs that have it
+    'length_header_most',  # a file takes at most 17 bytes more than its canvas
+    'row_repacks',  # bytes that were unpacked pack to themselves, where the filling bits are 0
+    'written_reads_back',  # README, 'What is proved'
 }
+
+# Traits of std that a file may bring for their methods alone.
+TRAITS = {'Read': ('read',), 'Write': ('write_all', 'flush')}
 
 # Files of computed examples, which nobody cites.
 EXAMPLES = ('Boundaries.antt', 'Cases.antt', 'Examples.antt', 'Pictures.antt')
@@ -44,8 +47,8 @@ def crates():
     """Each crate with the libraries that it stands on."""
     for line in read(os.path.join(ROOT, 'crates.txt'), '#').splitlines():
         if ':' in line:
-            name, libraries = line.split(':', 1)
-            yield name, libraries.split()
+            head, libraries = line.split('#')[0].split(':', 1)
+            yield head.split()[0], libraries.split()
 
 
 def sources(ending, mark):
@@ -53,19 +56,47 @@ def sources(ending, mark):
     found = {}
     for name, _ in crates():
         found[name] = {}
-        for folder, _, files in os.walk(os.path.join(ROOT, 'crates', name)):
+        for folder, below, files in os.walk(os.path.join(ROOT, 'crates', name)):
+            below[:] = [one for one in below if one != 'out']
             for file in files:
                 if file.endswith(ending):
                     path = os.path.join(folder, file)
-                    found[name][os.path.relpath(path, ROOT)] = read(path, mark)
+                    found[name][os.path.relpath(path, ROOT)] = USE.sub(on_one_line, read(path, mark))
     return found
 
 
+# What `use` begins, to its `;` in .rt files and to its bracket or its line's end in .antt files.
+USE = re.compile(r'(?m)^(?:(?:pub|ghost|unfoldable|abbrev) )*use [^\n;{}]*(?:\{[^;]*?\}(?=;|$))?')
+
+
+def on_one_line(found):
+    return re.sub(r',? ?\}', '}', re.sub(r'\{ ', '{', ' '.join(found.group(0).split())))
+
+
+def paths(line):
+    """The paths that a `use` line of Rust brings, each written out."""
+    line = line.strip().rstrip(';')
+    before, brace, inside = line.partition('{')
+    if not brace:
+        return [line]
+    found, depth, start = [], 0, 0
+    inside = inside.rsplit('}', 1)[0]
+    for i, letter in enumerate(inside + ','):
+        depth += {'{': 1, '}': -1}.get(letter, 0)
+        if letter == ',' and depth == 0:
+            found += [before + one for one in paths(inside[start:i]) if one]
+            start = i + 1
+    return [re.sub(r'::self\b', '', one) for one in found]
+
+
 def has(source, name):
-    """Whether a text has a name; of an operator, `_` at its arguments' places, whether it has each part."""
-    if name.startswith('_') or name.endswith('_'):
-        parts = [part for part in name.split('_') if part]
+    """Whether a text has a name; of an operator, `◌` at its arguments' places, whether it has each part; of a trait, whether it has a
+    call of one of its methods."""
+    if '◌' in name:
+        parts = [part for part in name.split('◌') if part]
         return name in source or all(re.search(r'(?<![^\s(){}])%s(?![^\s(){};,])' % re.escape(part), source) for part in parts)
+    if any(re.search(r'\.%s\(' % method, source) for method in TRAITS.get(name, ())):
+        return True
     return re.search(r"(?<![\w·'+<≤-])«?%s»?(?![\w·'-])" % re.escape(name), source) is not None
 
 
@@ -89,7 +120,7 @@ def unused_libraries(code, logic):
     for name, libraries in crates():
         named = {name}
         for source in list(code[name].values()) + list(logic[name].values()):
-            named |= set(re.findall(r'Rattle·(\w+?)(?=[·.])', source))
+            named |= set(re.findall(r'Rattle\.(\w+)\.', source))
         named |= set(re.findall(r'(?<![\w:.])(\w+)::', whole[name]))
         types, more = set(), set().union(*(declares.get(n, set()) | answers.get(n, set()) for n in named))
         while more:
@@ -104,8 +135,11 @@ def unused_libraries(code, logic):
 def imported(line):
     """The names that a `use` line brings."""
     line = line.rstrip(';')
-    braces = re.search(r'\{(.*)\}$', line)
-    names = braces.group(1).split(',') if braces else [line.rsplit('::', 1)[-1]] if ' as ' in line or '::' in line else []
+    if '::' in line:
+        names = [path.rsplit('::', 1)[-1] for path in paths(line)]
+    else:
+        braces = re.search(r'\{(.*)\}$', line)
+        names = braces.group(1).split(',') if braces else [line] if ' as ' in line else []
     return [name.rsplit(' as ', 1)[-1].strip().strip('«»') for name in names if name.strip()]
 
 
@@ -122,8 +156,14 @@ def unused_imports(files):
                     yield f'{short}: uses nothing of {name}'
 
 
+def calls_written_out(source):
+    """A text with the paths of its `use` lines, each of a function that it calls by its name alone."""
+    brought = [path for line in re.findall(r'(?m)^use [^\n]*$', source) for path in paths(line[4:])]
+    return '\n'.join([source, *brought])
+
+
 def unused_functions(code):
-    files = {short: (name, source) for name in code for short, source in code[name].items()}
+    files = {short: (name, calls_written_out(source)) for name in code for short, source in code[name].items()}
     for short, (name, source) in files.items():
         module = os.path.basename(short)[:-3]
         inner = '' if module in ('lib', 'main') else module + '::'
@@ -137,16 +177,24 @@ def unused_functions(code):
                 yield f'{short}: no other file calls {function}'
 
 
+def as_cited(crate, source):
+    """A text of code with the paths that `#[tactic(auto, using(..))]` has, as crate::proofs::Rows::law, written as in the logic."""
+    def written(found):
+        return ' Rattle.%s.proofs.%s %s' % (crate if found.group(1) == 'crate' else found.group(1), found.group(2).replace('::', '.'), found.group(3))
+    return re.sub(r'\b(\w+)::proofs::(\w+(?:::\w+)*)::([\w\'-]+)', written, source)
+
+
 def unused_laws(code, logic):
-    files = {short: source for kind in (code, logic) for name in kind for short, source in kind[name].items()}
+    files = {short: as_cited(name, source) for name in code for short, source in code[name].items()}
+    files.update((short, source) for name in logic for short, source in logic[name].items())
     words = {short: set(re.findall(r'[^\s(){}\[\];,.:]+', source)) for short, source in files.items()}
-    named = {short: source.replace('.{', ' {') for short, source in files.items() if 'Rattle·' in source}
+    named = {short: source.replace('.{', ' {') for short, source in files.items() if 'Rattle.' in source}
     known = set()
     for short, source in files.items():
-        if '/proofs/' not in short or short.endswith(('/Proof.antt', '/Lib.antt') + EXAMPLES):
+        if '/proofs/' not in short or short.endswith(('/Proof.antt', '/Answers.antt', '/Invariants.antt', '/Lib.antt') + EXAMPLES):
             continue
         _, crate, _, module = short[:-5].replace(os.sep, '.').split('.', 3)
-        path = re.compile(r'Rattle·%s(?:·proofs)?\.proofs\.%s(?![\w.·-]*[\w·-])' % (crate, re.escape(module)))
+        path = re.compile(r'Rattle\.%s\.proofs\.%s(?![\w.-]*[\w-])' % (crate, re.escape(module)))
         citing = [other for other, text in named.items() if other != short and path.search(text)]
         for indent, law in re.findall(r'(?m)^( *)(?:(?:abbrev|unfoldable|pub) )*([^\s(){}\[\];,.:]+) : ', source):
             known.add(law)

@@ -4,14 +4,16 @@
 // the two canvases are equal, byte for byte.
 #![tactic(auto)]
 
+ghost use Rattle.std.specs.Prelude.{◌≡◌, ◌↔◌, IsTrue};
+
 use corner_radii::CornerRadii;
 use figure::Figure;
 use geometry::{Point, Size};
-use libc::STDOUT_FILENO;
 use netpbm::WriteAnswer;
 use rectangle::Rectangle;
 use rounded_rectangle::RoundedRectangle;
 use sheet::Sheet;
+use std::io::{self, Write};
 use style::{Paint, StrokeAlignment, Style};
 
 const WIDTH: u32 = 232;
@@ -76,58 +78,42 @@ fn page() -> Sheet {
 // Paints a row of each layer in every round, the uppermost first.
 fn paint_interleaved(canvas: &mut [u8]) {
     let mut sheet = page();
-    let mut round: u32 = 0;
-    while round < ROUNDS {
-        let mut layer = LAYERS;
-        while 0 < layer {
-            layer -= 1;
+    for _ in 0..ROUNDS {
+        for layer in (0..LAYERS).rev() {
             let outcome = sheet.paint(layer, canvas);
             sheet = outcome.sheet;
         }
-        round += 1;
     }
 }
 
 // Paints each layer to its end before the next.
 fn paint_tile_after_tile(canvas: &mut [u8]) {
     let mut sheet = page();
-    let mut layer: u32 = 0;
-    while layer < LAYERS {
-        let mut round: u32 = 0;
-        while round < ROUNDS {
+    for layer in 0..LAYERS {
+        for _ in 0..ROUNDS {
             let outcome = sheet.paint(layer, canvas);
             sheet = outcome.sheet;
-            round += 1;
         }
-        layer += 1;
     }
 }
 
-fn are_equal(a: &[u8], b: &[u8]) -> bool {
-    if a.len() != b.len() {
-        return false;
-    }
-    let mut i: usize = 0;
-    while i < a.len() {
-        if a[i] != b[i] {
-            return false;
-        }
-        i += 1;
-    }
-    true
+fn are_equal(a: &[u8], b: &[u8]) -> bool
+    ensures { IsTrue result ↔ a.now ≡ b.now }
+{
+    a == b
 }
 
-fn main() {
+fn main(rt: HostRuntime) -> io::Result<()> {
     let mut interleaved = [255u8; 27840];
     let mut plain = [255u8; 27840];
     paint_interleaved(&mut interleaved);
     paint_tile_after_tile(&mut plain);
     if !are_equal(&interleaved, &plain) {
-        return;
+        return Ok(());
     }
     let mut file = [0u8; 27855];
     let WriteAnswer::Written(_) = netpbm::write_p5(WIDTH, HEIGHT, &interleaved, &mut file) else {
-        return;
+        return Ok(());
     };
-    io::write_all(STDOUT_FILENO, &file);
+    io::writer(&rt).write_all(&file)
 }

@@ -5,10 +5,10 @@
 use corner_radii::CornerRadii;
 use figure::Figure;
 use geometry::{Point, Size};
-use libc::STDOUT_FILENO;
 use netpbm::WriteAnswer;
 use rectangle::Rectangle;
 use rounded_rectangle::RoundedRectangle;
+use std::io::{self, Write};
 use style::{Paint, StrokeAlignment, Style};
 
 const WIDTH: u32 = 144;
@@ -48,7 +48,7 @@ fn paint_bordered(canvas: &mut [u8], figure: Figure, fill: Paint) {
     let _ = paint::paint_figure(figure, style, WIDTH, HEIGHT, canvas);
 }
 
-fn main() {
+fn main(rt: HostRuntime) -> io::Result<()> {
     let mut canvas = [255u8; 9216];
     paint_bordered(&mut canvas, tile_box(6), Paint::Colour(220));
     paint_bordered(&mut canvas, tile_oval(26), Paint::Colour(40));
@@ -56,7 +56,7 @@ fn main() {
     paint_bordered(&mut canvas, tile_oval(94), Paint::Absent);
     let mut file = [0u8; 9230];
     let WriteAnswer::Written(_) = netpbm::write_p5(WIDTH, HEIGHT, &canvas, &mut file) else {
-        return;
+        return Ok(());
     };
-    io::write_all(STDOUT_FILENO, &file);
+    io::writer(&rt).write_all(&file)
 }

@@ -4,13 +4,13 @@
 
 use figure::Figure;
 use geometry::{Point, Size};
-use libc::STDOUT_FILENO;
 use netpbm::WriteAnswer;
 use paint::PaintAnswer;
 use rectangle::Rectangle;
+use std::io::{self, Write};
 use style::{Paint, Style};
 
-fn main() {
+fn main(rt: HostRuntime) -> io::Result<()> {
     let oval = Figure::Ellipse(Rectangle {
         top_left: Point { x: 0, y: 0 },
         size: Size {
@@ -21,11 +21,11 @@ fn main() {
     let style = Style::new(Paint::Absent, Paint::Colour(9), 0);
     let mut canvas = [0u8; 16];
     let PaintAnswer::Painted = paint::paint_figure(oval, style, 4, 4, &mut canvas) else {
-        return;
+        return Ok(());
     };
     let mut file = [0u8; 27];
     let WriteAnswer::Written(_) = netpbm::write_p5(4, 4, &canvas, &mut file) else {
-        return;
+        return Ok(());
     };
-    io::write_all(STDOUT_FILENO, &file);
+    io::writer(&rt).write_all(&file)
 }

@@ -4,9 +4,11 @@
 // `cafe` writes.
 #![tactic(auto)]
 
-use libc::{STDIN_FILENO, STDOUT_FILENO};
+ghost use Rattle.std.specs.Prelude.{◌≤◌, length, IfOk};
+
 use netpbm::WriteAnswer;
 use netpbm_read::ReadAnswer;
+use std::io::{self, Read, Write};
 
 const WIDTH: u32 = 232;
 
@@ -21,35 +23,48 @@ fn is_dark(pixel: u8) -> u8 {
 
 // Makes a grey page one of 0 and 1.
 fn darken(canvas: &mut [u8]) {
-    let mut i: usize = 0;
-    while i < canvas.len() {
-        canvas[i] = is_dark(canvas[i]);
-        i += 1;
+    for pixel in canvas.iter_mut() {
+        *pixel = is_dark(*pixel);
     }
 }
 
-// Writes the page as P4.
-fn write_page(canvas: &[u8; 27840]) {
-    let mut page = [0u8; 3491];
-    let WriteAnswer::Written(_) = netpbm::write_p4(WIDTH, HEIGHT, canvas, &mut page) else {
-        return;
-    };
-    io::write_all(STDOUT_FILENO, &page);
+// Reads until the file is full or the input ends, and says how many bytes were read.
+fn read_file<R: Read>(input: &mut R, file: &mut [u8]) -> io::Result<usize>
+    ensures { IfOk result (λ n. n ≤ length file.new) }
+{
+    let mut count: usize = 0;
+    while count < file.len() {
+        let read = input.read(&mut file[count..])?;
+        if read == 0 {
+            break;
+        }
+        count += read;
+    }
+    Ok(count)
 }
 
-fn main() {
+// Writes the page as P4.
+fn write_page<W: Write>(out: &mut W, canvas: &[u8; 27840]) -> io::Result<()> {
+    let mut page = [0u8; 3491];
+    let WriteAnswer::Written(_) = netpbm::write_p4(WIDTH, HEIGHT, canvas, &mut page) else {
+        return Ok(());
+    };
+    out.write_all(&page)
+}
+
+fn main(rt: HostRuntime) -> io::Result<()> {
     let mut file = [0u8; 33792];
     let mut canvas = [0u8; 27840];
-    let count = io::read_full(STDIN_FILENO, &mut file);
+    let count = read_file(&mut rt.reader(), &mut file)?;
     let ReadAnswer::Read(size) = netpbm::read(&file[..count], &mut canvas) else {
-        return;
+        return Ok(());
     };
     // The canvas has as many pixels as the page, so the width tells the height.
     if size.width != WIDTH {
-        return;
+        return Ok(());
     }
     if file[1] == b'5' {
         darken(&mut canvas);
     }
-    write_page(&canvas);
+    write_page(&mut io::writer(&rt), &canvas)
 }

@@ -6,6 +6,7 @@ use replay_calls::{TABLE, make};
 use replay_lines::names::{Found, Takes, find};
 use replay_lines::output::{write_list, write_number, write_sum, write_text};
 use replay_lines::words::{byte_at, read_bytes, read_list, read_numbers};
+use std::io::{self, Write};
 
 // What a line lends: how many lists of numbers and of bytes, how much of each, and the place after it
 // all.
@@ -25,14 +26,12 @@ pub(crate) struct Lent {
 fn name_end(line: &[u8]) -> usize
     ensures { result ≤ length line.now }
 {
-    let mut at: usize = 0;
-    while at < line.len() {
-        if line[at] == b' ' {
+    for (at, b) in line.iter().enumerate() {
+        if *b == b' ' {
             return at;
         }
-        at += 1;
     }
-    at
+    line.len()
 }
 
 // The first so many entries of a list.
@@ -51,7 +50,8 @@ fn bytes_of(list: &mut [u8], count: usize) -> &mut [u8] {
 }
 
 // Makes a call with what a line lends of each list, and writes what came of it.
-fn answer_with(
+fn answer_with<W: Write>(
+    out: &mut W,
     call: usize,
     n: &[u32],
     lent: Lent,
@@ -60,7 +60,7 @@ fn answer_with(
     c: &mut [i32],
     p: &mut [u8],
     q: &mut [u8],
-) {
+) -> io::Result<()> {
     let answer = make(
         call,
         n,
@@ -70,12 +70,12 @@ fn answer_with(
         bytes_of(p, lent.p),
         bytes_of(q, lent.q),
     );
-    write_number(signed::wide(answer));
-    write_list(a, lent.a);
-    write_list(b, lent.b);
-    write_list(c, lent.c);
-    write_sum(p, lent.p);
-    write_sum(q, lent.q);
+    write_number(out, signed::wide(answer))?;
+    write_list(out, a, lent.a)?;
+    write_list(out, b, lent.b)?;
+    write_list(out, c, lent.c)?;
+    write_sum(out, p, lent.p)?;
+    write_sum(out, q, lent.q)
 }
 
 // How many lists were read, by the places before and after each.
@@ -134,7 +134,13 @@ fn fits(numbers: usize, lent: Lent, takes: Takes, line: &[u8]) -> bool {
 }
 
 // Answers a line that asks for a call, with the place where its arguments begin.
-fn answer_call(call: usize, takes: Takes, line: &[u8], from: usize) {
+fn answer_call<W: Write>(
+    out: &mut W,
+    call: usize,
+    takes: Takes,
+    line: &[u8],
+    from: usize,
+) -> io::Result<()> {
     let mut n = [0u32; 32];
     let mut a = [0i32; 2048];
     let mut b = [0i32; 2048];
@@ -144,27 +150,26 @@ fn answer_call(call: usize, takes: Takes, line: &[u8], from: usize) {
     let in_n = read_numbers(line, from, &mut n);
     let lent = read_lists(line, in_n.at, &mut a, &mut b, &mut c, &mut p, &mut q);
     if fits(in_n.count, lent, takes, line) {
-        answer_with(call, &n, lent, &mut a, &mut b, &mut c, &mut p, &mut q);
+        answer_with(out, call, &n, lent, &mut a, &mut b, &mut c, &mut p, &mut q)
     } else {
-        write_text(b"error: not what this call takes");
+        write_text(out, b"error: not what this call takes")
     }
 }
 
 // Answers a line that asks for a call of the table.
-fn answer_from(table: &[u8], line: &[u8]) {
+fn answer_from<W: Write>(out: &mut W, table: &[u8], line: &[u8]) -> io::Result<()> {
     let end = name_end(line);
     let Found::Call(call, takes) = find(table, &line[..end]) else {
-        write_text(b"error: no such call");
-        return;
+        return write_text(out, b"error: no such call");
     };
-    answer_call(call, takes, line, end);
+    answer_call(out, call, takes, line, end)
 }
 
 // Answers a line. A remark, which begins with #, is answered by itself.
-pub(crate) fn answer(line: &[u8]) {
+pub(crate) fn answer<W: Write>(out: &mut W, line: &[u8]) -> io::Result<()> {
     if byte_at(line, 0) == b'#' {
-        write_text(line);
+        write_text(out, line)
     } else {
-        answer_from(&TABLE, line);
+        answer_from(out, &TABLE, line)
     }
 }

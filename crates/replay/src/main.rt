@@ -9,7 +9,7 @@
 
 mod answer;
 
-use libc::{STDIN_FILENO, STDOUT_FILENO};
+use std::io::{self, BufReader, BufWriter, Read, Write};
 
 #[derive(Clone, Copy)]
 pub(crate) enum Byte {
@@ -26,28 +26,26 @@ pub(crate) enum Line {
 }
 
 // A byte of the input.
-fn read_byte() -> Byte {
+fn read_byte<R: Read>(input: &mut R) -> io::Result<Byte> {
     let mut part = [0u8; 1];
-    if io::read_full(STDIN_FILENO, &mut part) == 0 {
-        return Byte::End;
+    if input.read(&mut part)? == 0 {
+        return Ok(Byte::End);
     }
-    Byte::Is(part[0])
+    Ok(Byte::Is(part[0]))
 }
 
-// Passes over the rest of a line. A proved loop has to end, so it counts its turns down from a number
-// that no run uses up; the same in main.
-fn skip_line() -> Line {
-    let mut turns = u64::MAX;
-    while 0 < turns {
-        let Byte::Is(b) = read_byte() else {
-            return Line::TooLong;
+// Passes over the rest of a line. A proved loop has to end, so it counts its turns up to a number that
+// no run uses up; the same in main.
+fn skip_line<R: Read>(input: &mut R) -> io::Result<Line> {
+    for _ in 0..u64::MAX {
+        let Byte::Is(b) = read_byte(input)? else {
+            return Ok(Line::TooLong);
         };
         if b == b'\n' {
-            return Line::TooLong;
+            return Ok(Line::TooLong);
         }
-        turns -= 1;
     }
-    Line::TooLong
+    Ok(Line::TooLong)
 }
 
 // A last line without a line end counts as one.
@@ -58,42 +56,44 @@ fn last_line(used: usize) -> Line {
     Line::Held(used)
 }
 
-fn read_line(line: &mut [u8]) -> Line {
-    let mut used: usize = 0;
-    while used < line.len() {
-        let Byte::Is(b) = read_byte() else {
-            return last_line(used);
+fn read_line<R: Read>(input: &mut R, line: &mut [u8]) -> io::Result<Line> {
+    for used in 0..line.len() {
+        let Byte::Is(b) = read_byte(input)? else {
+            return Ok(last_line(used));
         };
         if b == b'\n' {
-            return Line::Held(used);
+            return Ok(Line::Held(used));
         }
         line[used] = b;
-        used += 1;
     }
-    skip_line()
+    skip_line(input)
 }
 
 // Answers the next line of the input; false at its end.
-fn serve(line: &mut [u8]) -> bool {
-    match read_line(line) {
-        Line::End => false,
-        Line::TooLong => io::write_all(STDOUT_FILENO, b"error: a line of more than 8191 bytes\n"),
+fn serve<R: Read, W: Write>(input: &mut R, out: &mut W, line: &mut [u8]) -> io::Result<bool> {
+    match read_line(input, line)? {
+        Line::End => return Ok(false),
+        Line::TooLong => out.write_all(b"error: a line of more than 8191 bytes\n")?,
         Line::Held(used) => {
             if used <= line.len() {
-                answer::answer(&line[..used]);
+                answer::answer(out, &line[..used])?;
             }
-            io::write_all(STDOUT_FILENO, b"\n")
+            out.write_all(b"\n")?;
         }
     }
+    // whoever asks a line at a time reads its answer before the next
+    out.flush()?;
+    Ok(true)
 }
 
-fn main() {
+fn main(rt: HostRuntime) -> io::Result<()> {
     let mut line = [0u8; 8192];
-    let mut turns = u64::MAX;
-    while 0 < turns {
-        if !serve(&mut line) {
-            return;
+    let mut input = BufReader::new(rt.alloc(), rt.reader())?;
+    let mut out = BufWriter::new(rt.alloc(), io::writer(&rt))?;
+    for _ in 0..u64::MAX {
+        if !serve(&mut input, &mut out, &mut line)? {
+            return Ok(());
         }
-        turns -= 1;
     }
+    Ok(())
 }

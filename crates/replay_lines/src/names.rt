@@ -20,7 +20,7 @@ pub enum Found {
 
 // The digit so many places after a place of the table.
 fn digit_after(table: &[u8], from: usize, places: usize) -> usize {
-    let at = std::num::wrapping_add_usize(from, places);
+    let at = from.wrapping_add(places);
     if at < table.len() {
         return digit(table[at]) as usize;
     }
@@ -41,26 +41,22 @@ fn next_line(table: &[u8], from: usize) -> usize
     requires { from < length table.now }
     ensures { (from < result) × (result ≤ length table.now) }
 {
-    let mut at = from;
-    while at < table.len() {
+    for at in from..table.len() {
         if table[at] == b'\n' {
             return at + 1;
         }
-        at += 1;
     }
-    at
+    table.len()
 }
 
 // The place after a name and a space, if they stand at a place of the table, or else 0.
 fn after_name(table: &[u8], from: usize, name: &[u8]) -> usize {
     let mut at = from;
-    let mut i: usize = 0;
-    while i < name.len() {
-        at = after(table, at, name[i]);
+    for b in name {
+        at = after(table, at, *b);
         if at == 0 {
             return 0;
         }
-        i += 1;
     }
     after(table, at, b' ')
 }

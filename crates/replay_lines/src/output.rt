@@ -1,24 +1,24 @@
 // What is written of a call: numbers, lists, and checksums of bytes.
 ghost use Rattle.std.specs.Prelude.{◌<◌, ◌≤◌, length};
 
-use libc::STDOUT_FILENO;
+use std::io::{self, Write};
 
 // The modulus of Adler-32 (RFC 1950).
 const MODULUS: u64 = 65521;
 
-pub fn write_text(text: &[u8]) {
-    io::write_all(STDOUT_FILENO, text);
+pub fn write_text<W: Write>(out: &mut W, text: &[u8]) -> io::Result<()> {
+    out.write_all(text)
 }
 
-pub fn write_number(n: u64) {
-    io::print_decimal(STDOUT_FILENO, n);
+pub fn write_number<W: Write>(out: &mut W, n: u64) -> io::Result<()> {
+    write!(out, "{n}")
 }
 
-fn write_signed(v: i32) {
+fn write_signed<W: Write>(out: &mut W, v: i32) -> io::Result<()> {
     if v < 0 {
-        write_text(b"-");
+        write_text(out, b"-")?;
     }
-    write_number(signed::wide(signed::magnitude(v)));
+    write_number(out, signed::wide(signed::magnitude(v)))
 }
 
 // Where the equal numbers that begin at a place of a list end.
@@ -27,47 +27,48 @@ fn run_end(list: &[i32], from: usize) -> usize
     ensures { (from < result) × (result ≤ length list.now) }
 {
     let first = list[from];
-    let mut at = from + 1;
-    while at < list.len() {
+    for at in from + 1..list.len() {
         if list[at] != first {
             return at;
         }
-        at += 1;
     }
-    at
+    list.len()
 }
 
 // An entry of a list: a number, and how often it stands there if that is more than once; before each
 // but the first a space.
-fn write_entry(v: i32, start: usize, times: usize) {
+fn write_entry<W: Write>(out: &mut W, v: i32, start: usize, times: usize) -> io::Result<()> {
     if 0 < start {
-        write_text(b" ");
+        write_text(out, b" ")?;
     }
-    write_signed(v);
+    write_signed(out, v)?;
     if 1 < times {
-        write_text(b"*");
-        write_number(times as u64);
+        write_text(out, b"*")?;
+        write_number(out, times as u64)?;
     }
+    Ok(())
 }
 
-fn write_entries(list: &[i32]) {
+fn write_entries<W: Write>(out: &mut W, list: &[i32]) -> io::Result<()> {
     let mut start: usize = 0;
     while start < list.len() {
         let end = run_end(list, start);
-        write_entry(list[start], start, end - start);
+        write_entry(out, list[start], start, end - start)?;
         start = end;
     }
+    Ok(())
 }
 
 // A space and the first so many numbers of a list; nothing of an empty one.
-pub fn write_list(list: &[i32], count: usize) {
+pub fn write_list<W: Write>(out: &mut W, list: &[i32], count: usize) -> io::Result<()> {
     if 0 < count {
-        write_text(b" [");
+        write_text(out, b" [")?;
         if count <= list.len() {
-            write_entries(&list[..count]);
+            write_entries(out, &list[..count])?;
         }
-        write_text(b"]");
+        write_text(out, b"]")?;
     }
+    Ok(())
 }
 
 fn wide(b: u8) -> u64
@@ -80,21 +81,20 @@ fn wide(b: u8) -> u64
 fn adler32(bytes: &[u8]) -> u64 {
     let mut low: u64 = 1;
     let mut high: u64 = 0;
-    let mut i: usize = 0;
-    while i < bytes.len() {
-        low = (low % MODULUS + wide(bytes[i])) % MODULUS;
+    for b in bytes {
+        low = (low % MODULUS + wide(*b)) % MODULUS;
         high = (high % MODULUS + low) % MODULUS;
-        i += 1;
     }
     65536 * (high % MODULUS) + low % MODULUS
 }
 
 // A space and the checksum of the first so many bytes; nothing of none.
-pub fn write_sum(bytes: &[u8], count: usize) {
+pub fn write_sum<W: Write>(out: &mut W, bytes: &[u8], count: usize) -> io::Result<()> {
     if 0 < count {
-        write_text(b" #");
+        write_text(out, b" #")?;
         if count <= bytes.len() {
-            write_number(adler32(&bytes[..count]));
+            write_number(out, adler32(&bytes[..count]))?;
         }
     }
+    Ok(())
 }

@@ -100,7 +100,7 @@ fn read_number(line: &[u8], from: usize) -> Number {
         return NO_NUMBER;
     }
     Number {
-        bits: std::num::wrapping_sub_u32(0, size.bits),
+        bits: 0u32.wrapping_sub(size.bits),
         at: size.at,
     }
 }
@@ -153,7 +153,7 @@ fn read_run(line: &[u8], from: usize) -> Run {
 fn next_run(line: &[u8], run: Run, close: u8) -> Run {
     if 1 < run.left {
         return Run {
-            value: std::num::wrapping_add_u32(run.value, run.step),
+            value: run.value.wrapping_add(run.step),
             step: run.step,
             left: run.left - 1,
             at: run.at,
@@ -194,8 +194,7 @@ fn full(count: usize, run: Run) -> Filled {
 // Reads a list of numbers, if there is one.
 pub fn read_list(line: &[u8], from: usize, list: &mut [i32]) -> Filled {
     let mut run = first_run(line, from, b'[', b']');
-    let mut count: usize = 0;
-    while count < list.len() {
+    for count in 0..list.len() {
         if run.left == 0 {
             return Filled {
                 count: count,
@@ -203,17 +202,15 @@ pub fn read_list(line: &[u8], from: usize, list: &mut [i32]) -> Filled {
             };
         }
         list[count] = held(run.value);
-        count += 1;
         run = next_run(line, run, b']');
     }
-    full(count, run)
+    full(list.len(), run)
 }
 
 // The same for bytes.
 pub fn read_bytes(line: &[u8], from: usize, list: &mut [u8]) -> Filled {
     let mut run = first_run(line, from, b'{', b'}');
-    let mut count: usize = 0;
-    while count < list.len() {
+    for count in 0..list.len() {
         if run.left == 0 {
             return Filled {
                 count: count,
@@ -221,27 +218,27 @@ pub fn read_bytes(line: &[u8], from: usize, list: &mut [u8]) -> Filled {
             };
         }
         list[count] = (run.value % 256) as u8;
-        count += 1;
         run = next_run(line, run, b'}');
     }
-    full(count, run)
+    full(list.len(), run)
 }
 
 // Reads numbers, each after a space, as far as there are any.
 pub fn read_numbers(line: &[u8], from: usize, numbers: &mut [u32]) -> Filled {
     let mut at = from;
-    let mut count: usize = 0;
-    while count < numbers.len() {
+    for count in 0..numbers.len() {
         let number = read_number(line, after(line, at, b' '));
         if number.at == 0 {
-            break;
+            return Filled {
+                count: count,
+                at: at,
+            };
         }
         numbers[count] = number.bits;
         at = number.at;
-        count += 1;
     }
     Filled {
-        count: count,
+        count: numbers.len(),
         at: at,
     }
 }

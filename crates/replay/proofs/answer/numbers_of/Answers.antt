@@ -1,8 +1,0 @@
--- `replay::answer::numbers_of` stays within the list: the test says that it has more.
-use mathlib.Core.Path.{sym}
-use lib.Seq.{length-take-le}
-use native.Mathlib.Omega.{arith}
-use Rattle.replay.proofs.answer.numbers_of.Goals as goal
-
-pub slice_bounds-result-end : goal.slice_bounds-result-end
-slice_bounds-result-end c = sym (length-take-le _ _ (omega arith))
