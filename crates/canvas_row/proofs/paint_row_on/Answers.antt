@@ -69,8 +69,11 @@ paint_row_at-requires c =
     let at_floor0 = c.floor0-place in
     let low = not_below c.before.before in
     let place_low : c.floor0-place.result < c.args.size.height = omega
-    (arith, place_is c.before.before.before.before) in record { width_le_wide_side = c.requires.width_le_wide_side; width_in_bounds = row_within c.args.size.width c.args.size.height _ c.args.canvas.now place_low
-          c.requires.canvas_len }
+    (arith, place_is c.before.before.before.before) in record {
+      width_le_wide_side = c.requires.width_le_wide_side;
+      width_in_bounds = row_within c.args.size.width c.args.size.height _ c.args.canvas.now place_low
+          c.requires.canvas_len;
+    }
 
 pub returns : goal.returns
 returns c =

@@ -63,9 +63,12 @@ returns-in-Ellipse c =
     let own = subst OwnFigure c.in-Ellipse.is c.requires.own_figure in
     let r = c.in-Ellipse.rectangle in
     let made = c.ellipse_rows.ensures ∙ ap (λ (z : ℤ). ellipse_rows (rectangle_offset c.in-Ellipse.rectangle z)) (to_z-of_z near.fits) in
-    let within = subst RowsWithin (sym made) (ellipse_rows_within _ (offset_area c.in-Ellipse.rectangle _ own near)) in record { value = made
+    let within = subst RowsWithin (sym made) (ellipse_rows_within _ (offset_area c.in-Ellipse.rectangle _ own near)) in record {
+      value = made
           ∙ ap (λ (z : ℤ). ellipse_rows (rectangle_offset c.in-Ellipse.rectangle z)) (width_is c.before.before)
-          ∙ sym (ap (λ (f : Figure). stroke_rows f style) c.in-Ellipse.is ∙ rows_of_ellipse style c.in-Ellipse.rectangle); near = (within.first, within.count) }
+          ∙ sym (ap (λ (f : Figure). stroke_rows f style) c.in-Ellipse.is ∙ rows_of_ellipse style c.in-Ellipse.rectangle);
+      near = (within.first, within.count);
+    }
 
 pub returns-in-CrateBox : goal.returns-in-CrateBox
 returns-in-CrateBox c =
@@ -74,9 +77,12 @@ returns-in-CrateBox c =
     let own = subst OwnFigure c.in-CrateBox.is c.requires.own_figure in
     let b = c.in-CrateBox.b in
     let made = c.box_rows.ensures ∙ ap (λ (z : ℤ). box_rows (rectangle_offset c.in-CrateBox.b.rectangle z)) (to_z-of_z near.fits) in
-    let within = subst RowsWithin (sym made) (box_rows_within _ (offset_area c.in-CrateBox.b.rectangle _ own.rectangle near)) in record { value = made
+    let within = subst RowsWithin (sym made) (box_rows_within _ (offset_area c.in-CrateBox.b.rectangle _ own.rectangle near)) in record {
+      value = made
           ∙ ap (λ (z : ℤ). box_rows (rectangle_offset c.in-CrateBox.b.rectangle z)) (width_is c.before.before.before)
-          ∙ sym (ap (λ (f : Figure). stroke_rows f style) c.in-CrateBox.is ∙ rows_of_crate_box style c.in-CrateBox.b); near = (within.first, within.count) }
+          ∙ sym (ap (λ (f : Figure). stroke_rows f style) c.in-CrateBox.is ∙ rows_of_crate_box style c.in-CrateBox.b);
+      near = (within.first, within.count);
+    }
 
 pub returns-in-W3cBox : goal.returns-in-W3cBox
 returns-in-W3cBox c =
@@ -85,6 +91,9 @@ returns-in-W3cBox c =
     let own = subst OwnFigure c.in-W3cBox.is c.requires.own_figure in
     let b = c.in-W3cBox.b in
     let made = c.box_rows-in-W3cBox.ensures ∙ ap (λ (z : ℤ). box_rows (rectangle_offset c.in-W3cBox.b.rectangle z)) (to_z-of_z near.fits) in
-    let within = subst RowsWithin (sym made) (box_rows_within _ (offset_area c.in-W3cBox.b.rectangle _ own.rectangle near)) in record { value = made
+    let within = subst RowsWithin (sym made) (box_rows_within _ (offset_area c.in-W3cBox.b.rectangle _ own.rectangle near)) in record {
+      value = made
           ∙ ap (λ (z : ℤ). box_rows (rectangle_offset c.in-W3cBox.b.rectangle z)) (width_is c.before.before.before)
-          ∙ sym (ap (λ (f : Figure). stroke_rows f style) c.in-W3cBox.is ∙ rows_of_w3c_box style c.in-W3cBox.b); near = (within.first, within.count) }
+          ∙ sym (ap (λ (f : Figure). stroke_rows f style) c.in-W3cBox.is ∙ rows_of_w3c_box style c.in-W3cBox.b);
+      near = (within.first, within.count);
+    }

@@ -42,20 +42,18 @@ rows_there : (c : Else-not-has_rows) → first_row_inside c.args.ellipse.size.wi
 rows_there c = sym c.has_rows.ensures ∙ c.if-not-has_rows.false
 
 pub returns-in_default : goal.returns-in_default
-returns-in_default c =
-    (
-      sym (row_out c.args.ellipse c.args.y
-          (placed_told _ _ _ c.requires.bounded.at.y.fits c.requires.near.fits c.place_of.ensures
-          c.in_default.is)),
-      tt,
-    )
+returns-in_default c = (
+  sym (row_out c.args.ellipse c.args.y
+      (placed_told _ _ _ c.requires.bounded.at.y.fits c.requires.near.fits c.place_of.ensures
+      c.in_default.is)),
+  tt,
+)
 
 pub returns-then-not-has_rows : goal.returns-then-not-has_rows
-returns-then-not-has_rows c =
-    (
-      sym (row_lacking c.args.ellipse c.args.y (sym c.has_rows.ensures ∙ c.if-not-has_rows.true)),
-      tt,
-    )
+returns-then-not-has_rows c = (
+  sym (row_lacking c.args.ellipse c.args.y (sym c.has_rows.ensures ∙ c.if-not-has_rows.true)),
+  tt,
+)
 
 pub gap-requires : goal.gap-requires
 gap-requires c =
@@ -69,14 +67,13 @@ first_inside-requires c =
     let tall = c.requires.bounded.size.height in record { small_weights = c.new-test.ensures.1; width_nonzero = (wide, c.requires.bounded.size.width, omega arith); from_bound = (omega arith, c.requires.bounded.size.width) }
 
 pub returns-in_default-first_inside : goal.returns-in_default-first_inside
-returns-in_default-first_inside c =
-    (
-      row_found c.args.ellipse c.args.y _ _ _ Nowhere
-          (row_place c.before.before.before.before.before.before)
-          (rows_there c.before.before.before) c.new-test.ensures.0
-          c.gap.ensures.0 (sym c.in_default-first_inside.is ∙ c.first_inside.ensures),
-      tt,
-    )
+returns-in_default-first_inside c = (
+  row_found c.args.ellipse c.args.y _ _ _ Nowhere
+      (row_place c.before.before.before.before.before.before)
+      (rows_there c.before.before.before) c.new-test.ensures.0
+      c.gap.ensures.0 (sym c.in_default-first_inside.is ∙ c.first_inside.ensures),
+  tt,
+)
 
 pub mirrored-requires : goal.mirrored-requires
 mirrored-requires c =

@@ -82,5 +82,8 @@ pub returns : goal.returns
 returns c =
     let at_shape = c.shape-shape in
     let passed = points_check_room c.args.figure (length c.args.list.now) Passed (figure_passed_here c.before.before.before.before.before.before.before)
-    (sym (room_is c.before.before.before.before) ∙ c.in-Passed-room.is) in record { result_value = rw passed (ap (λ (n : ℕ). answered (pos n ∷ [])) (count_is c.before.before.before.before.before)); list_after = rw passed (c.put_points.ensures ∙ ap (λ (s : Shape). sets c.args.list.now 0 (entries (points_of_shape s)))
-          c.shape-shape.ensures.0) }
+    (sym (room_is c.before.before.before.before) ∙ c.in-Passed-room.is) in record {
+      result_value = rw passed (ap (λ (n : ℕ). answered (pos n ∷ [])) (count_is c.before.before.before.before.before));
+      list_after = rw passed (c.put_points.ensures ∙ ap (λ (s : Shape). sets c.args.list.now 0 (entries (points_of_shape s)))
+          c.shape-shape.ensures.0);
+    }

@@ -40,13 +40,25 @@ leaves c =
     }
 
 pub returns-in-Refused : goal.returns-in-Refused
-returns-in-Refused c = record { value = c.number.ensures ∙ ap (λ (s : RunSays). run_number s)
-          (sym (ap (λ (a : RunAnswer). run_said a) c.in-Refused.is) ∙ says c.before.before.before.before.before.before.before); run_told = leaves c.before.before.before.before.before.before.before; background_value = refl }
+returns-in-Refused c = record {
+  value = c.number.ensures ∙ ap (λ (s : RunSays). run_number s)
+      (sym (ap (λ (a : RunAnswer). run_said a) c.in-Refused.is) ∙ says c.before.before.before.before.before.before.before);
+  run_told = leaves c.before.before.before.before.before.before.before;
+  background_value = refl;
+}
 
 pub returns-in-NotCalls : goal.returns-in-NotCalls
-returns-in-NotCalls c = record { value = ap (λ (s : RunSays). run_number s) (sym (ap (λ (a : RunAnswer). run_said a) c.in-NotCalls.is) ∙ says
-      c.before.before.before.before.before.before); run_told = leaves c.before.before.before.before.before.before; background_value = refl }
+returns-in-NotCalls c = record {
+  value = ap (λ (s : RunSays). run_number s) (sym (ap (λ (a : RunAnswer). run_said a) c.in-NotCalls.is) ∙ says
+      c.before.before.before.before.before.before);
+  run_told = leaves c.before.before.before.before.before.before;
+  background_value = refl;
+}
 
 pub returns-in-Ran : goal.returns-in-Ran
-returns-in-Ran c = record { value = ap (λ (s : RunSays). run_number s) (sym (ap (λ (a : RunAnswer). run_said a) c.in-Ran.is) ∙ says
-      c.before.before.before.before.before.before); run_told = leaves c.before.before.before.before.before.before; background_value = refl }
+returns-in-Ran c = record {
+  value = ap (λ (s : RunSays). run_number s) (sym (ap (λ (a : RunAnswer). run_said a) c.in-Ran.is) ∙ says
+      c.before.before.before.before.before.before);
+  run_told = leaves c.before.before.before.before.before.before;
+  background_value = refl;
+}

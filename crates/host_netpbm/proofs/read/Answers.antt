@@ -34,9 +34,15 @@ left c =
 
 pub returns-in-Refused : goal.returns-in-Refused
 returns-in-Refused c =
-    let out = c.args.out.now in record { tells = tells_refusal out (sym (ap (λ (a : ReadAnswer). read_outcome a) c.in-Refused.is) ∙ says c.before.before.before.before.before)
-          c.number.ensures; canvas_after = left c.before.before.before.before.before }
+    let out = c.args.out.now in record {
+      tells = tells_refusal out (sym (ap (λ (a : ReadAnswer). read_outcome a) c.in-Refused.is) ∙ says c.before.before.before.before.before)
+          c.number.ensures;
+      canvas_after = left c.before.before.before.before.before;
+    }
 
 pub returns-in-Read : goal.returns-in-Read
-returns-in-Read c = record { tells = tells_as (sym (ap (λ (a : ReadAnswer). read_outcome a) c.in-Read.is) ∙ says c.before.before.before.before.before.before.before)
-          c.put_sides.ensures; canvas_after = left c.before.before.before.before.before.before.before }
+returns-in-Read c = record {
+  tells = tells_as (sym (ap (λ (a : ReadAnswer). read_outcome a) c.in-Read.is) ∙ says c.before.before.before.before.before.before.before)
+      c.put_sides.ensures;
+  canvas_after = left c.before.before.before.before.before.before.before;
+}

@@ -42,8 +42,11 @@ says c = c.write.ensures.result_value
 
 pub returns-in_default : goal.returns-in_default
 returns-in_default c =
-    rw (sym (checked c.before.before.before.before) ∙ c.in_default.is) (record { tells = tells_refusal c.args.out.now refl
-          (c.number.ensures ∙ ap number (refusal_found c.refusal.ensures c.in_default.is)); file_after = refl })
+    rw (sym (checked c.before.before.before.before) ∙ c.in_default.is) (record {
+      tells = tells_refusal c.args.out.now refl
+          (c.number.ensures ∙ ap number (refusal_found c.refusal.ensures c.in_default.is));
+      file_after = refl;
+    })
 
 pub overflow_cast-n : goal.overflow_cast-n
 overflow_cast-n c =
@@ -59,8 +62,11 @@ pub returns-in-Refused : goal.returns-in-Refused
 returns-in-Refused c =
     let at_write = c.write in
     let args = c.args in
-    rw (sym (checked c.before.before.before.before.before.before.before.before) ∙ c.in-Passed.is) (record { tells = tells_refusal args.out.now (sym (ap (λ (a : WriteAnswer). write_outcome a) c.in-Refused.is) ∙ says
-          c.before.before.before.before.before) c.number-in-Refused.ensures; file_after = c.write.ensures.file_after })
+    rw (sym (checked c.before.before.before.before.before.before.before.before) ∙ c.in-Passed.is) (record {
+      tells = tells_refusal args.out.now (sym (ap (λ (a : WriteAnswer). write_outcome a) c.in-Refused.is) ∙ says
+          c.before.before.before.before.before) c.number-in-Refused.ensures;
+      file_after = c.write.ensures.file_after;
+    })
 
 pub returns-in-Written : goal.returns-in-Written
 returns-in-Written c =

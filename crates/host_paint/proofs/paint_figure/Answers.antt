@@ -67,12 +67,18 @@ style_of-requires c = style_length_lem c.args.style.now (is_styled c.before.befo
 
 pub returns-in-Refused : goal.returns-in-Refused
 returns-in-Refused c =
-    rw (is_one c.before.before.before.before.before.before.before.before.before.before.before, is_styled c.before.before.before.before.before.before.before.before.before) (record { value = c.number.ensures ∙ ap (λ (o : Outcome). outcome_number o)
+    rw (is_one c.before.before.before.before.before.before.before.before.before.before.before, is_styled c.before.before.before.before.before.before.before.before.before) (record {
+      value = c.number.ensures ∙ ap (λ (o : Outcome). outcome_number o)
           (sym (ap (λ (a : PaintAnswer). paint_outcome a) c.in-Refused.is) ∙ says
-          c.before.before.before.before.before); canvas_after = paints c.before.before.before.before.before })
+          c.before.before.before.before.before);
+      canvas_after = paints c.before.before.before.before.before;
+    })
 
 pub returns-in-Painted : goal.returns-in-Painted
 returns-in-Painted c =
-    rw (is_one c.before.before.before.before.before.before.before.before.before.before, is_styled c.before.before.before.before.before.before.before.before) (record { value = ap (λ (o : Outcome). outcome_number o)
-          (sym (ap (λ (a : PaintAnswer). paint_outcome a) c.in-Painted.is) ∙ says c.before.before.before.before); canvas_after = paints
-          c.before.before.before.before })
+    rw (is_one c.before.before.before.before.before.before.before.before.before.before, is_styled c.before.before.before.before.before.before.before.before) (record {
+      value = ap (λ (o : Outcome). outcome_number o)
+          (sym (ap (λ (a : PaintAnswer). paint_outcome a) c.in-Painted.is) ∙ says c.before.before.before.before);
+      canvas_after = paints
+          c.before.before.before.before;
+    })

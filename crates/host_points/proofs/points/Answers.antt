@@ -69,17 +69,26 @@ figure_of-given-requires c = figure_length_lem c.args.figure.now (is_one c)
 
 pub returns-in_default : goal.returns-in_default
 returns-in_default c =
-    rw (is_one c.before.before.before.before.before.before.before, sym (checked c.before.before.before) ∙ c.in_default.is) (record { tells = tells_refusal c.args.out.now refl
-          (c.number.ensures ∙ ap number (refusal_found c.refusal.ensures c.in_default.is)); list_after = refl })
+    rw (is_one c.before.before.before.before.before.before.before, sym (checked c.before.before.before) ∙ c.in_default.is) (record {
+      tells = tells_refusal c.args.out.now refl
+          (c.number.ensures ∙ ap number (refusal_found c.refusal.ensures c.in_default.is));
+      list_after = refl;
+    })
 
 pub returns-in-Refused : goal.returns-in-Refused
 returns-in-Refused c =
     let args = c.args in
-    rw (is_one c.before.before.before.before.before.before.before.before.before.before, sym (checked c.before.before.before.before.before.before) ∙ c.in-Passed.is) (record { tells = tells_refusal args.out.now (sym (ap (λ (a : PointsAnswer). points_outcome a) c.in-Refused.is) ∙ says
-          c.before.before.before) c.number-in-Refused.ensures; list_after = lists c.before.before.before })
+    rw (is_one c.before.before.before.before.before.before.before.before.before.before, sym (checked c.before.before.before.before.before.before) ∙ c.in-Passed.is) (record {
+      tells = tells_refusal args.out.now (sym (ap (λ (a : PointsAnswer). points_outcome a) c.in-Refused.is) ∙ says
+          c.before.before.before) c.number-in-Refused.ensures;
+      list_after = lists c.before.before.before;
+    })
 
 pub returns-in-Pairs : goal.returns-in-Pairs
 returns-in-Pairs c =
-    rw (is_one c.before.before.before.before.before.before.before.before.before.before.before.before, sym (checked c.before.before.before.before.before.before.before.before) ∙ c.in-Passed.is) (record { tells = tells_as (sym (ap (λ (a : PointsAnswer). points_outcome a) c.in-Pairs.is) ∙ says
-          c.before.before.before.before.before) c.put_count.ensures; list_after = lists
-          c.before.before.before.before.before })
+    rw (is_one c.before.before.before.before.before.before.before.before.before.before.before.before, sym (checked c.before.before.before.before.before.before.before.before) ∙ c.in-Passed.is) (record {
+      tells = tells_as (sym (ap (λ (a : PointsAnswer). points_outcome a) c.in-Pairs.is) ∙ says
+          c.before.before.before.before.before) c.put_count.ensures;
+      list_after = lists
+          c.before.before.before.before.before;
+    })

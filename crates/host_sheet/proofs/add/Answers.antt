@@ -182,7 +182,9 @@ returns c =
       is_a_figure c.before.before.before.before.before.before.before.before.before.before.before.before.before.before.before.before,
       is_a_style c.before.before.before.before.before.before.before.before.before.before.before.before.before.before,
       is_accepted_lem c.before.before.before.before.before.before.before.before.before,
-    ) (record { value = refl; sheet_after = ap₂ (λ (l : List ℤ) (z : ℤ). set l count_at z)
+    ) (record {
+      value = refl;
+      sheet_after = ap₂ (λ (l : List ℤ) (z : ℤ). set l count_at z)
           (c.put_layer.ensures
           ∙ ap₂ (λ (k : ℕ) (z : ℤ). layer_put
           c.args.sheet.now k
@@ -193,4 +195,5 @@ returns c =
           (carried c.before.before.before.before.before.before.before.before.before)
           (count_is c.before.before.before.before.before.before.before.before.before)))
           (to_z-of_z c.from_u32.ensures.fits ∙ c.from_u32.ensures.is
-          ∙ ap (λ (s : Sheet). pos s.count) (carried c.before.before.before.before.before.before.before.before.before)) })
+          ∙ ap (λ (s : Sheet). pos s.count) (carried c.before.before.before.before.before.before.before.before.before));
+    })

@@ -144,5 +144,10 @@ bounds-sheet-2 c =
 pub returns : goal.returns
 unfolding remove_told remove_numbers remove_canvas
 returns c =
-    rw (is_one c.before.before.before.before.before.before.before.before.before.before.before.before, is_accepted_lem c.before.before.before.before.before.before) (record { value = refl; sheet_after = ap₂ (λ (l : List ℤ) (z : ℤ). set l count_at z) c.remove_place.ensures
-            (to_z-of_z c.from_u32.ensures.fits ∙ c.from_u32.ensures.is ∙ ap (λ (s : Sheet). pos s.count) (carried c.before.before.before.before.before.before)); canvas_after = painted c.before.before.before.before.before.before.before.before.before; background_value = refl })
+    rw (is_one c.before.before.before.before.before.before.before.before.before.before.before.before, is_accepted_lem c.before.before.before.before.before.before) (record {
+      value = refl;
+      sheet_after = ap₂ (λ (l : List ℤ) (z : ℤ). set l count_at z) c.remove_place.ensures
+          (to_z-of_z c.from_u32.ensures.fits ∙ c.from_u32.ensures.is ∙ ap (λ (s : Sheet). pos s.count) (carried c.before.before.before.before.before.before));
+      canvas_after = painted c.before.before.before.before.before.before.before.before.before;
+      background_value = refl;
+    })

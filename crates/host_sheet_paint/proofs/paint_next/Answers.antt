@@ -106,11 +106,14 @@ returns c =
     let made = c.size_of-size.result in
     let size = c.size_of-size.ensures in
     let row = c.row_at in
-    let held = to_z-of_z (within c.before.before.before.before.before.before.before.before.before.before).next.fits in record { numbers_after = ap (λ (z : ℤ). set a.numbers.now (place_at a.layer + next_row_at) z)
+    let held = to_z-of_z (within c.before.before.before.before.before.before.before.before.before.before).next.fits in record {
+      numbers_after = ap (λ (z : ℤ). set a.numbers.now (place_at a.layer + next_row_at) z)
           (to_z-of_z c.add.ensures.fits ∙ c.add.ensures.is ∙ ap (λ (z : ℤ). z +ℤ pos 1)
-          (held ∙ ap (λ (l : Layer). l.next_row) c.layer_at-chosen.ensures)); canvas_after = c.paint_row_on.ensures
+          (held ∙ ap (λ (l : Layer). l.next_row) c.layer_at-chosen.ensures));
+      canvas_after = c.paint_row_on.ensures
           ∙ ap (λ (z : ℤ). paint_by (λ _. c.row_at.result) c.layer_at-chosen.result.style c.size_of-size.result.width c.size_of-size.result.height z a.canvas.now) held
           ∙ paint_by_found c.layer_at-chosen.result.figure c.layer_at-chosen.result.style c.size_of-size.result.width c.size_of-size.result.height a.canvas.now c.row_at.result c.layer_at-chosen.result.next_row
           (c.row_at.ensures ∙ ap (styled_row c.layer_at-chosen.result.figure c.layer_at-chosen.result.style) held)
           ∙ (λ k. written a.canvas.now (c.size_of-size.ensures.0 k) (c.size_of-size.ensures.1 k) (chosen_is c.before.before.before.before.before.before.before.before.before.before k))
-          ∙ sym (painted_canvas (sheet c.before.before.before.before.before.before.before.before.before.before.before.before) (sixteen a.numbers.now) a.canvas.now a.layer c.requires.layer_value) }
+          ∙ sym (painted_canvas (sheet c.before.before.before.before.before.before.before.before.before.before.before.before) (sixteen a.numbers.now) a.canvas.now a.layer c.requires.layer_value);
+    }

@@ -19,18 +19,24 @@ returns-then-is_wide c =
     let rows = wide_rows (a.width + 2 * a.outside) (a.height + 2 * a.outside) (omega arith) (omega arith) in record { value = rw (c.if-ellipse.true, rows); upper_bound = omega arith }
 
 pub returns-then-not-has_rows : goal.returns-then-not-has_rows
-returns-then-not-has_rows c = record { value = rw (
+returns-then-not-has_rows c = record {
+  value = rw (
     c.if-ellipse.true,
     sym c.has_rows.ensures
         ∙ c.if-not-has_rows.true,
-  ); upper_bound = omega arith }
+  );
+  upper_bound = omega arith;
+}
 
 pub returns-else-not-has_rows : goal.returns-else-not-has_rows
-returns-else-not-has_rows c = record { value = rw (
+returns-else-not-has_rows c = record {
+  value = rw (
     c.if-ellipse.true,
     sym c.has_rows.ensures
         ∙ c.if-not-has_rows.false,
-  ); upper_bound = omega arith }
+  );
+  upper_bound = omega arith;
+}
 
 pub returns-else-ellipse : goal.returns-else-ellipse
 returns-else-ellipse c = record { value = rw c.if-ellipse.false; upper_bound = omega arith }

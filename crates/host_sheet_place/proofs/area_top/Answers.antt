@@ -35,5 +35,8 @@ returns c =
     let few = c.requires.1 in
     let above = c.rows_above.ensures in
     let is = c.sub.ensures.is ∙ ap₂ ◌-ℤ◌ (to_z-of_z near.fits) (to_z-of_z c.from_u32.ensures.fits ∙ c.from_u32.ensures.is ∙ ap (λ (n : ℕ). pos n) c.rows_above.ensures) in
-    rw (to_z-of_z c.sub.ensures.fits) (record { is = record { is = is; fits = c.sub.ensures.fits }; near = less_near a.top (rows_above a.height a.outside) near
-          (omega (arith, rows_above_le a.height a.outside)) is c.sub.ensures.fits })
+    rw (to_z-of_z c.sub.ensures.fits) (record {
+      is = record { is = is; fits = c.sub.ensures.fits };
+      near = less_near a.top (rows_above a.height a.outside) near
+          (omega (arith, rows_above_le a.height a.outside)) is c.sub.ensures.fits;
+    })

@@ -47,8 +47,11 @@ painted_at-later-requires c =
     let n = c.args.numbers.now in
     let here = c.loop-j-test.true in
     let from = c.loop-j.invariant.0 in
-    let few = c.requires.from_le_count.1 in record { numbers_len = (c.requires.numbers_len, omega arith); j_value = each_of_all (λ k. place_kept (place_numbers n k)) (c.args.count - c.args.from) c.args.from
-          c.loop-j.j c.loop-j.invariant.0 (omega arith) c.requires.from_value }
+    let few = c.requires.from_le_count.1 in record {
+      numbers_len = (c.requires.numbers_len, omega arith);
+      j_value = each_of_all (λ k. place_kept (place_numbers n k)) (c.args.count - c.args.from) c.args.from
+          c.loop-j.j c.loop-j.invariant.0 (omega arith) c.requires.from_value;
+    }
 
 pub returns-then-is_overtaken : goal.returns-then-is_overtaken
 returns-then-is_overtaken c = sym (sym c.loop-j.invariant.2 ∙ step c.before true c.if-is_overtaken.true)

@@ -17,11 +17,14 @@ put_header-raster_at-requires c =
 
 pub put_raster-requires : goal.put_raster-requires
 put_raster-requires c =
-    let a = c.args in record { canvas_len = c.requires.canvas_len; canvas_in_bounds = omega (
+    let a = c.args in record {
+      canvas_len = c.requires.canvas_len;
+      canvas_in_bounds = omega (
         arith,
         length-append (header a.format a.size.width a.size.height)
             (raster a.format a.size.width a.size.height a.canvas.now),
-      ) }
+      );
+    }
 
 pub returns : goal.returns
 returns c = wrote_then c.put_header-raster_at.ensures c.put_raster.ensures

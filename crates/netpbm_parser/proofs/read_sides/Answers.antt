@@ -11,8 +11,11 @@ use Rattle.netpbm_parser.proofs.read_sides.Goals as goal
 pub returns-in_default : goal.returns-in_default
 returns-in_default c =
     let a = c.args in
-    let read = c.read_number.ensures.result_value in record { result_value = no_width a.format (number (drop 2 a.file.now))
-          (sym (ap (λ (r : Number). number_in a.file.now r) c.in_default.is) ∙ c.read_number.ensures.result_value); header_within = tt }
+    let read = c.read_number.ensures.result_value in record {
+      result_value = no_width a.format (number (drop 2 a.file.now))
+          (sym (ap (λ (r : Number). number_in a.file.now r) c.in_default.is) ∙ c.read_number.ensures.result_value);
+      header_within = tt;
+    }
 
 pub read_number-requires-2 : goal.read_number-requires-2
 read_number-requires-2 c =
@@ -51,8 +54,11 @@ returns c =
     let place = c.raster_place.ensures in
     let width = sym (ap (λ (r : Number). number_in file r) c.in-Read.is) ∙ c.read_number.ensures.result_value in
     let height = sym (ap (λ (r : Number). number_in file r) c.in-Read-read_number.is) ∙ c.read_number-2.ensures.result_value in
-    let closed = sym (ap (λ (r : Place). place_in file r) c.in-At.is) ∙ c.raster_place.ensures.result_value in record { result_value = both_sides a.format (number (drop 2 a.file.now)) c.in-Read.width c.in-Read-read_number.height _ _ _ width height closed; header_within = (
+    let closed = sym (ap (λ (r : Place). place_in file r) c.in-At.is) ∙ c.raster_place.ensures.result_value in record {
+      result_value = both_sides a.format (number (drop 2 a.file.now)) c.in-Read.width c.in-Read-read_number.height _ _ _ width height closed;
+      header_within = (
         (subst (λ (r : Number). NumberWithin file r) c.in-Read.is c.read_number.ensures.number_within).0,
         (subst (λ (r : Number). NumberWithin file r) c.in-Read-read_number.is c.read_number-2.ensures.number_within).0,
         subst (λ (r : Place). PlaceWithin file r) c.in-At.is c.raster_place.ensures.place_within,
-      ) }
+      );
+    }

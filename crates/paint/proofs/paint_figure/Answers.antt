@@ -55,5 +55,8 @@ pub returns : goal.returns
 returns c =
     let a = c.args in
     let p = passed c.before.before.before.before.before in
-    rw (sym (checked c.before.before.before.before.before.before) ∙ c.in-Passed.is) (record { result_value = refl; canvas_after = c.paint_whole.ensures ∙ whole_is_painted a.figure a.style a.width a.height a.canvas.now
-          p.size })
+    rw (sym (checked c.before.before.before.before.before.before) ∙ c.in-Passed.is) (record {
+      result_value = refl;
+      canvas_after = c.paint_whole.ensures ∙ whole_is_painted a.figure a.style a.width a.height a.canvas.now
+          p.size;
+    })

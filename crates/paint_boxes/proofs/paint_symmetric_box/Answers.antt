@@ -83,14 +83,18 @@ paint_spaced_rows-requires c =
     let more = c.loop-dy-test.true in
     let near = ready.area.at.y in
     let low = ready.area.size.height in
-    let y_is = to_z-of_z c.add-row_y.ensures.fits ∙ row_is c.before.before.before.before in record { canvas_len = c.loop-dy.invariant.size; width_le_wide_side = c.requires.width_le_wide_side; near = (
-          subst (Near wide_painted) (sym y_is) (row_near (first c.before.before.before.before) (done c.before.before.before.before) near (omega (arith, low, c.loop-dy-test.true))),
-          step_small (first c.before.before.before.before) b.area.size.height b.corner_rows (done c.before.before.before.before) near low ready.half c.loop-dy-test.true c.turn_at-turn.result
-              c.turn_at-turn.ensures,
-          subst (λ (z : ℤ). SpacedNear z c.turn_at-turn.result.step c.turn_at-turn.result.count) (sym y_is)
-              (rows_near (first c.before.before.before.before) b.area.size.height b.corner_rows (done c.before.before.before.before) near low ready.half c.loop-dy-test.true
-              c.turn_at-turn.result c.turn_at-turn.ensures),
-        ) }
+    let y_is = to_z-of_z c.add-row_y.ensures.fits ∙ row_is c.before.before.before.before in record {
+      canvas_len = c.loop-dy.invariant.size;
+      width_le_wide_side = c.requires.width_le_wide_side;
+      near = (
+        subst (Near wide_painted) (sym y_is) (row_near (first c.before.before.before.before) (done c.before.before.before.before) near (omega (arith, low, c.loop-dy-test.true))),
+        step_small (first c.before.before.before.before) b.area.size.height b.corner_rows (done c.before.before.before.before) near low ready.half c.loop-dy-test.true c.turn_at-turn.result
+            c.turn_at-turn.ensures,
+        subst (λ (z : ℤ). SpacedNear z c.turn_at-turn.result.step c.turn_at-turn.result.count) (sym y_is)
+            (rows_near (first c.before.before.before.before) b.area.size.height b.corner_rows (done c.before.before.before.before) near low ready.half c.loop-dy-test.true
+            c.turn_at-turn.result c.turn_at-turn.ensures),
+      );
+    }
 
 pub loop-dy-smaller : goal.loop-dy-smaller
 loop-dy-smaller c =

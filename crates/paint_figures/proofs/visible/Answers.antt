@@ -83,10 +83,13 @@ pub returns : goal.returns
 returns c =
     let a = c.args in
     let fits = c.add-first.ensures.fits in
-    let few = c.requires.1 in record { value = λ i. record {
+    let few = c.requires.1 in record {
+      value = λ i. record {
         first = (to_z-of_z c.add-first.ensures.fits ∙ first_is c.before.before.before.before.before) i;
         count =
             (c.least.ensures ∙ (λ j. min (a.rows.count - above_is c.before.before.before.before.before.before.before.before j)
             ((room_is c.before.before ∙ ap (λ (z : ℤ). floor0 (pos a.height -ℤ z))
             (first_is c.before.before.before.before.before)) j))) i;
-      }; near = (rw (to_z-of_z c.add-first.ensures.fits) (first_near c.before.before.before.before.before), omega (arith, c.least.ensures)) }
+      };
+      near = (rw (to_z-of_z c.add-first.ensures.fits) (first_near c.before.before.before.before.before), omega (arith, c.least.ensures));
+    }

@@ -122,11 +122,15 @@ pub row-found-requires : goal.row-found-requires
 row-found-requires c = record { ready_ellipse = c.requires.ready_ellipse; near = rw (to_z-of_z c.add-row_y.ensures.fits) (painted_near (row_near c)) }
 
 pub paint_twice-requires : goal.paint_twice-requires
-paint_twice-requires c = record { canvas_len = c.loop-dy.invariant.size; width_le_wide_side = c.requires.width_le_wide_side; near = (
-          rw (to_z-of_z c.add-row_y.ensures.fits) (row_near c.before.before),
-          rw (to_z-of_z c.add-mirrored_y.ensures.fits)
-              (mirror_near c.before.before),
-        ) }
+paint_twice-requires c = record {
+  canvas_len = c.loop-dy.invariant.size;
+  width_le_wide_side = c.requires.width_le_wide_side;
+  near = (
+    rw (to_z-of_z c.add-row_y.ensures.fits) (row_near c.before.before),
+    rw (to_z-of_z c.add-mirrored_y.ensures.fits)
+        (mirror_near c.before.before),
+  );
+}
 
 pub overflow_add-dy : goal.overflow_add-dy
 overflow_add-dy c = omega (arith, int)

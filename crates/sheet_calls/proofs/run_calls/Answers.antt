@@ -69,19 +69,27 @@ room_passed c =
 pub returns-in_default : goal.returns-in_default
 returns-in_default c =
     let a = c.args in
-    let told = c.in_default.is in record { answer_value = ap (λ (r : Refusal). refused_by (number r)) (refusal_found c.refusal.ensures c.in_default.is)
+    let told = c.in_default.is in record {
+      answer_value = ap (λ (r : Refusal). refused_by (number r)) (refusal_found c.refusal.ensures c.in_default.is)
           ∙ sym (run_refused a.width a.height a.calls.now (length a.canvas.now) (length a.answers.now) _
-          (sym (checked c.before.before.before) ∙ c.in_default.is)); run_leaves = record { sheet = c.open-opened.ensures.sheet_value; kept_canvas = refl; kept_answers = refl }; background_value = refl }
+          (sym (checked c.before.before.before) ∙ c.in_default.is));
+      run_leaves = record { sheet = c.open-opened.ensures.sheet_value; kept_canvas = refl; kept_answers = refl };
+      background_value = refl;
+    }
 
 -- no list of calls
 pub returns-then-not-encodes_calls : goal.returns-then-not-encodes_calls
 returns-then-not-encodes_calls c =
     let a = c.args in
-    let none = sym c.encodes_calls.ensures ∙ c.if-not-encodes_calls.true in record { answer_value = sym (run_not_calls a.width a.height a.calls.now (length a.canvas.now) (length a.answers.now) (passed c.before.before.before) none); run_leaves = record {
-          sheet = c.open-opened.ensures.sheet_value;
-          kept_canvas = refl;
-          kept_answers = refl;
-        }; background_value = refl }
+    let none = sym c.encodes_calls.ensures ∙ c.if-not-encodes_calls.true in record {
+      answer_value = sym (run_not_calls a.width a.height a.calls.now (length a.canvas.now) (length a.answers.now) (passed c.before.before.before) none);
+      run_leaves = record {
+        sheet = c.open-opened.ensures.sheet_value;
+        kept_canvas = refl;
+        kept_answers = refl;
+      };
+      background_value = refl;
+    }
 
 pub make_calls-made-requires : goal.make_calls-made-requires
 make_calls-made-requires c = record { count_in_bounds = omega arith; count_in_bounds_2 = room_passed c.before.before.before.before.before }
@@ -93,6 +101,10 @@ returns c =
     let size = passed_first (canvas_size_check a.width a.height) (canvas_length_check a.width a.height (length a.canvas.now))
     (sizes_passed c.before.before.before.before.before.before.before.before.before.before) in
     let long = passed_next (canvas_size_check a.width a.height) (canvas_length_check a.width a.height (length a.canvas.now))
-    (sizes_passed c.before.before.before.before.before.before.before.before.before.before) in record { answer_value = sym (run_accepted a.width a.height a.calls.now (length a.canvas.now) (length a.answers.now) (passed c.before.before.before.before.before.before.before.before.before.before) calls); run_leaves = run_from_lem a.width a.height a.canvas.now a.answers.now (calls_of a.background.now a.calls.now) size long
-            c.open-opened.result.sheet c.open-opened.ensures.sheet_value
-            c.make_calls-made.ensures.answers_after c.make_calls-made.ensures.value c.make_calls-made.ensures.canvas_after; background_value = refl }
+    (sizes_passed c.before.before.before.before.before.before.before.before.before.before) in record {
+      answer_value = sym (run_accepted a.width a.height a.calls.now (length a.canvas.now) (length a.answers.now) (passed c.before.before.before.before.before.before.before.before.before.before) calls);
+      run_leaves = run_from_lem a.width a.height a.canvas.now a.answers.now (calls_of a.background.now a.calls.now) size long
+          c.open-opened.result.sheet c.open-opened.ensures.sheet_value
+          c.make_calls-made.ensures.answers_after c.make_calls-made.ensures.value c.make_calls-made.ensures.canvas_after;
+      background_value = refl;
+    }

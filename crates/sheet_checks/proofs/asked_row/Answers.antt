@@ -115,23 +115,32 @@ owed c =
 -- 7
 pub returns-then-not-tested : goal.returns-then-not-tested
 returns-then-not-tested c =
-    let a = c.args in record { by_index = λ canvas long. sym (paint_broken a.size.width a.size.height a.count a.places (sixteen c.before.before.before.before) a.layer canvas
-          (sym c.test_rules-tested.ensures.kept_value ∙ not-true _ c.if-not-tested.true)); next_row = tt }
+    let a = c.args in record {
+      by_index = λ canvas long. sym (paint_broken a.size.width a.size.height a.count a.places (sixteen c.before.before.before.before) a.layer canvas
+          (sym c.test_rules-tested.ensures.kept_value ∙ not-true _ c.if-not-tested.true));
+      next_row = tt;
+    }
 
 -- 8
 pub returns-in_default : goal.returns-in_default
 returns-in_default c =
     let a = c.args in
-    let told = c.in_default.is in record { by_index = λ canvas long. ap Refused (refusal_found c.refusal.ensures c.in_default.is) ∙ sym
+    let told = c.in_default.is in record {
+      by_index = λ canvas long. ap Refused (refusal_found c.refusal.ensures c.in_default.is) ∙ sym
           (paint_length a.size.width a.size.height a.count a.places (sixteen c.before.before.before.before.before.before.before) a.layer canvas
           (rules c.before.before.before) _
-          (ap (canvas_length_check a.size.width a.size.height) long ∙ sym c.check_length-sized.ensures ∙ c.in_default.is)); next_row = tt }
+          (ap (canvas_length_check a.size.width a.size.height) long ∙ sym c.check_length-sized.ensures ∙ c.in_default.is));
+      next_row = tt;
+    }
 
 -- 10
 pub returns-then-count-layer : goal.returns-then-count-layer
 returns-then-count-layer c =
-    let a = c.args in record { by_index = λ canvas long. sym (paint_no_layer a.size.width a.size.height a.count a.places (sixteen c.before.before.before.before.before.before.before) a.layer canvas
-          (rules c.before.before.before) (size c.before canvas long) c.if-count-layer.true); next_row = tt }
+    let a = c.args in record {
+      by_index = λ canvas long. sym (paint_no_layer a.size.width a.size.height a.count a.places (sixteen c.before.before.before.before.before.before.before) a.layer canvas
+          (rules c.before.before.before) (size c.before canvas long) c.if-count-layer.true);
+      next_row = tt;
+    }
 
 pub bounds-rows-place : goal.bounds-rows-place
 bounds-rows-place c =
@@ -140,10 +149,13 @@ bounds-rows-place c =
 
 pub returns-then-own-next : goal.returns-then-own-next
 returns-then-own-next c =
-    let a = c.args in record { by_index = λ canvas long.
+    let a = c.args in record {
+      by_index = λ canvas long.
           sym (paint_finished a.size.width a.size.height a.count a.places (sixteen c.before.before.before.before.before.before.before.before.before.before.before.before) a.layer canvas
           (rules c.before.before.before.before.before.before.before.before) (size c.before.before.before.before.before.before canvas long)
-          c.if-count-layer.false (by_end c.before.before.before.before c.if-own-next.true)); next_row = tt }
+          c.if-count-layer.false (by_end c.before.before.before.before c.if-own-next.true));
+      next_row = tt;
+    }
 
 pub some_owes-requires : goal.some_owes-requires
 some_owes-requires c =
@@ -152,16 +164,22 @@ some_owes-requires c =
 
 pub returns-then-some_owes : goal.returns-then-some_owes
 returns-then-some_owes c =
-    let a = c.args in record { by_index = λ canvas long.
+    let a = c.args in record {
+      by_index = λ canvas long.
           sym (paint_owed a.size.width a.size.height a.count a.places (sixteen c.before.before.before.before.before.before.before.before.before.before.before.before.before.before) a.layer canvas
           (rules c.before.before.before.before.before.before.before.before.before.before) (size c.before.before.before.before.before.before.before.before canvas long)
-          c.if-count-layer.false (by_end c.before.before.before.before.before.before c.if-own-next.false) (owed c.before ∙ c.if-some_owes.true)); next_row = tt }
+          c.if-count-layer.false (by_end c.before.before.before.before.before.before c.if-own-next.false) (owed c.before ∙ c.if-some_owes.true));
+      next_row = tt;
+    }
 
 -- the layer's next row
 pub returns : goal.returns
 unfolding layer_rows
 returns c =
-    let a = c.args in record { by_index = λ canvas long.
+    let a = c.args in record {
+      by_index = λ canvas long.
           sym (paint_free a.size.width a.size.height a.count a.places (sixteen c.before.before.before.before.before.before.before.before.before.before.before.before.before.before) a.layer canvas
           (rules c.before.before.before.before.before.before.before.before.before.before) (size c.before.before.before.before.before.before.before.before canvas long)
-          c.if-count-layer.false (by_end c.before.before.before.before.before.before c.if-own-next.false) (owed c.before ∙ c.if-some_owes.false)); next_row = to_z-of_z (own_fits c.before.before.before.before.before.before).next ∙ ap (λ (r : LayerRows). r.next) (own_is c.before.before.before.before.before.before) }
+          c.if-count-layer.false (by_end c.before.before.before.before.before.before c.if-own-next.false) (owed c.before ∙ c.if-some_owes.false));
+      next_row = to_z-of_z (own_fits c.before.before.before.before.before.before).next ∙ ap (λ (r : LayerRows). r.next) (own_is c.before.before.before.before.before.before);
+    }

@@ -34,5 +34,8 @@ returns-then-count-gt-MAX_LAYERS c =
 pub returns : goal.returns
 returns c =
     let a = c.args in
-    let passed = sym c.check.ensures ∙ c.in-Passed.is in record { kept_value = c.test_rules.ensures.kept_value
-          ∙ kept_by_layers a.size.width a.size.height a.count a.places (sixteen c.before.before.before.before) passed c.if-count-gt-MAX_LAYERS.false; rows_value = c.test_rules.ensures.rows_value }
+    let passed = sym c.check.ensures ∙ c.in-Passed.is in record {
+      kept_value = c.test_rules.ensures.kept_value
+          ∙ kept_by_layers a.size.width a.size.height a.count a.places (sixteen c.before.before.before.before) passed c.if-count-gt-MAX_LAYERS.false;
+      rows_value = c.test_rules.ensures.rows_value;
+    }

@@ -131,9 +131,13 @@ lay_over-requires-2 c =
     let limits = pre.1.1.0 in
     let high = limits.1 in
     let places = pre.1.1.1 in
-    let few = places.1 in record { canvas_len = ap length c.lay_over.ensures
+    let few = places.1 in record {
+      canvas_len = ap length c.lay_over.ensures
           ∙ laid_over_length a.size.width a.size.height _ _ (earlier_of c.before.before.before.before.before.before.before.before.before.before.before) _
-          (copied_long c.before.before.before.before.before.before.before.before); width_le_max_canvas_side = (limits.0, omega (arith, to_is c.before.before.before.before.before.before.before.before.before.before.before)); end_le_max_layers = (few, places.2) }
+          (copied_long c.before.before.before.before.before.before.before.before);
+      width_le_max_canvas_side = (limits.0, omega (arith, to_is c.before.before.before.before.before.before.before.before.before.before.before));
+      end_le_max_layers = (few, places.2);
+    }
 
 pub returns : goal.returns
 returns c =

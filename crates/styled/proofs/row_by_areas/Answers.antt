@@ -87,12 +87,16 @@ sub-inward-requires c =
 pub ellipse_row_at-requires : goal.ellipse_row_at-requires
 ellipse_row_at-requires c =
     let small = c.requires.stroke_width_bound in
-    let near = c.requires.near in record { own_rectangle = subst OwnFigure c.in-Ellipse.is c.requires.own_figure; outside_le_wide_offset = (
-          omega
-              (arith, c.outside_stroke_width-outside.ensures, outside_within_stroke c.args.style),
-          omega
-              (arith, c.inside_stroke_width-inside.ensures, inside_within_stroke c.args.style),
-        ); near = rw (to_z-of_z near.fits) near }
+    let near = c.requires.near in record {
+      own_rectangle = subst OwnFigure c.in-Ellipse.is c.requires.own_figure;
+      outside_le_wide_offset = (
+        omega
+            (arith, c.outside_stroke_width-outside.ensures, outside_within_stroke c.args.style),
+        omega
+            (arith, c.inside_stroke_width-inside.ensures, inside_within_stroke c.args.style),
+      );
+      near = rw (to_z-of_z near.fits) near;
+    }
 
 pub crate_row_at-requires : goal.crate_row_at-requires
 crate_row_at-requires c =

@@ -45,8 +45,8 @@ widths c =
 is_box : (c : Joined-figure) → IsBox c.args.figure c.match-figure.b
 is_box c =
     elim c.match-figure.branch [
-      in-CrateBox w ↦ inl (w.in-CrateBox.is ∙ ap CrateBox (sym w.b-is))
-    | in-W3cBox w ↦ inr (w.in-W3cBox.is ∙ ap W3cBox (sym w.b-is))
+      | in-CrateBox w ↦ inl (w.in-CrateBox.is ∙ ap CrateBox (sym w.b-is))
+      | in-W3cBox w ↦ inr (w.in-W3cBox.is ∙ ap W3cBox (sym w.b-is))
     ]
 
 pub straight_row-requires : goal.straight_row-requires

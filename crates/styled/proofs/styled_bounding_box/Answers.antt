@@ -52,13 +52,16 @@ offset-requires c =
     let passed = sym (checked c.before.before.before.before) ∙ c.in-Passed.is in
     let f = c.args.figure in
     let is = c.from_u32-outside.ensures.is in
-    let own = own_rectangle_bounded f (figure_passed f (passed_first (figure_check f) (style_check c.args.style) passed)) in record { bounded = subst Bounded (sym c.own_rectangle-rectangle.ensures) own; near = omega (
+    let own = own_rectangle_bounded f (figure_passed f (passed_first (figure_check f) (style_check c.args.style) passed)) in record {
+      bounded = subst Bounded (sym c.own_rectangle-rectangle.ensures) own;
+      near = omega (
         arith,
         int,
         c.outside_stroke_width.ensures,
         outside_passed c.args.style
             (passed_next (figure_check f) _ passed),
-      ) }
+      );
+    }
 
 pub returns : goal.returns
 returns c =

@@ -42,14 +42,17 @@ sub-requires c =
 
 pub area-requires : goal.area-requires
 area-requires c =
-    let small = c.requires.stroke_width_bound in record { own_figure = c.requires.own_figure; near = omega (
+    let small = c.requires.stroke_width_bound in record {
+      own_figure = c.requires.own_figure;
+      near = omega (
         arith,
         int,
         opposite c,
         c.inside_stroke_width.ensures,
         inside_within_stroke
             c.args.style,
-      ) }
+      );
+    }
 
 pub returns : goal.returns
 returns c =

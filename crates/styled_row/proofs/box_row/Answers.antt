@@ -39,11 +39,15 @@ fill_alone-requires c =
     let area = c.requires.confined_area_box.rectangle in
     let near = c.requires.near in
     let r = c.args.area.rectangle in
-    let ends = subst (RowWithin r.top_left.x r.size.width) c.in-Run.is c.row.ensures.1 in record { bounded_box = area_box_bounded _ c.requires.confined_area_box_2; near = rw (to_z-of_z near.fits) near; near_run = record {
-          start = start_is_near _ _ _ area.at.x area.size.width ends;
-          end = end_is_near _ _ _ area.at.x
-              area.size.width ends;
-        } }
+    let ends = subst (RowWithin r.top_left.x r.size.width) c.in-Run.is c.row.ensures.1 in record {
+      bounded_box = area_box_bounded _ c.requires.confined_area_box_2;
+      near = rw (to_z-of_z near.fits) near;
+      near_run = record {
+        start = start_is_near _ _ _ area.at.x area.size.width ends;
+        end = end_is_near _ _ _ area.at.x
+            area.size.width ends;
+      };
+    }
 
 pub returns : goal.returns
 unfolding box_styled_row

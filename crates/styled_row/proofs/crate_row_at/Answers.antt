@@ -46,9 +46,13 @@ confined-inner-requires c = inner_bounded c
 
 pub box_row-requires : goal.box_row-requires
 box_row-requires c =
-    let near = c.requires.near_2 in record { confined_area_box = subst ConfinedAreaBox (sym c.confined-area.ensures)
-          (confined_bounded _ (outer_bounded c.before.before.before)); confined_area_box_2 = subst ConfinedAreaBox (sym c.confined-inner.ensures) (confined_bounded _ (inner_bounded c.before)); near = rw
-            (to_z-of_z near.fits) near }
+    let near = c.requires.near_2 in record {
+      confined_area_box = subst ConfinedAreaBox (sym c.confined-area.ensures)
+          (confined_bounded _ (outer_bounded c.before.before.before));
+      confined_area_box_2 = subst ConfinedAreaBox (sym c.confined-inner.ensures) (confined_bounded _ (inner_bounded c.before));
+      near = rw
+          (to_z-of_z near.fits) near;
+    }
 
 pub returns : goal.returns
 returns c =

@@ -61,20 +61,27 @@ sub-requires c =
 pub offset-inner-requires : goal.offset-inner-requires
 offset-inner-requires c =
     let small = c.requires.outside_le_wide_offset in
-    let inside = c.args.inside in record { bounded = area_bounded _ (own_area _ c.requires.own_rectangle); near = omega
-          (arith, int, opposite c, positive_of_opposite (pos inside), negative_of_opposite (pos inside)) }
+    let inside = c.args.inside in record {
+      bounded = area_bounded _ (own_area _ c.requires.own_rectangle);
+      near = omega
+          (arith, int, opposite c, positive_of_opposite (pos inside), negative_of_opposite (pos inside));
+    }
 
 pub ellipse_row-requires : goal.ellipse_row-requires
 ellipse_row-requires c =
     let small = c.requires.outside_le_wide_offset in
     let near = c.requires.near in
-    let inside = c.args.inside in record { bounded = area_bounded _
+    let inside = c.args.inside in record {
+      bounded = area_bounded _
           (subst AreaRectangle (sym (area_is c.before.before.before.before))
-          (offset_area c.args.rectangle (pos c.args.outside) c.requires.own_rectangle (omega (arith, int)))); size_up_to = (area_bounded _
-            (subst AreaRectangle (sym (inner_is c.before))
-            (offset_area c.args.rectangle (neg_ℤ (pos inside)) c.requires.own_rectangle
-            (omega (arith, int, positive_of_opposite (pos inside), negative_of_opposite (pos inside)))))
-            ).size; near = rw (to_z-of_z near.fits) near }
+          (offset_area c.args.rectangle (pos c.args.outside) c.requires.own_rectangle (omega (arith, int))));
+      size_up_to = (area_bounded _
+          (subst AreaRectangle (sym (inner_is c.before))
+          (offset_area c.args.rectangle (neg_ℤ (pos inside)) c.requires.own_rectangle
+          (omega (arith, int, positive_of_opposite (pos inside), negative_of_opposite (pos inside)))))
+          ).size;
+      near = rw (to_z-of_z near.fits) near;
+    }
 
 pub returns : goal.returns
 returns c =

@@ -98,11 +98,15 @@ filled_between-requires c =
     let inner = area_bounded _ c.requires.area_rectangle_2 in
     let a = c.args.area in
     let ends = subst (EndsWithin a.top_left.x a.size.width) (sym (run_is c.before.before))
-    (between_within a.top_left.x a.size.width (record { left = 0; right = 0 }) (omega arith) (omega arith)) in record { near = rw (to_z-of_z inner.at.x.fits) inner.at.x; width_le_wide_stroke_side = (c.requires.area_rectangle_2.size.width, omega arith); near_run = record {
-          start = start_is_near _ _ _ area.at.x
-              area.size.width ends;
-          end = end_is_near _ _ _ area.at.x area.size.width ends;
-        } }
+    (between_within a.top_left.x a.size.width (record { left = 0; right = 0 }) (omega arith) (omega arith)) in record {
+      near = rw (to_z-of_z inner.at.x.fits) inner.at.x;
+      width_le_wide_stroke_side = (c.requires.area_rectangle_2.size.width, omega arith);
+      near_run = record {
+        start = start_is_near _ _ _ area.at.x
+            area.size.width ends;
+        end = end_is_near _ _ _ area.at.x area.size.width ends;
+      };
+    }
 
 pub returns : goal.returns
 returns c = λ c₁ d reach_c reach_d.

@@ -77,14 +77,17 @@ sub-requires c =
 
 pub offset-inner-requires : goal.offset-inner-requires
 offset-inner-requires c =
-    let small = c.requires.outside_le_wide_offset in record { bounded = area_bounded _ (own_area _ c.requires.own_box.rectangle); near = omega (
+    let small = c.requires.outside_le_wide_offset in record {
+      bounded = area_bounded _ (own_area _ c.requires.own_box.rectangle);
+      near = omega (
         arith,
         int,
         opposite c,
         positive_of_opposite (pos c.args.inside),
         negative_of_opposite
             (pos c.args.inside),
-      ) }
+      );
+    }
 
 pub overflow_add-upper : goal.overflow_add-upper
 overflow_add-upper c =
@@ -105,10 +108,14 @@ row_past-requires c =
     let own = c.requires.own_box.rectangle in
     let small = c.requires.outside_le_wide_offset in
     let near = c.requires.near in
-    let inside = c.args.inside in record { area_rectangle = subst AreaRectangle (sym (area_is c.before.before.before.before.before))
-          (offset_area c.args.b.rectangle (pos c.args.outside) own (omega (arith, int))); area_rectangle_2 = subst AreaRectangle (sym (inner_is c.before.before))
-            (offset_area c.args.b.rectangle (neg_ℤ (pos inside)) own
-            (omega (arith, int, positive_of_opposite (pos inside), negative_of_opposite (pos inside)))); near = rw (to_z-of_z near.fits) near }
+    let inside = c.args.inside in record {
+      area_rectangle = subst AreaRectangle (sym (area_is c.before.before.before.before.before))
+          (offset_area c.args.b.rectangle (pos c.args.outside) own (omega (arith, int)));
+      area_rectangle_2 = subst AreaRectangle (sym (inner_is c.before.before))
+          (offset_area c.args.b.rectangle (neg_ℤ (pos inside)) own
+          (omega (arith, int, positive_of_opposite (pos inside), negative_of_opposite (pos inside))));
+      near = rw (to_z-of_z near.fits) near;
+    }
 
 -- the box's own corners reach as far as was found
 own_reach : (c : After-row_past) → Reach c.args.b.corners
@@ -144,5 +151,8 @@ told c r s t r_within s_within t_within =
 pub returns : goal.returns
 unfolding confined confined_w3c offset_box spread_box
 returns c =
-    let b = c.args.b in record { told = told c b.corners _ _ (radii_themselves b.corners) (confine_within _ _) (confine_within _ _); told_2 = told c _ _ _ (w3c_within b.corners b.rectangle.size) (radii_within_trans (w3c_within _ _) (spread_within_offset _ _))
-          (radii_within_trans (w3c_within _ _) (spread_within_offset _ _)) }
+    let b = c.args.b in record {
+      told = told c b.corners _ _ (radii_themselves b.corners) (confine_within _ _) (confine_within _ _);
+      told_2 = told c _ _ _ (w3c_within b.corners b.rectangle.size) (radii_within_trans (w3c_within _ _) (spread_within_offset _ _))
+          (radii_within_trans (w3c_within _ _) (spread_within_offset _ _));
+    }

@@ -40,9 +40,12 @@ shape-requires c =
     (passed_first (figure_check f) (point_check c.args.point) (sym (checked c.before) ∙ c.in-Passed.is)))
 
 pub contains-requires : goal.contains-requires
-contains-requires c = record { bounded_shape = c.shape.ensures.1; point_near = point_wider (omega arith)
-          (point_passed c.args.point (passed_next (figure_check c.args.self) _
-          (sym (checked c.before.before) ∙ c.in-Passed.is))) }
+contains-requires c = record {
+  bounded_shape = c.shape.ensures.1;
+  point_near = point_wider (omega arith)
+      (point_passed c.args.point (passed_next (figure_check c.args.self) _
+      (sym (checked c.before.before) ∙ c.in-Passed.is)));
+}
 
 pub returns : goal.returns
 returns c =

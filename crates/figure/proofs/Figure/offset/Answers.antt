@@ -39,8 +39,11 @@ returns-in_default c = rw (sym (checked c.before.before) ∙ c.in_default.is)
 pub offset_by-requires : goal.offset_by-requires
 offset_by-requires c =
     let told = sym (checked c.before) ∙ c.in-Passed.is in
-    let near = offset_passed c.args.k (passed_next (figure_check c.args.self) _ told) in record { own_figure = figure_passed c.args.self (passed_first (figure_check c.args.self) (offset_check c.args.k) told); near = omega
-          (arith, int) }
+    let near = offset_passed c.args.k (passed_next (figure_check c.args.self) _ told) in record {
+      own_figure = figure_passed c.args.self (passed_first (figure_check c.args.self) (offset_check c.args.k) told);
+      near = omega
+          (arith, int);
+    }
 
 pub returns : goal.returns
 returns c =

@@ -17,10 +17,13 @@ with_center-requires c =
     let grown = offset_size_up_to wide_side wide_side r.size c.args.k c.requires.bounded.size near in
     let k_back = to_z-of_z c.ranges.k in
     let width = c.offset_side.ensures ∙ ap (offset_side r.size.width) k_back in
-    let height = c.offset_side-2.ensures ∙ ap (offset_side r.size.height) k_back in record { point_near = subst (PointNear (2 * wide_point)) (sym c.center.ensures) (center_near r c.requires.bounded); size_up_to = record {
+    let height = c.offset_side-2.ensures ∙ ap (offset_side r.size.height) k_back in record {
+      point_near = subst (PointNear (2 * wide_point)) (sym c.center.ensures) (center_near r c.requires.bounded);
+      size_up_to = record {
         width = let h = grown.width in omega (arith, width);
         height = let h = grown.height in omega (arith, height);
-      } }
+      };
+    }
 
 pub returns : goal.returns
 unfolding offset

@@ -59,11 +59,14 @@ pub contains-requires : goal.contains-requires
 contains-requires c =
     let column = column_place c.before in
     let row = row_place c.before in
-    let is = c.new.ensures.0 in record { ready_box = c.new.ensures.2; dx_lt_width = (
+    let is = c.new.ensures.0 in record {
+      ready_box = c.new.ensures.2;
+      dx_lt_width = (
         subst (λ (s : Size). c.in-At.dx < s.width) (sym c.new.ensures.0) column.1,
         subst
             (λ (s : Size). c.in-At-place_of.dy < s.height) (sym c.new.ensures.0) row.1,
-      ) }
+      );
+    }
 
 pub returns : goal.returns
 returns c =

@@ -36,12 +36,11 @@ pub place_of-requires : goal.place_of-requires
 place_of-requires c = omega (arith, int)
 
 pub returns-in_default : goal.returns-in_default
-returns-in_default c =
-    (
-      row_out _ _ (placed_told _ _ _ c.requires.bounded_box.at.y.fits c.requires.near.fits c.place_of.ensures
-          c.in_default.is),
-      tt,
-    )
+returns-in_default c = (
+  row_out _ _ (placed_told _ _ _ c.requires.bounded_box.at.y.fits c.requires.near.fits c.place_of.ensures
+      c.in_default.is),
+  tt,
+)
 
 pub insets-insets-requires : goal.insets-insets-requires
 insets-insets-requires c = record { ready_box = c.new.ensures.2; dy_lt_height = subst (λ (s : Size). c.in-At.dy < s.height) (sym c.new.ensures.0) (row_place c.before.before).1 }
@@ -50,11 +49,15 @@ pub run_between-requires : goal.run_between-requires
 run_between-requires c =
     let near = c.requires.bounded_box.at.x in
     let wide = c.requires.bounded_box.size.width in
-    let is = c.new.ensures.0 in record { near = rw (to_z-of_z near.fits) near; width_le_wide_side = omega arith; left_le_width = (
-          subst (λ (s : Size). c.insets-insets.result.left ≤ s.width) c.new.ensures.0 c.insets-insets.ensures.1,
-          subst
-              (λ (s : Size). c.insets-insets.result.right ≤ s.width) c.new.ensures.0 c.insets-insets.ensures.2,
-        ) }
+    let is = c.new.ensures.0 in record {
+      near = rw (to_z-of_z near.fits) near;
+      width_le_wide_side = omega arith;
+      left_le_width = (
+        subst (λ (s : Size). c.insets-insets.result.left ≤ s.width) c.new.ensures.0 c.insets-insets.ensures.1,
+        subst
+            (λ (s : Size). c.insets-insets.result.right ≤ s.width) c.new.ensures.0 c.insets-insets.ensures.2,
+      );
+    }
 
 pub returns : goal.returns
 returns c =

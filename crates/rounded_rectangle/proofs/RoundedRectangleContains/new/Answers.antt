@@ -5,8 +5,7 @@ use Rattle.rounded_rectangle.proofs.RoundedRectangleContains.new.Goals as goal
 
 pub returns : goal.returns
 returns c =
-    let at_new = c.new in
-    (
+    let at_new = c.new in (
       refl,
       corner_radii_by_fields c.new.ensures.0 c.new-2.ensures.0 c.new-3.ensures.0 c.new-4.ensures.0,
       record {

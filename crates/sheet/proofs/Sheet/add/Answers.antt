@@ -86,6 +86,9 @@ unfolding carried_out_sheet
 returns c =
     let a = c.args in
     let area = c.stroke_rows-area.ensures in
-    let first = to_z-of_z c.stroke_rows-area.ensures.near.0.fits ∙ ap (λ (r : StrokeRows). r.first) c.stroke_rows-area.ensures.value in record { answer_value = sym (passed c.before.before.before.before); sheet_value = ap (λ (z : ℤ). with_layer a.self (a.self.count + 1) a.self.count
+    let first = to_z-of_z c.stroke_rows-area.ensures.near.0.fits ∙ ap (λ (r : StrokeRows). r.first) c.stroke_rows-area.ensures.value in record {
+      answer_value = sym (passed c.before.before.before.before);
+      sheet_value = ap (λ (z : ℤ). with_layer a.self (a.self.count + 1) a.self.count
           (record { figure = a.figure; style = a.style; next_row = z })) first
-          ∙ sym (added_record a.self (sixteen c.before.before.before.before.before.before.before.before.before) [] (item c.before.before.before.before.before.before.before.before.before) (passed c.before.before.before.before)) }
+          ∙ sym (added_record a.self (sixteen c.before.before.before.before.before.before.before.before.before) [] (item c.before.before.before.before.before.before.before.before.before) (passed c.before.before.before.before));
+    }

@@ -123,5 +123,9 @@ unfolding carried_out_sheet
 returns c =
     let a = c.args in
     let next = row_held c.before.before.before.before.before.before.before.before in
-    let moved = to_z-of_z c.add.ensures.fits ∙ c.add.ensures.is ∙ ap (λ (z : ℤ). z +ℤ pos 1) next in record { answer_value = sym (passed c.before.before.before.before.before.before.before.before); sheet_value = ap (put c.before.before.before.before.before.before.before.before) moved ∙ sym (painted_record a.self (sixteen c.before.before.before.before.before.before.before.before.before.before.before.before) a.canvas.now a.layer (passed c.before.before.before.before.before.before.before.before)); canvas_after = ◌∙◌ {b = written c.before.before.before.before.before.before.before.before (to_z w32 (of_z w32 c.in-Row.row))} c.paint_row.ensures
-            (ap (written c.before.before.before.before.before.before.before.before) next ∙ sym (painted_canvas a.self (sixteen c.before.before.before.before.before.before.before.before.before.before.before.before) a.canvas.now a.layer (passed c.before.before.before.before.before.before.before.before))) }
+    let moved = to_z-of_z c.add.ensures.fits ∙ c.add.ensures.is ∙ ap (λ (z : ℤ). z +ℤ pos 1) next in record {
+      answer_value = sym (passed c.before.before.before.before.before.before.before.before);
+      sheet_value = ap (put c.before.before.before.before.before.before.before.before) moved ∙ sym (painted_record a.self (sixteen c.before.before.before.before.before.before.before.before.before.before.before.before) a.canvas.now a.layer (passed c.before.before.before.before.before.before.before.before));
+      canvas_after = ◌∙◌ {b = written c.before.before.before.before.before.before.before.before (to_z w32 (of_z w32 c.in-Row.row))} c.paint_row.ensures
+          (ap (written c.before.before.before.before.before.before.before.before) next ∙ sym (painted_canvas a.self (sixteen c.before.before.before.before.before.before.before.before.before.before.before.before) a.canvas.now a.layer (passed c.before.before.before.before.before.before.before.before)));
+    }

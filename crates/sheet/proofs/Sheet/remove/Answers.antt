@@ -102,10 +102,15 @@ pub restore-requires : goal.restore-requires
 restore-requires c =
     let s = sheet c.before.before.before.before in
     let accepted = told c.before.before.before in
-    let long = sixteen (entry c.before.before.before.before) in record { canvas_len = accepted.size; background_len = accepted.long; width_le_max_canvas_side = (
-            kept_width s.width s.height s.count s.layers long accepted.rules,
-            kept_height s.width s.height s.count s.layers long accepted.rules,
-          ); place_lt_count = (accepted.within, few c.before.before.before, ready c.before.before.before) }
+    let long = sixteen (entry c.before.before.before.before) in record {
+      canvas_len = accepted.size;
+      background_len = accepted.long;
+      width_le_max_canvas_side = (
+        kept_width s.width s.height s.count s.layers long accepted.rules,
+        kept_height s.width s.height s.count s.layers long accepted.rules,
+      );
+      place_lt_count = (accepted.within, few c.before.before.before, ready c.before.before.before);
+    }
 
 pub overflow_sub-result : goal.overflow_sub-result
 overflow_sub-result c = let within = (told c.before.before.before.before.before.before).within in omega arith
@@ -119,8 +124,13 @@ unfolding carried_out_sheet
 returns c =
     let a = c.args in
     let s = a.self in
-    let own = layer_of (get_or s.layers a.layer blank_layer) in record { answer_value = sym (passed c.before.before.before.before.before.before.before); sheet_value = ap (λ (l : List Layer). record { width = s.width; height = s.height; count = s.count - 1; layers = l }) c.without.ensures
-            ∙ sym (removed_record s (sixteen c.before.before.before.before.before.before.before.before.before.before.before.before.before) a.canvas.now a.layer a.background.now (passed c.before.before.before.before.before.before.before)); canvas_after = c.restore.ensures
-              ∙ ap (λ (l : Layers drawing). restored drawing s.width s.height (some own) (without a.layer l) a.background.now
-              a.canvas.now) (sym (layers_are s.count s.layers (sixteen c.before.before.before.before.before.before.before.before.before.before.before.before.before) (few c.before.before.before.before.before.before.before)))
-              ∙ sym (removed_canvas s (sixteen c.before.before.before.before.before.before.before.before.before.before.before.before.before) a.canvas.now a.layer a.background.now (passed c.before.before.before.before.before.before.before)); background_value = refl }
+    let own = layer_of (get_or s.layers a.layer blank_layer) in record {
+      answer_value = sym (passed c.before.before.before.before.before.before.before);
+      sheet_value = ap (λ (l : List Layer). record { width = s.width; height = s.height; count = s.count - 1; layers = l }) c.without.ensures
+          ∙ sym (removed_record s (sixteen c.before.before.before.before.before.before.before.before.before.before.before.before.before) a.canvas.now a.layer a.background.now (passed c.before.before.before.before.before.before.before));
+      canvas_after = c.restore.ensures
+          ∙ ap (λ (l : Layers drawing). restored drawing s.width s.height (some own) (without a.layer l) a.background.now
+          a.canvas.now) (sym (layers_are s.count s.layers (sixteen c.before.before.before.before.before.before.before.before.before.before.before.before.before) (few c.before.before.before.before.before.before.before)))
+          ∙ sym (removed_canvas s (sixteen c.before.before.before.before.before.before.before.before.before.before.before.before.before) a.canvas.now a.layer a.background.now (passed c.before.before.before.before.before.before.before));
+      background_value = refl;
+    }

@@ -90,21 +90,29 @@ run_between-run-requires c =
     let ready = c.requires.ready_styled_box in
     let area = area_bounded _ ready.area in
     let insets = c.row_insets-insets in
-    let same = sym ready.stroke_size in record { near = rw (to_z-of_z area.at.x.fits) area.at.x; width_le_wide_side = area.size.width; left_le_width = (
-          subst (λ (s : Size). c.row_insets-insets.result.left ≤ s.width) same c.row_insets-insets.ensures.1,
-          subst
-              (λ (s : Size). c.row_insets-insets.result.right ≤ s.width) same c.row_insets-insets.ensures.2,
-        ) }
+    let same = sym ready.stroke_size in record {
+      near = rw (to_z-of_z area.at.x.fits) area.at.x;
+      width_le_wide_side = area.size.width;
+      left_le_width = (
+        subst (λ (s : Size). c.row_insets-insets.result.left ≤ s.width) same c.row_insets-insets.ensures.1,
+        subst
+            (λ (s : Size). c.row_insets-insets.result.right ≤ s.width) same c.row_insets-insets.ensures.2,
+      );
+    }
 
 pub fill_run-found-requires : goal.fill_run-found-requires
 fill_run-found-requires c =
     let near = c.requires.near in
     let area = c.requires.ready_styled_box.area in
-    let ends = run_ends c.before.before.before in record { ready_fill = c.requires.ready_styled_box.fill; near = rw (to_z-of_z near.fits) near; near_run = record {
-          start = start_is_near _ _ _ area.at.x area.size.width ends;
-          end = end_is_near _ _ _ area.at.x
-              area.size.width ends;
-        } }
+    let ends = run_ends c.before.before.before in record {
+      ready_fill = c.requires.ready_styled_box.fill;
+      near = rw (to_z-of_z near.fits) near;
+      near_run = record {
+        start = start_is_near _ _ _ area.at.x area.size.width ends;
+        end = end_is_near _ _ _ area.at.x
+            area.size.width ends;
+      };
+    }
 
 pub returns : goal.returns
 unfolding box_styled_row

@@ -7,8 +7,11 @@ use Rattle.styled_row.specs.StyledRow.{box_styled_row, styled_row_of_shapes}
 use Rattle.styled_scan.proofs.StyledShape.new.Goals as goal
 
 pub new-requires : goal.new-requires
-new-requires c = record { bounded = area_bounded _ (subst BoundedShape c.in-Ellipse.is c.requires.bounded_shape); size_up_to = (area_bounded _
-          (subst BoundedShape c.in-Ellipse-fill.is c.requires.bounded_shape_2)).size }
+new-requires c = record {
+  bounded = area_bounded _ (subst BoundedShape c.in-Ellipse.is c.requires.bounded_shape);
+  size_up_to = (area_bounded _
+      (subst BoundedShape c.in-Ellipse-fill.is c.requires.bounded_shape_2)).size;
+}
 
 pub new-requires-in-RoundedBox-fill-2 : goal.new-requires-in-RoundedBox-fill-2
 new-requires-in-RoundedBox-fill-2 c = record { confined_area_box = subst BoundedShape c.in-RoundedBox.is c.requires.bounded_shape; confined_area_box_2 = subst BoundedShape c.in-RoundedBox-fill-2.is c.requires.bounded_shape_2 }

@@ -85,11 +85,15 @@ pub fill-filled-requires : goal.fill-filled-requires
 fill-filled-requires c =
     let start = entry c in
     let area = c.requires.ready_symmetric.area in
-    let ends = run_ends c in record { ready_symmetric = c.requires.ready_symmetric; corner_rows_bound = c.requires.corner_rows_bound; near_run = record {
-          start = start_is_near _ _ _ area.at.x
-              area.size.width ends;
-          end = end_is_near _ _ _ area.at.x area.size.width ends;
-        } }
+    let ends = run_ends c in record {
+      ready_symmetric = c.requires.ready_symmetric;
+      corner_rows_bound = c.requires.corner_rows_bound;
+      near_run = record {
+        start = start_is_near _ _ _ area.at.x
+            area.size.width ends;
+        end = end_is_near _ _ _ area.at.x area.size.width ends;
+      };
+    }
 
 pub returns : goal.returns
 unfolding box_styled_row
