@@ -23,7 +23,7 @@ pub fn run_calls(
         (length answers.old)) }
     ensures run_told { RunTold width height calls.now canvas.old background.now answers.old
         canvas.new answers.new }
-    ensures background_value { background.now ≡ background.now }
+    ensures background_value { background.exit.now ≡ background.entry.now }
 {
     let ran = sheet_calls::run_calls(width, height, calls, canvas, background, answers);
     let answer = ran.answer;

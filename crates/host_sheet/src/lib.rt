@@ -106,7 +106,7 @@ pub fn remove(sheet: &mut [i32], layer: u32, canvas: &mut [u8], background: &[u8
     ensures value { result ≡ remove_told sheet.old layer canvas.old background.now }
     ensures sheet_after { sheet.new ≡ remove_numbers sheet.old layer canvas.old background.now }
     ensures canvas_after { canvas.new ≡ remove_canvas sheet.old layer canvas.old background.now }
-    ensures background_value { background.now ≡ background.now }
+    ensures background_value { background.exit.now ≡ background.entry.now }
 {
     if !is_sheet(sheet) {
         return NO_RECORD;

@@ -146,7 +146,7 @@ impl Sheet {
         ensures answer_value { said result.answer ≡ sheet_answer self canvas.old (call_remove layer background.now) }
         ensures sheet_value { result.sheet ≡ sheet_after self canvas.old (call_remove layer background.now) }
         ensures canvas_after { canvas.new ≡ canvas_after self canvas.old (call_remove layer background.now) }
-        ensures background_value { background.now ≡ background.now }
+        ensures background_value { background.exit.now ≡ background.entry.now }
     {
         let size = CanvasSize {
             width: self.width,

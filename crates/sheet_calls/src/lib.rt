@@ -103,7 +103,7 @@ pub fn run_calls(
         (length answers.old) }
     ensures run_leaves { RunLeaves (run_said result.answer) width height (calls_of background.now calls.now)
         canvas.old answers.old result.sheet canvas.new answers.new }
-    ensures background_value { background.now ≡ background.now }
+    ensures background_value { background.exit.now ≡ background.entry.now }
 {
     let opened = Sheet::open(width, height);
     let sheet = opened.sheet;

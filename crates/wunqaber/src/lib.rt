@@ -144,7 +144,7 @@ pub extern "C" fn wunqaber_sheet_remove(
     ensures value { result ≡ remove_told sheet.old layer canvas.old background.now }
     ensures sheet_after { sheet.new ≡ remove_numbers sheet.old layer canvas.old background.now }
     ensures canvas_after { canvas.new ≡ remove_canvas sheet.old layer canvas.old background.now }
-    ensures background_value { background.now ≡ background.now }
+    ensures background_value { background.exit.now ≡ background.entry.now }
 {
     host_sheet::remove(sheet, layer, canvas, background)
 }
@@ -164,7 +164,7 @@ pub extern "C" fn wunqaber_run_calls(
         (length answers.old)) }
     ensures run_told { RunTold width height calls.now canvas.old background.now answers.old
         canvas.new answers.new }
-    ensures background_value { background.now ≡ background.now }
+    ensures background_value { background.exit.now ≡ background.entry.now }
 {
     host_calls::run_calls(width, height, calls, canvas, background, answers)
 }

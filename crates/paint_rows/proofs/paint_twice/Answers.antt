@@ -39,7 +39,7 @@ returns-then-not-twice c =
     let a = c.args in
     once_is c.before.before.before.before
     ∙ ap (λ (t : Bool). twice_by a.row a.style a.size.width a.size.height a.y a.other t a.canvas.now)
-    (sym (not-true a.twice c.if-not-twice.true))
+    (sym c.if-not-twice.true)
 
 pub paint_row_on-requires-2 : goal.paint_row_on-requires-2
 paint_row_on-requires-2 c =
@@ -55,4 +55,4 @@ returns c =
     (to_z-of_z c.requires.near.1.fits)
     ∙ ap (paint_by (λ _. a.row) a.style a.size.width a.size.height a.other) (once_is c.before.before.before.before.before.before.before.before)
     ∙ ap (λ (t : Bool). twice_by a.row a.style a.size.width a.size.height a.y a.other t a.canvas.now)
-    (sym (not-false a.twice c.if-not-twice.false))
+    (sym c.if-not-twice.false)

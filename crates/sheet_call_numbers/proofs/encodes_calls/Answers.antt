@@ -9,7 +9,6 @@ use lib.ListN.{length}
 use Rattle.sheet_call_numbers.specs.CallNumbers.{call_length, is_call, call_numbers, are_calls, call_count, encodes_calls}
 use Rattle.sheet_call_numbers.proofs.Walks.{call_part, call_part_length}
 use Rattle.host_records.proofs.Walks.{all_from_here, all_from_past}
-use Rattle.sheet_call_numbers.proofs.encodes_calls.Invariants.{numbers}
 use Rattle.sheet_call_numbers.proofs.encodes_calls.Lts
 use Rattle.sheet_call_numbers.proofs.encodes_calls.Reads
 use Rattle.sheet_call_numbers.proofs.encodes_calls.Tie
@@ -29,14 +28,14 @@ unfolding encodes_calls
 encodes c = rw (eq-eqb (length c.args.numbers.now % call_length) 0 c.if-numbers-ne0.false)
 
 step : (c : After-is_call) (t : Bool) → c.is_call.result ≡ t
-    → are_calls (numbers c) c.loop-j.j (call_count (numbers c) - c.loop-j.j)
-    ≡ (t && are_calls (numbers c) (c.loop-j.j + 1)
-    (call_count (numbers c) - (c.loop-j.j + 1)))
+    → are_calls c.args.numbers.now c.loop-j.j (call_count c.args.numbers.now - c.loop-j.j)
+    ≡ (t && are_calls c.args.numbers.now (c.loop-j.j + 1)
+    (call_count c.args.numbers.now - (c.loop-j.j + 1)))
 step c t found =
     let j = c.loop-j.j in
-    all_from_here (λ k. is_call (call_numbers (numbers c) k)) (call_count (numbers c)) c.loop-j.j c.loop-j-test.true
-    ∙ ap (λ (t : Bool). t && are_calls (numbers c) (c.loop-j.j + 1) (call_count (numbers c) - (c.loop-j.j + 1)))
-    (sym (c.is_call.ensures ∙ ap is_call (call_part (numbers c) c.loop-j.j)) ∙ found)
+    all_from_here (λ k. is_call (call_numbers c.args.numbers.now k)) (call_count c.args.numbers.now) c.loop-j.j c.loop-j-test.true
+    ∙ ap (λ (t : Bool). t && are_calls c.args.numbers.now (c.loop-j.j + 1) (call_count c.args.numbers.now - (c.loop-j.j + 1)))
+    (sym (c.is_call.ensures ∙ ap is_call (call_part c.args.numbers.now c.loop-j.j)) ∙ found)
 
 pub returns-then-numbers-ne0 : goal.returns-then-numbers-ne0
 unfolding encodes_calls
@@ -73,14 +72,14 @@ is_call-requires c =
 
 pub returns-then-not-is_call : goal.returns-then-not-is_call
 returns-then-not-is_call c =
-    sym (encodes c.before.before.before.before.before ∙ sym c.loop-j.invariant.1 ∙ step c.before false (not-true c.is_call.result c.if-not-is_call.true))
+    sym (encodes c.before.before.before.before.before ∙ sym c.loop-j.invariant.1 ∙ step c.before false c.if-not-is_call.true)
 
 pub loop-j-smaller : goal.loop-j-smaller
 loop-j-smaller c = omega arith
 
 pub loop-j-preserved : goal.loop-j-preserved
 loop-j-preserved c =
-    (omega arith, sym (step c.before true (not-false c.is_call.result c.if-not-is_call.false)) ∙ c.loop-j.invariant.1)
+    (omega arith, sym (step c.before true c.if-not-is_call.false) ∙ c.loop-j.invariant.1)
 
 pub returns : goal.returns
 returns c =

@@ -48,21 +48,21 @@ found c last =
 -- 7
 pub returns-then-not-kept : goal.returns-then-not-kept
 unfolding remove_check
-returns-then-not-kept c = rw (not-true c.args.kept c.if-not-kept.true)
+returns-then-not-kept c = rw c.if-not-kept.true
 
 -- 8
 pub returns-in_default : goal.returns-in_default
 unfolding remove_check
 returns-in_default c =
-    rw (not-false c.args.kept c.if-not-kept.false, found c.before _, c.in_default.is)
+    rw (c.if-not-kept.false, found c.before _, c.in_default.is)
 
 -- 10
 pub returns-then-layers-layer : goal.returns-then-layers-layer
 unfolding remove_check
 returns-then-layers-layer c =
-    rw (not-false c.args.kept c.if-not-kept.false, found c.before.before _, c.in-Passed.is, le-leb _ _ c.if-layers-layer.true)
+    rw (c.if-not-kept.false, found c.before.before _, c.in-Passed.is, le-leb _ _ c.if-layers-layer.true)
 
 pub returns : goal.returns
 unfolding remove_check
 returns c =
-    rw (not-false c.args.kept c.if-not-kept.false, found c.before.before _, c.in-Passed.is, lt-leb _ _ c.if-layers-layer.false)
+    rw (c.if-not-kept.false, found c.before.before _, c.in-Passed.is, lt-leb _ _ c.if-layers-layer.false)

@@ -45,7 +45,7 @@ pub returns-in_default : goal.returns-in_default
 returns-in_default c =
     let a = c.args in
     let whole =
-    broken_here a.t1 a.count (c.loop-i.i - 1) _ (step c.before.before) (here c.before.before)
+    broken_here a.layers a.count (c.loop-i.i - 1) _ (step c.before.before) (here c.before.before)
     (enough c.before.before.before.before.before.before) (sym c.in_default.is ∙ c.rows.ensures) in record { kept_value = not_kept c.broken.ensures ∙ sym whole; rows_value = λ kept. absurd (false≢true (sym (not_kept c.broken.ensures) ∙ kept)) }
 
 pub offset_bounds-rows-i : goal.offset_bounds-rows-i
@@ -63,7 +63,7 @@ loop-i-preserved c =
     let inv = c.loop-i.invariant in (
       omega arith,
       simp length-set c.loop-i.invariant.1,
-      found_here a.t1 a.count (c.loop-i.i - 1) _ (step c.before) (here c.before)
+      found_here a.layers a.count (c.loop-i.i - 1) _ (step c.before) (here c.before)
           (enough c.before.before.before.before.before) c.loop-i.rows (omega arith) c.loop-i.invariant.2 _
           (sym c.in-Kept.is ∙ c.rows.ensures),
     )
@@ -75,4 +75,4 @@ pub returns : goal.returns
 returns c =
     let a = c.args in
     let none : c.loop-i.i ≡ 0 = omega arith in
-    let all = subst (λ (n : ℕ). FoundFrom a.t1 a.count c.loop-i.rows n) none c.loop-i.invariant.2 in record { kept_value = c.in_order.ensures ∙ found_all a.t1 a.count c.loop-i.rows all; rows_value = λ kept. all.rows_are }
+    let all = subst (λ (n : ℕ). FoundFrom a.layers a.count c.loop-i.rows n) none c.loop-i.invariant.2 in record { kept_value = c.in_order.ensures ∙ found_all a.layers a.count c.loop-i.rows all; rows_value = λ kept. all.rows_are }

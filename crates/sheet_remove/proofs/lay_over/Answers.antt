@@ -86,7 +86,7 @@ loop-j-preserved c =
     let W = a.size.width in
     let H = a.size.height in
     let item = styled_figure (layer c.before.before.before.before.before.before).figure (layer c.before.before.before.before.before.before).style in
-    let rest = map layer_of (drop (c.loop-j.j + 1) (take a.end a.t3)) in
+    let rest = map layer_of (drop (c.loop-j.j + 1) (take a.end a.layers)) in
     let size = c.loop-j.invariant.1 ∙ c.requires.canvas_len in
     let few = c.requires.end_le_max_layers.0 in
     let done : c.paint_rows.new.canvas ≡ painted W H a.from a.to (layer c.before.before.before.before.before.before) c.loop-j.canvas =
@@ -95,7 +95,7 @@ loop-j-preserved c =
       ap (laid_over W H a.from a.to rest) done
           ∙ sym (laid_over_one W H a.from a.to (layer c.before.before.before.before.before.before) rest c.loop-j.canvas size)
           ∙ ap (λ (l : List Layer). laid_over W H a.from a.to (map layer_of l) c.loop-j.canvas)
-          (sym (place_here a.t3 a.end c.loop-j.j blank_layer (left c.before.before.before.before.before.before) (omega (arith, sixteen c.before.before.before.before.before.before.before.before.before.before.before.before.before.before.before.before))))
+          (sym (place_here a.layers a.end c.loop-j.j blank_layer (left c.before.before.before.before.before.before) (omega (arith, sixteen c.before.before.before.before.before.before.before.before.before.before.before.before.before.before.before.before))))
           ∙ c.loop-j.invariant.0,
       ap length done ∙ painted_length W H a.from a.to (layer c.before.before.before.before.before.before) rest c.loop-j.canvas size ∙ sym c.requires.canvas_len,
     )
@@ -109,5 +109,5 @@ returns c =
     let a = c.args in
     sym (laid_over_none a.size.width a.size.height a.from a.to c.loop-j.canvas (c.loop-j.invariant.1 ∙ c.requires.canvas_len))
     ∙ ap (λ (l : List Layer). laid_over a.size.width a.size.height a.from a.to (map layer_of l) c.loop-j.canvas)
-    (sym (place_past a.t3 a.end c.loop-j.j c.loop-j-test.false))
+    (sym (place_past a.layers a.end c.loop-j.j c.loop-j-test.false))
     ∙ c.loop-j.invariant.0

@@ -122,7 +122,7 @@ lay_over-requires c =
     let high = limits.1 in
     let places = pre.1.1.1 in
     let before = places.0 in
-    let few = places.1 in record { canvas_len = copied_long c.before.before.before.before; width_le_max_canvas_side = (limits.0, omega (arith, to_is c.before.before.before.before.before.before.before)); end_le_max_layers = (omega arith, ready_fewer a.layers a.t5 a.count a.place (omega arith) places.2) }
+    let few = places.1 in record { canvas_len = copied_long c.before.before.before.before; width_le_max_canvas_side = (limits.0, omega (arith, to_is c.before.before.before.before.before.before.before)); end_le_max_layers = (omega arith, ready_fewer a.layers a.rows a.count a.place (omega arith) places.2) }
 
 pub lay_over-requires-2 : goal.lay_over-requires-2
 lay_over-requires-2 c =

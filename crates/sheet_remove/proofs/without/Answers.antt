@@ -26,7 +26,7 @@ loop-j-preserved c =
     let walk = c.loop-j in
     let a = c.args in
     let moved =
-    one_moved a.t1 a.place (omega arith) blank_layer c.loop-j.moved c.loop-j.j c.loop-j.invariant.0 (omega arith) (omega arith)
+    one_moved a.places a.place (omega arith) blank_layer c.loop-j.moved c.loop-j.j c.loop-j.invariant.0 (omega arith) (omega arith)
     c.loop-j.invariant.3 in (
       omega arith,
       omega arith,
@@ -40,5 +40,5 @@ returns c =
     let a = c.args in
     let end : c.loop-j.j ≡ 15 = omega arith in
     rw c.blank.ensures
-    (all_moved a.t1 a.place (omega arith) blank_layer c.loop-j.moved 15 blank_layer (omega arith) (omega arith)
-    (subst (λ (n : ℕ). take n c.loop-j.moved ≡ take n (without a.place a.t1)) end c.loop-j.invariant.3))
+    (all_moved a.places a.place (omega arith) blank_layer c.loop-j.moved 15 blank_layer (omega arith) (omega arith)
+    (subst (λ (n : ℕ). take n c.loop-j.moved ≡ take n (without a.place a.places)) end c.loop-j.invariant.3))

@@ -30,8 +30,8 @@ step : (c : After-none_overtakes) (t : Bool) → c.none_overtakes.result ≡ t
 step c t found =
     let a = c.args in
     sym c.loop-i.invariant.1
-    ∙ order_here a.t1 a.count c.loop-i.i c.loop-i-test.true (enough c.before.before.before.before)
-    ∙ ap (λ (t : Bool). t && rows_in_order (drop (c.loop-i.i + 1) (take a.count a.t1))) (sym c.none_overtakes.ensures ∙ found)
+    ∙ order_here a.rows a.count c.loop-i.i c.loop-i-test.true (enough c.before.before.before.before)
+    ∙ ap (λ (t : Bool). t && rows_in_order (drop (c.loop-i.i + 1) (take a.count a.rows))) (sym c.none_overtakes.ensures ∙ found)
 
 pub loop-i-init : goal.loop-i-init
 loop-i-init c = (omega arith, refl)
@@ -54,4 +54,4 @@ loop-i-preserved c = (omega arith, sym (step c.before true (c.if-not-none_overta
 pub returns : goal.returns
 returns c =
     let a = c.args in
-    sym (sym c.loop-i.invariant.1 ∙ order_past a.t1 a.count c.loop-i.i c.loop-i-test.false)
+    sym (sym c.loop-i.invariant.1 ∙ order_past a.rows a.count c.loop-i.i c.loop-i-test.false)

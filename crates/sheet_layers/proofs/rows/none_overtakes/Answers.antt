@@ -40,9 +40,9 @@ step : (c : After-is_overtaken)
     c.args.rows)))
 step c =
     let a = c.args in
-    overtake_here a.t2 a.count c.loop-i.i a.earlier c.loop-i-test.true
+    overtake_here a.rows a.count c.loop-i.i a.earlier c.loop-i-test.true
     (enough c.before.before.before.before.before.before.before)
-    ∙ ap (λ (t : Bool). not t && no_rows_overtake a.earlier (drop (c.loop-i.i + 1) (take a.count a.t2)))
+    ∙ ap (λ (t : Bool). not t && no_rows_overtake a.earlier (drop (c.loop-i.i + 1) (take a.count a.rows)))
     (sym c.is_overtaken.ensures)
 
 pub returns-then-earlier : goal.returns-then-earlier
@@ -65,4 +65,4 @@ loop-i-preserved c = (omega arith, sym (step c.before.before ∙ rw c.if-is_over
 pub returns : goal.returns
 returns c =
     let a = c.args in
-    sym (sym c.loop-i.invariant.1 ∙ overtake_past a.t2 a.count c.loop-i.i a.earlier c.loop-i-test.false)
+    sym (sym c.loop-i.invariant.1 ∙ overtake_past a.rows a.count c.loop-i.i a.earlier c.loop-i-test.false)

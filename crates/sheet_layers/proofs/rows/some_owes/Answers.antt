@@ -43,7 +43,7 @@ step : (c : After-owes) (t : Bool) → c.owes.result ≡ t → owed_from c (plac
 step c t found =
     let a = c.args in
     let here = c.loop-i-test.true in
-    owe_here a.t1 a.layers (place c) (to_z w32 (of_z w32 a.y)) c.loop-i-test.true (enough c.before.before.before.before)
+    owe_here a.rows a.layers (place c) (to_z w32 (of_z w32 a.y)) c.loop-i-test.true (enough c.before.before.before.before)
     ∙ ap (λ (u : Bool). u || owed_from c (place c + 1)) (sym c.owes.ensures ∙ found)
 
 pub loop-i-init : goal.loop-i-init
@@ -60,5 +60,5 @@ loop-i-preserved c =
 pub returns : goal.returns
 returns c =
     let a = c.args in
-    sym (held_row c.before.before (sym c.loop-i.invariant.1 ∙ owe_past a.t1 a.layers c.loop-i.i (to_z w32 (of_z w32 a.y))
+    sym (held_row c.before.before (sym c.loop-i.invariant.1 ∙ owe_past a.rows a.layers c.loop-i.i (to_z w32 (of_z w32 a.y))
     c.loop-i-test.false))
