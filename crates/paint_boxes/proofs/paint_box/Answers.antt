@@ -43,7 +43,7 @@ whole c =
 
 pub paint_symmetric_box-requires : goal.paint_symmetric_box-requires
 paint_symmetric_box-requires c =
-    let pre = c.requires in record { canvas_len = pre.0; width_le_wide_side = pre.1.0; ready_symmetric = (whole c.before).0.2 }
+    record { canvas_len = c.requires.canvas_len; width_le_wide_side = c.requires.width_le_wide_side; ready_symmetric = (whole c.before).0.2 }
 
 pub returns : goal.returns
 returns c =

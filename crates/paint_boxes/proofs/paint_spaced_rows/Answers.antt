@@ -25,7 +25,7 @@ abbrev In-loop-left : Type 0
 In-loop-left = Lts.In-loop Tie.the-claims Reads.Pre Reads.Post goal.the-invariant-loop-left goal.the-decreases-loop-left Tie.handed_clauses
 
 -- the row of this turn is a row of a figure
-here_near : (c : In-loop-left) → Near wide_painted (to_z w32 c.loop-left.row-y)
+here_near : (c : In-loop-left) → Near wide_painted (to_z w32 c.loop-left.row_y-bits)
 here_near c =
     first_near _ _ _ _ _ _ _ _ _ c.loop-left.left c.loop-left.canvas c.loop-left-test.true c.loop-left.invariant
 
@@ -64,13 +64,13 @@ loop-left-preserved c =
     let call = c.paint_row_on in
     let down = c.from_u32.ensures.is in
     let sum = c.add-row_y.ensures.is in
-    let moved : to_z w32 c.loop-left.row-y +ℤ pos a.step ≡ c.add-row_y.result = omega
-    (arith, int, add_law (to_z w32 c.loop-left.row-y) (pos a.step)) in
+    let moved : (to_z w32 c.loop-left.row_y-bits) +ℤ pos a.step ≡ c.add-row_y.result = omega
+    (arith, int, add_law (to_z w32 c.loop-left.row_y-bits) (pos a.step)) in
     let same : length c.paint_row_on.new.canvas ≡ length c.loop-left.canvas = search rules in
     subst (λ (z : ℤ). SpacedLeft a.row a.style a.size.width a.size.height (to_z w32 (of_z w32 a.y)) a.step
     a.count a.canvas.now z (c.loop-left.left - 1) c.paint_row_on.new.canvas) (moved ∙ sym (to_z-of_z c.add-row_y.ensures.fits))
     (spaced_turn a.row a.style a.size.width a.size.height (to_z w32 (of_z w32 a.y)) a.step a.count
-    a.canvas.now (to_z w32 c.loop-left.row-y) c.loop-left.left c.loop-left.canvas c.paint_row_on.new.canvas c.loop-left-test.true same
+    a.canvas.now (to_z w32 c.loop-left.row_y-bits) c.loop-left.left c.loop-left.canvas c.paint_row_on.new.canvas c.loop-left-test.true same
     c.paint_row_on.ensures c.loop-left.invariant)
 
 pub returns : goal.returns
