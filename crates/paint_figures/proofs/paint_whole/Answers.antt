@@ -52,17 +52,15 @@ new-requires c = record { bounded_shape = c.stroke_shape-stroke.ensures.1; bound
 
 pub paint_ellipse-requires : goal.paint_ellipse-requires
 paint_ellipse-requires c =
-    let pre = c.requires in
     let seen = c.visible-seen.ensures.near in
     let near = c.visible-seen.ensures.near.0 in
-    let ready = subst Ready c.in-Ellipse.is c.new.ensures.0 in record { canvas_len = pre.0; width_le_wide_side = pre.1.0.0; ready_ellipse = ready; near = (rw (to_z-of_z near.fits) near, c.visible-seen.ensures.near.1) }
+    let ready = subst Ready c.in-Ellipse.is c.new.ensures.0 in record { canvas_len = c.requires.canvas_len; width_le_wide_side = c.requires.width_le_wide_side.0; ready_ellipse = ready; near = (rw (to_z-of_z near.fits) near, c.visible-seen.ensures.near.1) }
 
 pub paint_box-requires : goal.paint_box-requires
 paint_box-requires c =
-    let pre = c.requires in
     let seen = c.visible-seen.ensures.near in
     let near = c.visible-seen.ensures.near.0 in
-    let ready = subst Ready c.in-RoundedBox.is c.new.ensures.0 in record { canvas_len = pre.0; width_le_wide_side = pre.1.0.0; ready_styled_box = ready; near = (rw (to_z-of_z near.fits) near, c.visible-seen.ensures.near.1) }
+    let ready = subst Ready c.in-RoundedBox.is c.new.ensures.0 in record { canvas_len = c.requires.canvas_len; width_le_wide_side = c.requires.width_le_wide_side.0; ready_styled_box = ready; near = (rw (to_z-of_z near.fits) near, c.visible-seen.ensures.near.1) }
 
 pub returns-in-Ellipse : goal.returns-in-Ellipse
 returns-in-Ellipse c =

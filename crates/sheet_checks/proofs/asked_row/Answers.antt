@@ -48,14 +48,14 @@ After-some_owes = Lts.After-some_owes Tie.the-claims Reads.Pre Reads.Post Tie.ha
 sixteen : (c : Start) → length c.args.places ≡ 16
 sixteen c = omega arith
 
-rules : (c : Else-not-tested) → keeps_rules drawing c.args.size.width c.args.size.height
+kept_rules : (c : Else-not-tested) → keeps_rules drawing c.args.size.width c.args.size.height
     (layers_of c.args.count c.args.places) ≡ true
-rules c = sym c.test_rules-tested.ensures.kept_value ∙ not-false _ c.if-not-tested.false
+kept_rules c = sym c.test_rules-tested.ensures.kept_value ∙ not-false _ c.if-not-tested.false
 
 few : (c : Else-not-tested) → c.args.count ≤ 16
 few c =
     kept_few c.args.size.width c.args.size.height c.args.count c.args.places
-    (sixteen c.before.before.before.before) (rules c)
+    (sixteen c.before.before.before.before) (kept_rules c)
 
 -- the canvas has its length
 size : (c : In-Passed) (canvas : List ℕ) → length canvas ≡ c.args.bytes
@@ -87,7 +87,7 @@ own_fits : (c : After-own-1) → RowsFit (own c)
 own_fits c =
     let a = c.args in
     let within = kept_layer a.size.width a.size.height a.count a.places (sixteen c.before.before.before.before.before.before.before.before)
-    (rules c.before.before.before.before)
+    (kept_rules c.before.before.before.before)
     c.args.layer c.if-count-layer.false in
     subst RowsFit (sym (own_is c)) within.rows
 
@@ -128,7 +128,7 @@ returns-in_default c =
     let told = c.in_default.is in record {
       by_index = λ canvas long. ap Refused (refusal_found c.refusal.ensures c.in_default.is) ∙ sym
           (paint_length a.size.width a.size.height a.count a.places (sixteen c.before.before.before.before.before.before.before) a.layer canvas
-          (rules c.before.before.before) _
+          (kept_rules c.before.before.before) _
           (ap (canvas_length_check a.size.width a.size.height) long ∙ sym c.check_length-sized.ensures ∙ c.in_default.is));
       next_row = tt;
     }
@@ -138,7 +138,7 @@ pub returns-then-count-layer : goal.returns-then-count-layer
 returns-then-count-layer c =
     let a = c.args in record {
       by_index = λ canvas long. sym (paint_no_layer a.size.width a.size.height a.count a.places (sixteen c.before.before.before.before.before.before.before) a.layer canvas
-          (rules c.before.before.before) (size c.before canvas long) c.if-count-layer.true);
+          (kept_rules c.before.before.before) (size c.before canvas long) c.if-count-layer.true);
       next_row = tt;
     }
 
@@ -152,7 +152,7 @@ returns-then-own-next c =
     let a = c.args in record {
       by_index = λ canvas long.
           sym (paint_finished a.size.width a.size.height a.count a.places (sixteen c.before.before.before.before.before.before.before.before.before.before.before.before) a.layer canvas
-          (rules c.before.before.before.before.before.before.before.before) (size c.before.before.before.before.before.before canvas long)
+          (kept_rules c.before.before.before.before.before.before.before.before) (size c.before.before.before.before.before.before canvas long)
           c.if-count-layer.false (by_end c.before.before.before.before c.if-own-next.true));
       next_row = tt;
     }
@@ -167,7 +167,7 @@ returns-then-some_owes c =
     let a = c.args in record {
       by_index = λ canvas long.
           sym (paint_owed a.size.width a.size.height a.count a.places (sixteen c.before.before.before.before.before.before.before.before.before.before.before.before.before.before) a.layer canvas
-          (rules c.before.before.before.before.before.before.before.before.before.before) (size c.before.before.before.before.before.before.before.before canvas long)
+          (kept_rules c.before.before.before.before.before.before.before.before.before.before) (size c.before.before.before.before.before.before.before.before canvas long)
           c.if-count-layer.false (by_end c.before.before.before.before.before.before c.if-own-next.false) (owed c.before ∙ c.if-some_owes.true));
       next_row = tt;
     }
@@ -179,7 +179,7 @@ returns c =
     let a = c.args in record {
       by_index = λ canvas long.
           sym (paint_free a.size.width a.size.height a.count a.places (sixteen c.before.before.before.before.before.before.before.before.before.before.before.before.before.before) a.layer canvas
-          (rules c.before.before.before.before.before.before.before.before.before.before) (size c.before.before.before.before.before.before.before.before canvas long)
+          (kept_rules c.before.before.before.before.before.before.before.before.before.before) (size c.before.before.before.before.before.before.before.before canvas long)
           c.if-count-layer.false (by_end c.before.before.before.before.before.before c.if-own-next.false) (owed c.before ∙ c.if-some_owes.false));
       next_row = to_z-of_z (own_fits c.before.before.before.before.before.before).next ∙ ap (λ (r : LayerRows). r.next) (own_is c.before.before.before.before.before.before);
     }

@@ -73,8 +73,7 @@ bounds-layers-j c = let few = c.requires.end_le_max_layers.0 in omega arith
 pub paint_rows-requires : goal.paint_rows-requires
 paint_rows-requires c =
     let walk = c.loop-j in
-    let pre = c.requires in
-    let high = pre.1.0.1 in record { canvas_len = c.loop-j.invariant.1 ∙ pre.0; width_le_max_canvas_side = (pre.1.0.0, omega (arith, bottom_is c.before.before)); layer_within = within c.before.before }
+    let high = c.requires.width_le_max_canvas_side.1 in record { canvas_len = c.loop-j.invariant.1 ∙ c.requires.canvas_len; width_le_max_canvas_side = (c.requires.width_le_max_canvas_side.0, omega (arith, bottom_is c.before.before)); layer_within = within c.before.before }
 
 pub loop-j-smaller : goal.loop-j-smaller
 loop-j-smaller c = omega arith

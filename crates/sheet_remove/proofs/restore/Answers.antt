@@ -111,26 +111,23 @@ overflow_mul-width-2 c =
 
 pub copy_bytes-requires : goal.copy_bytes-requires
 copy_bytes-requires c =
-    let a = c.args in
-    let pre = c.requires in record { background_len = pre.1.0 ∙ sym pre.0; to_in_bounds = omega (arith, pre.0, row_within a.size.width a.size.height _ _ (to_is c.before.before.before)) }
+    let a = c.args in record { background_len = c.requires.background_len ∙ sym c.requires.canvas_len; to_in_bounds = omega (arith, c.requires.canvas_len, row_within a.size.width a.size.height _ _ (to_is c.before.before.before)) }
 
 pub lay_over-requires : goal.lay_over-requires
 lay_over-requires c =
     let a = c.args in
-    let pre = c.requires in
-    let limits = pre.1.1.0 in
+    let limits = c.requires.width_le_max_canvas_side in
     let high = limits.1 in
-    let places = pre.1.1.1 in
+    let places = c.requires.place_lt_count in
     let before = places.0 in
     let few = places.1 in record { canvas_len = copied_long c.before.before.before.before; width_le_max_canvas_side = (limits.0, omega (arith, to_is c.before.before.before.before.before.before.before)); end_le_max_layers = (omega arith, ready_fewer a.layers a.rows a.count a.place (omega arith) places.2) }
 
 pub lay_over-requires-2 : goal.lay_over-requires-2
 lay_over-requires-2 c =
     let a = c.args in
-    let pre = c.requires in
-    let limits = pre.1.1.0 in
+    let limits = c.requires.width_le_max_canvas_side in
     let high = limits.1 in
-    let places = pre.1.1.1 in
+    let places = c.requires.place_lt_count in
     let few = places.1 in record {
       canvas_len = ap length c.lay_over.ensures
           ∙ laid_over_length a.size.width a.size.height _ _ (earlier_of c.before.before.before.before.before.before.before.before.before.before.before) _
@@ -142,7 +139,6 @@ lay_over-requires-2 c =
 pub returns : goal.returns
 returns c =
     let a = c.args in
-    let pre = c.requires in
     let W = a.size.width in
     let H = a.size.height in
     c.lay_over-2.ensures
@@ -151,5 +147,5 @@ returns c =
     ∙ ap (laid_over W H c.least-from.result c.least-to.result (earlier_of c.before.before.before.before.before.before.before.before.before.before.before.before.before.before))
     c.copy_bytes.ensures)
     ∙ ap₂ (steps_of c.before.before.before.before.before.before.before.before.before.before.before.before.before.before) (from_is c.before.before.before.before.before.before.before.before.before.before.before.before.before.before) (to_is c.before.before.before.before.before.before.before.before.before.before.before.before.before.before)
-    ∙ restored_by_layers W H a.background.now a.canvas.now pre.1.0 pre.0 a.layers a.place a.count
-    pre.1.1.1.0
+    ∙ restored_by_layers W H a.background.now a.canvas.now c.requires.background_len c.requires.canvas_len a.layers a.place a.count
+    c.requires.place_lt_count.0
