@@ -15,9 +15,8 @@ use Rattle.ellipse_styled.specs.EllipseStyled.{ellipse_styled_row}
 use Rattle.figure.specs.declared.Figure.{Figure}
 use Rattle.figure.specs.declared.Figure.TheVariants.{Ellipse}
 use Rattle.style.specs.declared.Paint.TheVariants.{Absent, Colour}
-use Rattle.style.specs.declared.StrokeAlignment.TheVariants.{Center}
 use Rattle.style.specs.declared.Style.{Style}
-use Rattle.style.specs.Style.{styled_by_default, aligned, style_check, outside_stroke_width, inside_stroke_width}
+use Rattle.style.specs.Style.{default_alignment, styled_by_default, style_check, outside_stroke_width, inside_stroke_width}
 use Rattle.styled_row.specs.StyledRow.{styled_row_of_shapes}
 use Rattle.canvas_size.specs.CanvasSize.{canvas_size_check, canvas_length_check}
 use Rattle.canvas_run.specs.Run.{run_over_from}
@@ -31,20 +30,20 @@ abbrev oval : ℤ → ℤ → ℕ → ℕ → Figure
 oval x y w h = Ellipse (record { top_left = record { x = x; y = y }; size = record { width = w; height = h } })
 
 abbrev filled : ℕ → Style
-filled width = aligned (styled_by_default Absent (Colour 9) width) Center
+filled width = styled_by_default Absent (Colour 9) width
 
 oval_bytes : canvas_after (oval (pos 0) (pos 0) 4 4) (filled 0) 4 4 (replicate 16 0)
     ≡ 0 ∷ 9 ∷ 9 ∷ 0 ∷ 9 ∷ 9 ∷ 9 ∷ 9 ∷ 9 ∷ 9 ∷ 9 ∷ 9 ∷ 0 ∷ 9 ∷ 9 ∷ 0 ∷ []
 unfolding paint_check painted styled_check size_check position_check style_check canvas_size_check canvas_length_check overpaint_rows
     overpaint_by overpaint_runs run_over_from styled_row_of_shapes ellipse_styled_row row scanline has_rows first_column inside_about inside threshold
-    center2x from_center2x offset offset_side with_center center outside_stroke_width inside_stroke_width
+    center2x from_center2x offset offset_side with_center center outside_stroke_width inside_stroke_width default_alignment
 oval_bytes = refl
 
 -- its lower right quarter: rows above the canvas and columns left of it are skipped
 oval_cut : canvas_after (oval (negsuc 1) (negsuc 1) 4 4) (filled 0) 2 2 (replicate 4 0) ≡ 9 ∷ 9 ∷ 9 ∷ 0 ∷ []
 unfolding paint_check painted styled_check size_check position_check style_check canvas_size_check canvas_length_check overpaint_rows
     overpaint_by overpaint_runs run_over_from styled_row_of_shapes ellipse_styled_row row scanline has_rows first_column inside_about inside threshold
-    center2x from_center2x offset offset_side with_center center outside_stroke_width inside_stroke_width
+    center2x from_center2x offset offset_side with_center center outside_stroke_width inside_stroke_width default_alignment
 oval_cut = refl
 
 -- 1 before 5, 5 before 6, 6 before 8, and 8

@@ -9,7 +9,7 @@
 
 mod answer;
 
-use std::io::{self, BufReader, BufWriter, Read, Write};
+use std::io::{self, Read, Write};
 
 #[derive(Clone, Copy)]
 pub(crate) enum Byte {
@@ -88,8 +88,8 @@ fn serve<R: Read, W: Write>(input: &mut R, out: &mut W, line: &mut [u8]) -> io::
 
 fn main(rt: HostRuntime) -> io::Result<()> {
     let mut line = [0u8; 8192];
-    let mut input = BufReader::new(rt.alloc(), rt.reader())?;
-    let mut out = BufWriter::new(rt.alloc(), io::writer(&rt))?;
+    let mut input = rt.reader();
+    let mut out = io::writer(&rt);
     for _ in 0..u64::MAX {
         if !serve(&mut input, &mut out, &mut line)? {
             return Ok(());

@@ -35,7 +35,7 @@ abbrev In-Passed : Type 0
 In-Passed = Lts.Past-After-enum_told Tie.the-claims Reads.Pre Reads.Post Tie.handed_clauses
 
 sixteen : (c : Start) → length c.args.self.layers ≡ 16
-sixteen c = sixteen_places c.args.self.layers c.well_formed.0.1.1.1.1.1.0.1.0.1
+sixteen c = c.well_formed.0.1.1.1.1.1.0.1.0.1
 
 abbrev item : Start → StyledFigure
 item c = styled_figure c.args.figure c.args.style

@@ -41,7 +41,7 @@ abbrev In-Row : Type 0
 In-Row = Lts.Past-After-known_told Tie.the-claims Reads.Pre Reads.Post Tie.handed_clauses
 
 sixteen : (c : Start) → length c.args.self.layers ≡ 16
-sixteen c = sixteen_places c.args.self.layers c.well_formed.0.1.1.1.1.1.0.1.0.1
+sixteen c = c.well_formed.0.1.1.1.1.1.0.1.0.1
 
 -- the check made is the answer
 checked : (c : After-asked_row-asked)

@@ -39,7 +39,7 @@ abbrev In-Passed : Type 0
 In-Passed = Lts.Past-After-enum_told Tie.the-claims Reads.Pre Reads.Post Tie.handed_clauses
 
 sixteen : (c : Start) → length c.args.self.layers ≡ 16
-sixteen c = sixteen_places c.args.self.layers c.well_formed.0.1.1.1.1.1.0.1.0.1
+sixteen c = c.well_formed.0.1.1.1.1.1.0.1.0.1
 
 abbrev entry : After-check_remove-checked → Start
 entry c = c.before.before.before.before.before
@@ -86,7 +86,7 @@ ready c =
     record {
       within = kept_layer s.width s.height s.count s.layers long (told c).rules;
       rows_are = λ i h.
-          rows_at s.count i h tested.result.rows s.layers (tested.ensures.1 (tested.ensures.0 ∙ (told c).rules))
+          rows_at s.count i h tested.result.rows s.layers (tested.ensures.rows_value (tested.ensures.kept_value ∙ (told c).rules))
           (omega (arith, few c));
     }
 
