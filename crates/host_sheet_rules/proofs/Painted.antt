@@ -1,8 +1,8 @@
 -- The rows that later layers have painted: one layer more widens them, and an earlier layer whose rows left lie apart from them
 -- is overtaken by none.
 -- Assumes nothing.
-use mathlib.Core.Path.{◌≡◌, refl, sym, ◌∙◌}
-use mathlib.Core.Bool.{Bool, true, false, ◌&&◌}
+use mathlib.Core.Path.{◌≡◌, refl, sym, ap, subst, ◌∙◌}
+use mathlib.Core.Bool.{Bool, true, false, cond, ◌&&◌}
 use mathlib.Core.List.{List, [], ◌∷◌}
 use Prim.Native.Nat.{ℕ, ◌+◌}
 use native.Mathlib.Omega.{arith}
@@ -47,6 +47,11 @@ module _ (p : PaintedRows) (r : LayerRows) (rest : List LayerRows) where
   abbrev grown : PaintedRows
   grown = record { first = smaller p.first r.first; end = larger p.end r.next }
 
+  -- the rows with this layer's, by whether it has painted none
+  also_by : (t : Bool) → le_z r.next r.first ≡ t → also_painted p r ≡ cond t p grown
+  unfolding also_painted
+  also_by t e = ap (λ (s : Bool). cond s p grown) e
+
   pub keep_more : KeepTo p rest → KeepTo (also_painted p r) (r ∷ rest)
   unfolding KeepTo also_painted
   keep_more keep = by_begun (le_z r.next r.first) refl
@@ -64,8 +69,8 @@ module _ (p : PaintedRows) (r : LayerRows) (rest : List LayerRows) where
           (omega (arith, int, larger_law p.end r.next)) keep
 
       by_begun : (t : Bool) → le_z r.next r.first ≡ t → KeepTo (also_painted p r) (r ∷ rest)
-      by_begun true e = rw e (none e, keep)
-      by_begun false e = rw e (λ begun. some, wide)
+      by_begun true e = subst (λ (q : PaintedRows). KeepTo q (r ∷ rest)) (sym (also_by true e)) (none e, keep)
+      by_begun false e = subst (λ (q : PaintedRows). KeepTo q (r ∷ rest)) (sym (also_by false e)) (λ begun. some, wide)
 
 -- ---- rows left that lie apart
 module _ (earlier : LayerRows) (p : PaintedRows) where

@@ -6,6 +6,7 @@ use mathlib.Core.List.{List, []}
 use Prim.Native.Nat.{ℕ, ◌<◌}
 use lib.IntN.{ℤ, pos}
 use lib.ListN.{length-set, set}
+use mir.Syntax.{w32}
 use mir.Facts.{to_z-of_z}
 use Rattle.refusal.specs.declared.Checked.TheVariants.{Passed}
 use Rattle.refusal.specs.Refusal.{answer_number}
@@ -191,7 +192,7 @@ returns c =
           c.args.figure.now
           c.args.style.now z)
           (count_is c.before.before.before.before.before.before.before.before.before)
-          (to_z-of_z (search rules) ∙ ap₂ (λ (s : Sheet) (k : ℕ). next_row_of s k)
+          (to_z-of_z {w = w32} (search rules) ∙ ap₂ (λ (s : Sheet) (k : ℕ). next_row_of s k)
           (carried c.before.before.before.before.before.before.before.before.before)
           (count_is c.before.before.before.before.before.before.before.before.before)))
           (to_z-of_z c.from_u32.ensures.fits ∙ c.from_u32.ensures.is

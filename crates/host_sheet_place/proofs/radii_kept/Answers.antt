@@ -58,7 +58,7 @@ pub loop-k-preserved : goal.loop-k-preserved
 loop-k-preserved c =
     let walk = c.loop-k in (
       omega arith,
-      and_assoc c.loop-k.auto c.is_within-kept.result (left c (c.loop-k.k + 1)) ∙ ap (λ (t : Bool). c.loop-k.auto && t) (sym (step c))
+      and_assoc c.loop-k.kept c.is_within-kept.result (left c (c.loop-k.k + 1)) ∙ ap (λ (t : Bool). c.loop-k.kept && t) (sym (step c))
           ∙ c.loop-k.invariant.1,
     )
 
@@ -68,4 +68,4 @@ returns c =
     let walk = c.loop-k in
     let a = c.args in
     let done = all_from_past (test a.numbers.now a.any) figure_length c.loop-k.k c.loop-k-test.false in
-    sym (ap (λ (t : Bool). c.loop-k.auto && t) done ∙ and_true c.loop-k.auto) ∙ c.loop-k.invariant.1
+    sym (ap (λ (t : Bool). c.loop-k.kept && t) done ∙ and_true c.loop-k.kept) ∙ c.loop-k.invariant.1

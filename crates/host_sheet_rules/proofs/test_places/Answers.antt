@@ -141,7 +141,7 @@ pub loop-i-preserved : goal.loop-i-preserved
 loop-i-preserved c =
     let a = c.args in
     let y = to_z w32 (of_z w32 a.y) in
-    let inv = c.loop-i.inv in
+    let inv = c.loop-i.invariant in
     let none = ap
     (λ (r : LayerRows). no_rows_overtake r (rows_from a.numbers.now c.loop-i.i (a.count - c.loop-i.i)))
     (sym (kept c.before.before.before.before).1)

@@ -27,25 +27,18 @@ pub returns-then-i-layer : goal.returns-then-i-layer
 returns-then-i-layer c =
     let a = c.args in
     let earlier = c.if-i-layer.true in
-    let y_fits : SFits w32 a.y = fits c.before.before.before.before in
+    let y_fits : SFits w32 a.y = search rules in
     rw (ne_eqb a.i a.layer (λ same. omega arith), lt-ltb a.i a.layer c.if-i-layer.true)
     (asked_by_fields refl
     (ap (λ (t : Bool). t || a.self.owed) (c.owes.ensures ∙ ap (rows_owe a.rows) (to_z-of_z y_fits))))
-  where
-    fits : (e : tie.Start) → SFits w32 e.args.y
-    fits e = search rules
 
 pub returns : goal.returns
 returns c =
     let a = c.args in
     let not_later = c.if-layer-i.false in
     let not_earlier = c.if-i-layer.false in
+    let next_fits : SFits w32 a.rows.next = search rules in
+    let end_fits : SFits w32 a.rows.end = search rules in
     rw (eq-eqb a.i a.layer (omega arith), le-ltb a.i a.layer c.if-i-layer.false)
     (asked_by_fields
-    (ap (λ (t : Bool). t || a.self.left) (ap₂ lt_z (to_z-of_z (next_fits c.before.before.before.before.before)) (to_z-of_z (end_fits c.before.before.before.before.before)))) refl)
-  where
-    next_fits : (e : tie.Start) → SFits w32 e.args.rows.next
-    next_fits e = search rules
-
-    end_fits : (e : tie.Start) → SFits w32 e.args.rows.end
-    end_fits e = search rules
+    (ap (λ (t : Bool). t || a.self.left) (ap₂ lt_z (to_z-of_z next_fits) (to_z-of_z end_fits))) refl)
