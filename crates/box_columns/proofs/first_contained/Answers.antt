@@ -1,7 +1,6 @@
 -- `box_columns::first_contained` meets its contract. The invariant: what is left to look through has the same answer as the
 -- whole.
 use mathlib.Core.Path.{refl, sym, ◌∙◌}
-use Prim.Native.Nat.{◌-◌}
 use Rattle.rounded_rectangle.specs.Relative.{radii}
 use Rattle.box_columns.specs.Columns.{contained_from_left}
 use Rattle.box_columns.proofs.Searches.{find_here, find_next, find_end}

@@ -1,7 +1,7 @@
 -- `box_columns::last_contained` meets its contract. The invariant: what is left to look through has the same answer as the
 -- whole. At the last place the test holds.
 use mathlib.Core.Path.{refl, sym, ap, ◌∙◌}
-use Prim.Native.Nat.{◌+◌, ◌-◌}
+use Prim.Native.Nat.{◌+◌}
 use Rattle.rounded_rectangle.specs.Relative.{radii}
 use Rattle.box_columns.specs.Columns.{contained_from_right}
 use Rattle.box_columns.proofs.Searches.{find_here, find_next}

@@ -1,6 +1,6 @@
 -- `canvas_run::fill` meets its contract. The invariant: the part up to i is of that colour.
 use mathlib.Core.Path.{refl, ap, ◌∙◌}
-use Prim.Native.Nat.{ℕ, ◌-◌}
+use Prim.Native.Nat.{ℕ}
 use lib.ListN.{replicate, length-set}
 use Rattle.canvas_run.proofs.LentPart.{fill_turn, fill_end}
 use native.Mathlib.Omega.{arith}

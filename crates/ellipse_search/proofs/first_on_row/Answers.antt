@@ -1,7 +1,6 @@
 -- `ellipse_search::first_on_row` meets its contract. The invariant: between lo and hi lies the first inside column; before lo all are
 -- outside, hi is inside.
 use mathlib.Core.Path.{sym, subst, ◌∙◌}
-use Prim.Native.Nat.{◌-◌}
 use Rattle.scanline.specs.declared.Place.TheVariants.{At}
 use Rattle.scanline.proofs.Find.{find_none, bracket_up, bracket_down, bracket_end}
 use Rattle.ellipse_search.specs.Search.{NearestOf}

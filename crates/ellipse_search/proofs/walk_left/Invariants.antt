@@ -1,7 +1,7 @@
 -- `ellipse_search::walk_left` meets its contract. The invariant: k is inside; where the column before it is outside, so are all before.
 use mathlib.Core.Path.{◌≡◌}
 use mathlib.Core.Bool.{true}
-use Prim.Native.Nat.{◌-◌, ◌≤◌}
+use Prim.Native.Nat.{◌≤◌}
 use Rattle.ellipse_search.specs.Row.{column_on_row}
 use Rattle.ellipse_search.proofs.walk_left.Given as goal
 

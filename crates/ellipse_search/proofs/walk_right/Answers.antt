@@ -1,7 +1,6 @@
 -- `ellipse_search::walk_right` meets its contract. The invariant: all columns after the start up to k are outside.
 use mathlib.Core.Path.{sym, ◌∙◌}
 use mathlib.Core.Bool.{false}
-use Prim.Native.Nat.{◌-◌}
 use Rattle.scanline.proofs.Find.{find_at, find_none}
 use Rattle.ellipse_search.proofs.Search.{passed_more}
 use native.Mathlib.Omega.{arith}

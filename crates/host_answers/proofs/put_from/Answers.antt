@@ -1,7 +1,7 @@
 -- `host_answers::put_from` meets its contract. Invariant: the values that are left, put from their place on, make the whole.
 use mathlib.Core.Path.{◌≡◌, refl, sym, ap, ◌∙◌}
 use mathlib.Core.List.{List}
-use Prim.Native.Nat.{ℕ, suc, ◌+◌, ◌-◌, ◌<◌, ◌≤◌}
+use Prim.Native.Nat.{ℕ, suc, ◌+◌, ◌<◌, ◌≤◌}
 use native.Mathlib.Numerals.{add-one}
 use borrow.Author.Rules.{sfits_of}
 use lib.IntN.{ℤ, pos}

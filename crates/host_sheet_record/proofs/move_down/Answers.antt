@@ -1,7 +1,7 @@
 -- `host_sheet_record::move_down` meets its contract. Invariant: the numbers that are left, moved to their places, make the whole, and
 -- what stands from k on is as it was.
 use mathlib.Core.Path.{◌≡◌, refl, sym, ap, ◌∙◌}
-use Prim.Native.Nat.{ℕ, suc, ◌+◌, ◌-◌}
+use Prim.Native.Nat.{ℕ, suc, ◌+◌}
 use native.Mathlib.Omega.{arith}
 use borrow.Author.Rules.{sfits_of}
 use lib.IntN.{ℤ, pos}

@@ -1,7 +1,6 @@
 -- `netpbm_parser::comment_end` meets its contract. Invariant: what follows the comment is what follows it from the byte reached on.
 use mathlib.Core.Path.{refl, sym, ◌∙◌}
 use mathlib.Core.Bool.{true, false}
-use Prim.Native.Nat.{◌-◌}
 use Rattle.netpbm_parser.proofs.Gaps.{gap_at_end, comment_ends, comment_goes_on}
 use native.Mathlib.Omega.{arith}
 use Rattle.netpbm_parser.proofs.comment_end.Goals as goal

@@ -3,7 +3,6 @@
 -- a byte, so the walk ends.
 use mathlib.Core.Path.{refl, sym, ◌∙◌}
 use mathlib.Core.Bool.{false}
-use Prim.Native.Nat.{◌-◌}
 use Rattle.netpbm_parser.proofs.Gaps.{gap_at_end, digits_at_end}
 use native.Mathlib.Omega.{arith}
 use Rattle.netpbm_parser.proofs.gap_end.Goals as goal

@@ -1,6 +1,6 @@
 -- `netpbm_parser::read_digits` meets its contract. Invariant: the number so far with the digits left makes the whole, as far as it is kept.
 use mathlib.Core.Path.{sym, ap, ◌∙◌}
-use Prim.Native.Nat.{ℕ, ◌+◌, ◌-◌}
+use Prim.Native.Nat.{ℕ, ◌+◌}
 use lib.ListN.{drop}
 use Rattle.netpbm_parser.specs.Parser.{parsed, digits_from}
 use Rattle.netpbm_parser.specs.Capped.{capped}

@@ -1,6 +1,5 @@
 -- `netpbm_parser::starts_with` meets its contract. Invariant: so far the bytes are the same, and the rest decides.
 use mathlib.Core.Path.{refl, sym, ◌∙◌}
-use Prim.Native.Nat.{◌-◌}
 use Rattle.netpbm_parser.proofs.Capped.{starts_all, starts_short, starts_differs, starts_same}
 use native.Mathlib.Omega.{arith}
 use Rattle.netpbm_parser.proofs.starts_with.Goals as goal

@@ -1,7 +1,7 @@
 -- `netpbm_raster::put_row` meets its contract. Invariant: the bytes put and those left make the whole row, and there is room for those
 -- left.
 use mathlib.Core.Path.{◌≡◌}
-use Prim.Native.Nat.{◌+◌, ◌*◌, ◌-◌}
+use Prim.Native.Nat.{◌+◌, ◌*◌}
 use lib.ListN.{length, drop}
 use lib.Seq.{sets}
 use Rattle.netpbm_raster.specs.Raster.{packed_bytes, row_bytes, packed_row}

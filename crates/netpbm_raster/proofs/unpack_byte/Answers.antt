@@ -1,7 +1,7 @@
 -- `netpbm_raster::unpack_byte` meets its contract. Invariant: the pixels written, and the bits left of the byte as it is shifted, are
 -- those of the whole byte.
 use mathlib.Core.Path.{refl, ap, ◌∙◌}
-use Prim.Native.Nat.{ℕ, ◌-◌}
+use Prim.Native.Nat.{ℕ}
 use native.Mathlib.Omega.{arith}
 use lib.ListN.{length, length-set}
 use Rattle.netpbm_raster.specs.Steps.{shifted_out}

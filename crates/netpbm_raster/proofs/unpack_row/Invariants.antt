@@ -1,7 +1,7 @@
 -- `netpbm_raster::unpack_row` meets its contract. Invariant: the pixels written and those of the bytes left make the whole row.
 use mathlib.Core.Path.{◌≡◌}
 use mathlib.Core.List.{◌++◌}
-use Prim.Native.Nat.{◌+◌, ◌*◌, ◌-◌, ◌≤◌}
+use Prim.Native.Nat.{◌*◌, ◌-◌, ◌≤◌}
 use lib.ListN.{length, take, drop}
 use Rattle.netpbm_raster.specs.Raster.{unpacked, unpacked_row}
 use Rattle.netpbm_raster.proofs.unpack_row.Given as goal

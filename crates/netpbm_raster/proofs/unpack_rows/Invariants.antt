@@ -1,7 +1,7 @@
 -- `netpbm_raster::unpack_rows` meets its contract. Invariant: the rows written and those left of the raster make the whole canvas.
 use mathlib.Core.Path.{◌≡◌}
 use mathlib.Core.List.{◌++◌}
-use Prim.Native.Nat.{◌+◌, ◌*◌, ◌-◌}
+use Prim.Native.Nat.{◌+◌, ◌*◌}
 use lib.ListN.{length, take, drop}
 use Rattle.netpbm_raster.specs.Raster.{row_bytes, unpacked_rows}
 use Rattle.netpbm_raster.proofs.unpack_rows.Given as goal

@@ -1,6 +1,6 @@
 -- `netpbm_text::put_number`: below ten the number is its one digit; from ten on its decimal is that of its tenth and then its last
 -- digit, and so it is put.
-use Rattle.std.proofs.Common.{ℕ, ◌<◌, ◌≤◌, arith, rules}
+use Rattle.std.proofs.Common.{◌<◌, ◌≤◌, arith}
 use Rattle.netpbm_text.proofs.Written.{wrote_then, wrote_length}
 use Rattle.netpbm_text.proofs.Decimal.{decimal_below_ten, decimal_from_ten, length_decimal_below_ten, length_decimal_from_ten}
 use Rattle.netpbm_text.proofs.+put_number.Goals as goal

@@ -1,7 +1,6 @@
 -- `netpbm_text::put` meets its contract. Invariant: so far the first i bytes of the source have been put, and the buffer has kept
 -- its length. After the last turn i is the source's length.
 use mathlib.Core.Path.{◌≡◌, refl, ◌∙◌}
-use Prim.Native.Nat.{◌-◌}
 use native.Mathlib.Omega.{arith}
 use lib.ListN.{length, length-set}
 use lib.Seq.{take-length}

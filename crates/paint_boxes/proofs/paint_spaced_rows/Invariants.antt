@@ -1,6 +1,5 @@
 -- `paint_boxes::paint_spaced_rows` meets its contract. The invariant: the rows that are left, painted on the canvas as it is
 -- now, make the whole.
-use Prim.Native.Nat.{◌-◌}
 use Rattle.paint_boxes.proofs.Turns.{SpacedLeft}
 use Rattle.paint_boxes.proofs.paint_spaced_rows.Given as goal
 

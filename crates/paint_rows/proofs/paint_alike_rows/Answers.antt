@@ -3,7 +3,6 @@
 use native.Mathlib.Omega.{arith}
 use Rattle.signed.proofs.Laws.{int, add_law}
 use mathlib.Core.Path.{◌≡◌, ap, ◌∙◌}
-use Prim.Native.Nat.{◌-◌}
 use lib.IntN.{ℤ, pos, ◌+ℤ◌}
 use lib.ListN.{length}
 use mir.Facts.{to_z-of_z}

@@ -1,6 +1,5 @@
 -- `paint_rows::paint_twice` meets its contract: the test says which case of `twice_by` holds.
 use borrow.Author.Rules.{rules}
-use borrow.Author.Tests.{not-true, not-false}
 use mathlib.Core.Path.{◌≡◌, sym, ap, ◌∙◌}
 use mathlib.Core.Bool.{Bool}
 use lib.IntN.{ℤ}

@@ -2,7 +2,6 @@
 -- is written they make the whole.
 use mathlib.Core.Path.{refl, sym, ap, ◌∙◌}
 use mathlib.Core.List.{List}
-use Prim.Native.Nat.{◌-◌}
 use lib.ListN.{length-set}
 use lib.Seq.{sets}
 use mir.Syntax.{w32}

@@ -1,6 +1,5 @@
 -- `sheet_calls::make_calls` meets its contract: the calls that are left make of what is reached what all make of the start.
 use mathlib.Core.Path.{refl, ◌∙◌}
-use Prim.Native.Nat.{◌-◌}
 use native.Mathlib.Omega.{arith}
 use lib.ListN.{length-set}
 use Rattle.sheet_call_numbers.proofs.Walks.{call_part_length}

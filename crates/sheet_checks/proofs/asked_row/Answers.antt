@@ -1,6 +1,5 @@
 -- `sheet_checks::asked_row` meets its contract: the tests made are those of the answer, in the table's order, with the rows that
 -- the test of the rules found.
-use borrow.Author.Rules.{rules}
 use mathlib.Core.Path.{◌≡◌, sym, ap, ap₂, subst, ◌∙◌}
 use mathlib.Core.Bool.{Bool, true}
 use mathlib.Core.List.{List, map}

@@ -1,6 +1,6 @@
 -- `sheet_remove::without` meets its contract. Invariant: up to place j the places are those of the list without the one taken out.
 use mathlib.Core.Path.{◌≡◌, subst}
-use Prim.Native.Nat.{ℕ, ◌-◌}
+use Prim.Native.Nat.{ℕ}
 use native.Mathlib.Omega.{arith}
 use native.Mathlib.Numerals.{add-one}
 use lib.ListN.{take, length-set}

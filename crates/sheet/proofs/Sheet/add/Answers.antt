@@ -15,7 +15,6 @@ use Rattle.book.specs.Book.{add as call_add}
 use Rattle.drawing.specs.declared.StrokeRows.{StrokeRows}
 use Rattle.drawing.specs.Drawing.{StyledFigure, styled_figure, styled_check}
 use Rattle.sheet_layers.proofs.LayerRules.{checked_figure, checked_stroke}
-use Rattle.sheet_checks.proofs.Places.{sixteen_places}
 use Rattle.sheet_checks.proofs.Answers.{added_room}
 use Rattle.sheet.specs.Sheet.{sheet_answer, with_layer, carried_out_sheet}
 use Rattle.sheet.proofs.Records.{refused_record, added_record}

@@ -22,7 +22,7 @@ use Rattle.sheet_layers.proofs.LayerRules.{LayerWithin}
 use Rattle.sheet.specs.declared.Sheet.{Sheet}
 use Rattle.sheet.specs.Sheet.{sheet_answer, with_layer, carried_out_sheet}
 use Rattle.sheet_checks.specs.Asked.{asked_answer, asked_refusal, NextRow}
-use Rattle.sheet_checks.proofs.Places.{sixteen_places, kept_few, kept_layer, kept_width}
+use Rattle.sheet_checks.proofs.Places.{kept_few, kept_layer, kept_width}
 use Rattle.sheet_checks.proofs.Answers.{PaintAccepted, painted_accepted}
 use Rattle.sheet.proofs.Records.{refused_record, refused_canvas, painted_record, painted_canvas}
 use Rattle.sheet.proofs.Sheet.paint.Lts

@@ -19,7 +19,7 @@ use Rattle.sheet_layers.specs.Layers.{layer_of, blank_layer}
 use Rattle.sheet.specs.declared.Sheet.{Sheet}
 use Rattle.sheet.specs.Sheet.{sheet_answer, carried_out_sheet}
 use Rattle.sheet_checks.specs.Asked.{remove_check}
-use Rattle.sheet_checks.proofs.Places.{sixteen_places, layers_are, kept_few, kept_layer, kept_width, kept_height}
+use Rattle.sheet_checks.proofs.Places.{layers_are, kept_few, kept_layer, kept_width, kept_height}
 use Rattle.sheet_checks.proofs.Answers.{RemoveAccepted, remove_check_is, removed_accepted, rows_at}
 use Rattle.sheet_layers.proofs.LayerRules.{Ready}
 use Rattle.sheet.proofs.Records.{refused_record, refused_canvas, removed_record, removed_canvas}

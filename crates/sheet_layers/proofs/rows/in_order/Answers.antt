@@ -1,7 +1,7 @@
 -- `sheet_layers::rows::in_order` meets its contract: whether a layer that is left is overtaken is whether one of all is.
 use mathlib.Core.Path.{◌≡◌, refl, sym, ap, ◌∙◌}
 use mathlib.Core.Bool.{Bool, true, false, ◌&&◌}
-use Prim.Native.Nat.{◌+◌, ◌-◌, ◌≤◌}
+use Prim.Native.Nat.{◌+◌, ◌≤◌}
 use native.Mathlib.Omega.{arith}
 use lib.ListN.{length, take, drop}
 use Rattle.sheet_layers.specs.LayerRows.{rows_in_order}
