@@ -21,7 +21,6 @@ use Rattle.book.proofs.Lists.{take_map, element_map}
 use Rattle.book.proofs.RulesTest.{side_fits, test_rules}
 use Rattle.drawing.specs.Drawing.{drawing}
 use Rattle.sheet_layers.specs.declared.Layer.{Layer}
-use Rattle.sheet_layers.specs.contracts.Layer.{the_field}
 use Rattle.sheet_layers.proofs.LayerRules.{LayerWithin, kept_within, kept_at}
 use Rattle.sheet_layers.specs.Layers.{layer_of, blank_layer, layers_of}
 
@@ -141,7 +140,3 @@ module _ (W H count : ℕ) (places : List Layer) where
 
     pub kept_height : kept ≡ true → H ≤ max_canvas_side
     kept_height e = (test_rules drawing W H (layers_of count places) e).height.1
-
--- a record has 16 places: what owning one tells of them
-pub sixteen_places : (places : List Layer) → length (map the_field.into places) ≡ 16 → length places ≡ 16
-sixteen_places places e = sym (length-map places the_field.into) ∙ e

@@ -1,7 +1,6 @@
 -- `host_sheet_rules::test_places` meets its contract: what is known of the places behind is known of one more, or the whole breaks
 -- a rule. At the end it is known of all.
 use Prim.Native.Nat.{◌≤◌}
-use Rattle.sheet_layers.specs.declared.RowsFound.TheVariants as rows_found_cases
 use Rattle.host_sheet_rules.proofs.Walk.{WalkedTo}
 use Rattle.host_sheet_rules.proofs.test_places.Given as goal
 
