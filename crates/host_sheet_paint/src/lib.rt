@@ -4,7 +4,7 @@
 
 ghost use Rattle.std.specs.Prelude.{◌≡◌, List, ℕ, length};
 ghost use Rattle.signed.specs.Signed.{Is};
-ghost use Rattle.refusal.specs.declared.Checked.TheVariants.{Passed as Checked-as-Passed};
+ghost use Rattle.refusal.specs.declared.Checked.TheVariants.{Passed as checked_passed};
 ghost use Rattle.book.specs.Book.{paint as call_paint};
 ghost use Rattle.sheet.specs.Sheet.{sheet_answer, canvas_after};
 ghost use Rattle.host_sheet_record.specs.SheetRecord.{sheet_length, sheet_of, row_painted};
@@ -77,7 +77,7 @@ pub fn check_paint(numbers: &[i32], layer: u32, bytes: usize) -> Checked
 // what `drawing::paint_row` does, and is quicker than a call of it, which hands the figure over once more.
 pub fn paint_next(numbers: &mut [i32], layer: u32, canvas: &mut [u8])
     requires numbers_len { length numbers.old ≡ sheet_length }
-    requires layer_value { sheet_answer (sheet_of numbers.old) canvas.old (call_paint layer) ≡ Checked-as-Passed }
+    requires layer_value { sheet_answer (sheet_of numbers.old) canvas.old (call_paint layer) ≡ checked_passed }
     ensures numbers_after { numbers.new ≡ row_painted numbers.old layer }
     ensures canvas_after { canvas.new ≡ canvas_after (sheet_of numbers.old) canvas.old (call_paint layer) }
 {
