@@ -65,6 +65,7 @@ edits=$(find crates -path 'crates/*/must-fail/*' -type f | wc -l)
 found=$(sed -n 's/^rt: ok;.*; must-fail edits: \([^;]*\);.*/\1/p' "$work/log")
 case "$found," in
     *[0-9]' bad,'*) fail "rt ci could not try each must-fail edit: $found" ;;
+    *'only by a limit'*) fail "an edit is refused by a limit of the prover, and not by a fact: $found" ;;
     "$((edits)) refused,"*) ;;
     *) fail "there are $((edits)) must-fail edits, and rt ci says of them: ${found:-nothing}" ;;
 esac
