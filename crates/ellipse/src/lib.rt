@@ -55,6 +55,7 @@ fn times(weight: u64, square: u64) -> u64
 }
 
 // The bound of a circle. Up to diameter 4 it is below the square: 3 by 3 would else gain its corners.
+#[tactic(auto, using(crate::proofs::Distances::half_le_square), unfolding(crate::specs::Ellipse::threshold))]
 fn diameter_to_threshold(diameter: u32) -> u64
     requires { diameter ≤ wide_side }
     ensures { result ≡ threshold diameter }
