@@ -17,7 +17,7 @@ import sys
 EQUATIONS = ('Is', 'Tells', 'Wrote')
 
 # Definitions that lose nothing of an answer but which refusal has a number: what it says (and every `.._outcome`), a constructor.
-KEEP_ALL = ('said', 'run_said', 'At')
+KEEP_ALL = ('run_said', 'Some')
 
 # What a function answers, in a clause.
 ANSWER = 'result'

@@ -14,6 +14,8 @@ ROOT = os.path.join(os.path.dirname(os.path.abspath(__file__)), '..')
 
 # Laws that no proof needs: each says to a reader that a definition means what it should.
 FOR_READERS = {
+    'refused_early', 'refusal_found',  # what a refusal says that is found and returned
+    'shape_corners', 'points_check_figure', 'points_check_room',  # what confined radii and a listing's checks are
     'checked_drawings', 'own_drawings',  # the checked drawings of the scope, and our own
     'host_demand3', 'sheet_comes_to_the_same',  # README, 'What is proved'
     'over_lent_same', 'over_lent_no_removal',  # of which lists of `run_calls` demand 3 speaks
@@ -97,7 +99,8 @@ def has(source, name):
         return name in source or all(re.search(r'(?<![^\s(){}])%s(?![^\s(){};,])' % re.escape(part), source) for part in parts)
     if any(re.search(r'\.%s\(' % method, source) for method in TRAITS.get(name, ())):
         return True
-    return re.search(r"(?<![\w·'+<≤-])«?%s»?(?![\w·'-])" % re.escape(name), source) is not None
+    before = r"(?<![\w·'+≤-])" if name[:1].isupper() else r"(?<![\w·'+<≤-])"  # a type may stand in Option<..>
+    return re.search(before + r"«?%s»?(?![\w·'-])" % re.escape(name), source) is not None
 
 
 def unused_libraries(code, logic):

@@ -3,6 +3,7 @@
 -- row that an earlier one owes. An accepted paint call keeps this, since no earlier figure owes the one row it adds; so does a
 -- removal, which only takes a figure away.
 -- Assumes nothing.
+use Rattle.std.specs.Prelude.{Ok, Err}
 use mathlib.Core.Path.{◌≡◌, refl, sym, ap, ◌∙◌, subst}
 use mathlib.Core.List.{List, [], ◌∷◌, ◌++◌}
 use mathlib.Core.Option.{Option, none, some}
@@ -14,9 +15,7 @@ use lib.IntN.{ℤ, ℤ_discrete}
 use lib.ListN.{length, take, drop, set, get_elem?, length-append}
 use borrow.Author.Tests.{leb-false}
 use Rattle.refusal.specs.declared.Refusal.TheVariants.{SheetFull, NoLayer, NoRowLeft, RowOwed}
-use Rattle.refusal.specs.declared.Checked.{Checked}
-use Rattle.refusal.specs.declared.Checked.TheVariants.{Passed, Refused}
-use Rattle.refusal.specs.Refusal.{refuse_if, keeping}
+use Rattle.refusal.specs.Refusal.{refuse_if, keeping, Checked, passed}
 use Rattle.refusal.proofs.Checks.{refused_apart, passed_first, passed_next, passed_condition}
 use Rattle.book.specs.Each.{Each, EachTwo}
 use Rattle.book.specs.Book.{without, Drawing, Call, add, paint, remove, Entry, Book, first_left, has_painted, owes, some_owes, none_left}
@@ -31,7 +30,7 @@ use Rattle.book.proofs.EntryRows.{none_owes_each}
 module _ (d : Drawing) where
   -- a figure within limits, with a count within its rows
   pub record Within (e : Entry d.Item) : Type 0 where
-    pub allowed : d.refuse e.item ≡ Passed
+    pub allowed : d.refuse e.item ≡ passed
     pub counted_rows : e.count ≤ d.rows e.item
 
   -- the later figure has painted no row that e owes
@@ -50,10 +49,10 @@ module _ (d : Drawing) where
   -- ---- what an accepted call says of the book
   -- an add call is accepted: the item is within limits, and there is a place left
   pub record Adding (book : Book d) (item : d.Item) : Type 0 where
-    pub allowed : d.refuse item ≡ Passed
+    pub allowed : d.refuse item ≡ passed
     pub room : length book < d.max_layers
 
-  pub add_accepted : (book : Book d) (item : d.Item) → book_answer d book (add item) ≡ Passed → Adding book item
+  pub add_accepted : (book : Book d) (item : d.Item) → book_answer d book (add item) ≡ passed → Adding book item
   unfolding book_answer
   add_accepted book item h =
       let full : Bool = leb d.max_layers (length book) in
@@ -70,11 +69,11 @@ module _ (d : Drawing) where
     pub left : entry.count < d.rows entry.item
     pub free : some_owes d (take i book) (first_left d entry) ≡ false
 
-  pub paint_accepted : (book : Book d) (i : ℕ) → book_answer d book (paint i) ≡ Passed → Painting book i
+  pub paint_accepted : (book : Book d) (i : ℕ) → book_answer d book (paint i) ≡ passed → Painting book i
   unfolding book_answer none_left
   paint_accepted book i h = by_entry (get_elem? book i) refl h
     where
-      by_entry : (o : Option (Entry d.Item)) → get_elem? book i ≡ o → entry_answer d book i o ≡ Passed → Painting book i
+      by_entry : (o : Option (Entry d.Item)) → get_elem? book i ≡ o → entry_answer d book i o ≡ passed → Painting book i
       by_entry none p q = absurd (refused_apart q)
       by_entry (some e) p q =
           let owed : Bool = some_owes d (take i book) (first_left d e) in
@@ -93,7 +92,7 @@ module _ (d : Drawing) where
     pub entry : Entry d.Item
     pub there : get_elem? book i ≡ some entry
 
-  pub remove_accepted : (book : Book d) (i : ℕ) (background : List ℕ) → book_answer d book (remove i background) ≡ Passed
+  pub remove_accepted : (book : Book d) (i : ℕ) (background : List ℕ) → book_answer d book (remove i background) ≡ passed
       → Removing book i
   unfolding book_answer
   remove_accepted book i background h =
@@ -168,11 +167,11 @@ module _ (d : Drawing) where
   unfolding book_after noted
   in_order_after book call ordered = by_answer (book_answer d book call) refl
     where
-      when_noted : (c : Call d.Item) → book_answer d book c ≡ Passed → InOrder (noted d book c)
+      when_noted : (c : Call d.Item) → book_answer d book c ≡ passed → InOrder (noted d book c)
       when_noted (add item) h = in_order_add book item ordered (add_accepted book item h)
       when_noted (paint i) h = let p = paint_accepted book i h in rw p.there (in_order_paint book i ordered p)
       when_noted (remove i background) h = in_order_remove book i ordered (remove_accepted book i background h)
 
       by_answer : (a : Checked) → book_answer d book call ≡ a → InOrder (keeping a book (noted d book call))
-      by_answer Passed h = when_noted call h
-      by_answer (Refused refusal) h = ordered
+      by_answer (Ok _) h = when_noted call h
+      by_answer (Err refusal) h = ordered

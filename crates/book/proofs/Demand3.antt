@@ -1,6 +1,7 @@
 -- Demand 3 holds of every drawing. From a sheet just opened, whose book is empty, the two halves of the invariant hold
 -- after every list of calls, by one call at a time; from them each clause of the statement follows.
 -- Assumes nothing.
+use Rattle.std.specs.Prelude.{Err}
 use mathlib.Core.Path.{◌≡◌, refl, sym, ap, ap₂, ◌∙◌}
 use mathlib.Core.Logic.{◌≢◌, ◌⊎◌, inl, inr}
 use mathlib.Core.List.{List, [], ◌∷◌, ◌++◌}
@@ -9,9 +10,7 @@ use Prim.Native.Nat.{ℕ, ◌*◌}
 use lib.ListN.{length}
 use lib.Seq.{take-append_seam}
 use Rattle.refusal.specs.declared.Refusal.TheVariants.{NoRowLeft as Refusal-as-NoRowLeft, RowOwed}
-use Rattle.refusal.specs.declared.Checked.{Checked}
-use Rattle.refusal.specs.declared.Checked.TheVariants.{Passed, Refused}
-use Rattle.refusal.specs.Refusal.{refuse_if, or_else}
+use Rattle.refusal.specs.Refusal.{refuse_if, or_else, Checked, passed}
 use Rattle.refusal.proofs.Checks.{refused_apart}
 use Rattle.book.specs.Each.{Each}
 use Rattle.book.specs.Book.{Drawing, Call, add, paint, remove}
@@ -38,7 +37,7 @@ module _ (d : Drawing) where
     unfolding book_answer
     paint_answer_is = rw (element_at_seam before e later, take-append_seam before (e ∷ later))
 
-    book_refused_only : paint_answer ≢ Passed → NoRowLeft d e ⊎ OwedBy d before (first_left d e)
+    book_refused_only : paint_answer ≢ passed → NoRowLeft d e ⊎ OwedBy d before (first_left d e)
     book_refused_only not_accepted = by_left (none_left d e) refl
       where
         by_owed : none_left d e ≡ false → (t : Bool) → some_owes d before (first_left d e) ≡ t
@@ -50,19 +49,19 @@ module _ (d : Drawing) where
         by_left true l = inl ((none_left_iff d e).0 l)
         by_left false l = by_owed l (some_owes d before (first_left d e)) refl
 
-    owed_refused : (t : Bool) → or_else (refuse_if t Refusal-as-NoRowLeft) (Refused RowOwed) ≢ Passed
+    owed_refused : (t : Bool) → or_else (refuse_if t Refusal-as-NoRowLeft) (Err RowOwed) ≢ passed
     owed_refused true q = refused_apart q
     owed_refused false q = refused_apart q
 
-    book_refused_if : NoRowLeft d e ⊎ OwedBy d before (first_left d e) → paint_answer ≢ Passed
+    book_refused_if : NoRowLeft d e ⊎ OwedBy d before (first_left d e) → paint_answer ≢ passed
     book_refused_if (inl none) q =
-        let said : paint_answer ≡ Refused Refusal-as-NoRowLeft = paint_answer_is ∙ rw ((none_left_iff d e).1 none) in
+        let said : paint_answer ≡ Err Refusal-as-NoRowLeft = paint_answer_is ∙ rw ((none_left_iff d e).1 none) in
         refused_apart (sym said ∙ q)
     book_refused_if (inr o) q =
         owed_refused (none_left d e)
         (sym (paint_answer_is ∙ rw (owed_some_owes d o.0 before (first_left d e) o.1 o.2)) ∙ q)
 
-    book_earliest_accepted : Each (NoRowLeft d) before → SomeRowLeft d e → paint_answer ≡ Passed
+    book_earliest_accepted : Each (NoRowLeft d) before → SomeRowLeft d e → paint_answer ≡ passed
     book_earliest_accepted none some =
         let free : some_owes d before (first_left d e) ≡ false =
         each_owes_none d before (first_left d e)

@@ -8,8 +8,7 @@ use lib.Dec.{ltb}
 use lib.IntN.{ℤ, pos, negsuc}
 use lib.ListN.{length, replicate, length-replicate}
 use Rattle.refusal.specs.declared.Refusal.TheVariants.{Side}
-use Rattle.refusal.specs.declared.Checked.{Checked}
-use Rattle.refusal.specs.Refusal.{answer_number, refuse_if}
+use Rattle.refusal.specs.Refusal.{answer_number, refuse_if, Checked}
 use Rattle.book.specs.Book.{Drawing, Call, add, paint, remove, has_row, has_painted}
 use Rattle.book.specs.Book.{is_left, some_owes, none_left, book_answer, noted, book_after, book_answers, book_after_all}
 use Rattle.book.specs.Book.{painters, overpainted}

@@ -2,6 +2,7 @@
 -- apply, that 7 is answered only where the sheet breaks the rules, and that a refused call changes nothing. Each is the
 -- definition of `answer` or `after`, with the tests put in.
 -- Assumes nothing.
+use Rattle.std.specs.Prelude.{Ok, Err}
 use mathlib.Core.Path.{◌≡◌, refl, sym, ap, ◌∙◌}
 use mathlib.Core.Bool.{Bool, true, false, not}
 use mathlib.Core.List.{List}
@@ -14,9 +15,7 @@ use lib.ListN.{length, take, get_elem?}
 use borrow.Author.Tests.{eqb-true, eqb-false, eq-eqb, ne_eqb}
 use Rattle.refusal.specs.declared.Refusal.{Refusal}
 use Rattle.refusal.specs.declared.Refusal.TheVariants.{SheetRule, CanvasLength, SheetFull, NoLayer, NoRowLeft, RowOwed}
-use Rattle.refusal.specs.declared.Checked.{Checked}
-use Rattle.refusal.specs.declared.Checked.TheVariants.{Passed, Refused}
-use Rattle.refusal.specs.Refusal.{answer_number, refuse_if, or_else, keeping}
+use Rattle.refusal.specs.Refusal.{answer_number, refuse_if, or_else, keeping, Checked, passed}
 use Rattle.refusal.proofs.Checks.{refused_apart}
 use Rattle.book.specs.Book.{Drawing, Call, add, paint, remove, end_row}
 use Rattle.book.specs.Sheet.{Layer, State, some_layer_owes, keeps_rules, layer_answer, answer, carried_out, after}
@@ -25,12 +24,12 @@ use Rattle.book.proofs.Tests.{false_unless}
 module _ (d : Drawing) (W H : ℕ) (s : State d.Item) where
   -- ---- an add call: 1, 2, 3 or 5, then 7, then 9
   module _ (item : d.Item) where
-    pub add_refused_item : {refusal : Refusal} → d.refuse item ≡ Refused refusal → answer d W H s (add item) ≡ Refused refusal
+    pub add_refused_item : {refusal : Refusal} → d.refuse item ≡ Err refusal → answer d W H s (add item) ≡ Err refusal
     unfolding answer
     add_refused_item own = rw own
 
-    pub add_refused_broken_sheet : d.refuse item ≡ Passed → keeps_rules d W H s.layers ≡ false
-        → answer d W H s (add item) ≡ Refused SheetRule
+    pub add_refused_broken_sheet : d.refuse item ≡ passed → keeps_rules d W H s.layers ≡ false
+        → answer d W H s (add item) ≡ Err SheetRule
     unfolding answer
     add_refused_broken_sheet own broken = rw (own, broken)
 
@@ -40,7 +39,7 @@ module _ (d : Drawing) (W H : ℕ) (s : State d.Item) where
     add_answer_on_sheet kept = rw kept
 
     -- where the item is within limits, 7 is answered only where the sheet breaks the rules
-    pub add_broken_sheet_only : d.refuse item ≡ Passed → answer d W H s (add item) ≡ Refused SheetRule
+    pub add_broken_sheet_only : d.refuse item ≡ passed → answer d W H s (add item) ≡ Err SheetRule
         → keeps_rules d W H s.layers ≡ false
     add_broken_sheet_only own told =
         false_unless (keeps_rules d W H s.layers)
@@ -51,7 +50,7 @@ module _ (d : Drawing) (W H : ℕ) (s : State d.Item) where
         full : Bool
         full = leb d.max_layers (length s.layers)
 
-        full_not_broken : (t : Bool) → refuse_if t SheetFull ≡ Refused SheetRule → ⊥
+        full_not_broken : (t : Bool) → refuse_if t SheetFull ≡ Err SheetRule → ⊥
         full_not_broken true e = omega (arith, ap answer_number e)
         full_not_broken false e = refused_apart (sym e)
 
@@ -74,17 +73,17 @@ module _ (d : Drawing) (W H : ℕ) (s : State d.Item) where
               layers = (keeping a with_other (carried_out d W H with_other (add item))).layers;
               canvas = s.canvas;
             }
-        by_answer Passed = refl
-        by_answer (Refused refusal) = refl
+        by_answer (Ok _) = refl
+        by_answer (Err refusal) = refl
 
   -- ---- a paint call: 7, then 8, then 10, 11 or 12 by the layer
   module _ (i : ℕ) where
-    pub paint_refused_broken_sheet : keeps_rules d W H s.layers ≡ false → answer d W H s (paint i) ≡ Refused SheetRule
+    pub paint_refused_broken_sheet : keeps_rules d W H s.layers ≡ false → answer d W H s (paint i) ≡ Err SheetRule
     unfolding answer
     paint_refused_broken_sheet broken = rw broken
 
     pub paint_refused_canvas : keeps_rules d W H s.layers ≡ true → (length s.canvas ≡ W * H → ⊥)
-        → answer d W H s (paint i) ≡ Refused CanvasLength
+        → answer d W H s (paint i) ≡ Err CanvasLength
     unfolding answer
     paint_refused_canvas kept other = rw (kept, ne_eqb (length s.canvas) (W * H) other)
 
@@ -94,16 +93,16 @@ module _ (d : Drawing) (W H : ℕ) (s : State d.Item) where
     paint_answer_on_sheet kept size = rw (kept, eq-eqb (length s.canvas) (W * H) size)
 
     -- 7 is answered only where the sheet breaks the rules
-    pub paint_broken_sheet_only : answer d W H s (paint i) ≡ Refused SheetRule → keeps_rules d W H s.layers ≡ false
+    pub paint_broken_sheet_only : answer d W H s (paint i) ≡ Err SheetRule → keeps_rules d W H s.layers ≡ false
     paint_broken_sheet_only told =
         false_unless (keeps_rules d W H s.layers) (λ kept. by_length kept (eqb (length s.canvas) (W * H)) refl)
       where
-        by_tests : (finished owed : Bool) → or_else (refuse_if finished NoRowLeft) (refuse_if owed RowOwed) ≡ Refused SheetRule → ⊥
+        by_tests : (finished owed : Bool) → or_else (refuse_if finished NoRowLeft) (refuse_if owed RowOwed) ≡ Err SheetRule → ⊥
         by_tests true owed e = omega (arith, ap answer_number e)
         by_tests false true e = omega (arith, ap answer_number e)
         by_tests false false e = refused_apart (sym e)
 
-        by_layer : (o : Option (Layer d.Item)) → layer_answer d s.layers i o ≡ Refused SheetRule → ⊥
+        by_layer : (o : Option (Layer d.Item)) → layer_answer d s.layers i o ≡ Err SheetRule → ⊥
         by_layer none e = omega (arith, ap answer_number e)
         by_layer (some l) e =
             by_tests (le_z (end_row d l.item) l.next) (some_layer_owes d (take i s.layers) l.next) e
@@ -119,17 +118,17 @@ module _ (d : Drawing) (W H : ℕ) (s : State d.Item) where
   -- ---- a removal: 7, then 8 for either buffer, then 10
   module _ (i : ℕ) (background : List ℕ) where
     pub remove_refused_broken_sheet : keeps_rules d W H s.layers ≡ false
-        → answer d W H s (remove i background) ≡ Refused SheetRule
+        → answer d W H s (remove i background) ≡ Err SheetRule
     unfolding answer
     remove_refused_broken_sheet broken = rw broken
 
     pub remove_refused_canvas : keeps_rules d W H s.layers ≡ true → (length s.canvas ≡ W * H → ⊥)
-        → answer d W H s (remove i background) ≡ Refused CanvasLength
+        → answer d W H s (remove i background) ≡ Err CanvasLength
     unfolding answer
     remove_refused_canvas kept other = rw (kept, ne_eqb (length s.canvas) (W * H) other)
 
     pub remove_refused_background : keeps_rules d W H s.layers ≡ true → length s.canvas ≡ W * H
-        → (length background ≡ W * H → ⊥) → answer d W H s (remove i background) ≡ Refused CanvasLength
+        → (length background ≡ W * H → ⊥) → answer d W H s (remove i background) ≡ Err CanvasLength
     unfolding answer
     remove_refused_background kept size other =
         rw (kept, eq-eqb (length s.canvas) (W * H) size, ne_eqb (length background) (W * H) other)
@@ -141,7 +140,7 @@ module _ (d : Drawing) (W H : ℕ) (s : State d.Item) where
         rw (kept, eq-eqb (length s.canvas) (W * H) size, eq-eqb (length background) (W * H) long)
 
     -- 7 is answered only where the sheet breaks the rules
-    pub remove_broken_sheet_only : answer d W H s (remove i background) ≡ Refused SheetRule
+    pub remove_broken_sheet_only : answer d W H s (remove i background) ≡ Err SheetRule
         → keeps_rules d W H s.layers ≡ false
     unfolding answer
     remove_broken_sheet_only told = by_tests (keeps_rules d W H s.layers) refl
@@ -150,7 +149,7 @@ module _ (d : Drawing) (W H : ℕ) (s : State d.Item) where
         rest canvas_other background_other past =
             or_else (refuse_if canvas_other CanvasLength) (or_else (refuse_if background_other CanvasLength) (refuse_if past NoLayer))
 
-        not_broken : (a b c : Bool) → rest a b c ≡ Refused SheetRule → ⊥
+        not_broken : (a b c : Bool) → rest a b c ≡ Err SheetRule → ⊥
         not_broken true b c e = omega (arith, ap answer_number e)
         not_broken false true c e = omega (arith, ap answer_number e)
         not_broken false false true e = omega (arith, ap answer_number e)
@@ -168,11 +167,11 @@ module _ (d : Drawing) (W H : ℕ) (s : State d.Item) where
             ∙ told))
 
   -- ---- sheet and canvas
-  pub refused_changes_nothing : (call : Call d.Item) {refusal : Refusal} → answer d W H s call ≡ Refused refusal → after d W H s call ≡ s
+  pub refused_changes_nothing : (call : Call d.Item) {refusal : Refusal} → answer d W H s call ≡ Err refusal → after d W H s call ≡ s
   unfolding after
   refused_changes_nothing call h = rw h
 
-  pub accepted_is_carried_out : (call : Call d.Item) → answer d W H s call ≡ Passed
+  pub accepted_is_carried_out : (call : Call d.Item) → answer d W H s call ≡ passed
       → after d W H s call ≡ carried_out d W H s call
   unfolding after
   accepted_is_carried_out call h = rw h

@@ -3,6 +3,7 @@
 -- those that have painted its row, since no later figure has painted a row that it owes; other rows stay. A removal shows the
 -- rows that its figure had painted anew over the background, by the other figures; on other rows the figure was not.
 -- Assumes nothing.
+use Rattle.std.specs.Prelude.{Ok, Err}
 use mathlib.Core.Path.{◌≡◌, refl, sym, ap, ap₂, ◌∙◌, subst}
 use mathlib.Core.List.{List, [], ◌∷◌, ◌++◌, map, append-nil}
 use mathlib.Core.Option.{Option, none, some}
@@ -14,9 +15,7 @@ use lib.ListN.{length, take, drop, set, get_elem?}
 use borrow.Author.Tests.{lt-ltb, ltb-true}
 use Rattle.book.specs.Each.{Each}
 use Rattle.book.specs.Canvas.{canvas_row, put_row}
-use Rattle.refusal.specs.declared.Checked.{Checked}
-use Rattle.refusal.specs.declared.Checked.TheVariants.{Passed, Refused}
-use Rattle.refusal.specs.Refusal.{keeping}
+use Rattle.refusal.specs.Refusal.{keeping, Checked, passed}
 use Rattle.book.specs.Book.{without, Drawing, Call, add, paint, remove, Entry, Book}
 use Rattle.book.specs.Book.{first_left, has_painted, book_answer, noted, book_after, painters, overpainted}
 use Rattle.book.specs.Sheet.{Layer, Layers, with_row, paint_row, layer_has_painted, layer_painters, restored_row, restored}
@@ -203,8 +202,8 @@ module _ (d : Drawing) where
         by_call (remove i background) fits = by_removed (without i book) background fits (get_elem? book i)
 
         by_answer : (a : Checked) → length (keeping a canvas (canvas_carried_out d W H book canvas call)) ≡ W * H
-        by_answer Passed = by_call call fits
-        by_answer (Refused refusal) = size
+        by_answer (Ok _) = by_call call fits
+        by_answer (Err refusal) = size
 
     -- ---- the canvas shows the book over the canvas as first lent
     pub record Shows (lent : List ℕ) (book : Book d) (canvas : List ℕ) : Type 0 where
@@ -311,7 +310,7 @@ module _ (d : Drawing) where
       unfolding book_after noted canvas_after
       shows_after long book canvas call over_lent ordered shown = by_answer (book_answer d book call) refl
         where
-          when_noted : (c : Call d.Item) → OverLent d lent c → book_answer d book c ≡ Passed
+          when_noted : (c : Call d.Item) → OverLent d lent c → book_answer d book c ≡ passed
               → Shows lent (noted d book c) (canvas_carried_out d W H book canvas c)
           when_noted (add item) over_lent h = shows_add book item canvas shown
           when_noted (paint i) over_lent h =
@@ -325,5 +324,5 @@ module _ (d : Drawing) where
 
           by_answer : (a : Checked) → book_answer d book call ≡ a
               → Shows lent (keeping a book (noted d book call)) (keeping a canvas (canvas_carried_out d W H book canvas call))
-          by_answer Passed h = when_noted call over_lent h
-          by_answer (Refused refusal) h = shown
+          by_answer (Ok _) h = when_noted call over_lent h
+          by_answer (Err refusal) h = shown

@@ -1,6 +1,7 @@
 -- The sheet of a book, whose layers are the figures noted with their first rows left: while the book is in order, the sheet
 -- keeps the rules and answers each call as the book does, and after the call it is the sheet of the book after it.
 -- Assumes nothing.
+use Rattle.std.specs.Prelude.{Ok, Err}
 use mathlib.Core.Path.{◌≡◌, refl, sym, ap, ap₂, ◌∙◌}
 use mathlib.Core.List.{List, [], ◌∷◌, ◌++◌, map, map-append}
 use mathlib.Core.Option
@@ -12,9 +13,7 @@ use lib.IntN.{ℤ, pos, ◌+ℤ◌}
 use lib.ListN.{length, take, set, get_elem?, length-map}
 use Rattle.signed.proofs.Laws.{int, add_law}
 use Rattle.refusal.specs.declared.Refusal.TheVariants.{NoRowLeft, RowOwed}
-use Rattle.refusal.specs.declared.Checked.{Checked}
-use Rattle.refusal.specs.declared.Checked.TheVariants.{Passed, Refused}
-use Rattle.refusal.specs.Refusal.{refuse_if, or_else, keeping}
+use Rattle.refusal.specs.Refusal.{refuse_if, or_else, keeping, Checked}
 use Rattle.book.specs.Book.{without, Drawing, Call, add, paint, remove, Entry, Book, first_left, some_owes, entry_answer, book_answer}
 use Rattle.book.specs.Book.{counted, noted, book_after}
 use Rattle.book.specs.Sheet.{State, Layers, some_layer_owes, WithinSide, LayerRules, OrderRule, Rules, keeps_rules}
@@ -117,8 +116,8 @@ module _ (d : Drawing) where
 
   keeping_sheet : (a : Checked) (book book' : Book d) (canvas canvas' : List ℕ)
       → keeping a (sheet_of book canvas) (sheet_of book' canvas') ≡ sheet_of (keeping a book book') (keeping a canvas canvas')
-  keeping_sheet Passed book book' canvas canvas' = refl
-  keeping_sheet (Refused refusal) book book' canvas canvas' = refl
+  keeping_sheet (Ok _) book book' canvas canvas' = refl
+  keeping_sheet (Err refusal) book book' canvas canvas' = refl
 
   module _ (W H : ℕ) where
     -- the canvas after an accepted call, by the book before it

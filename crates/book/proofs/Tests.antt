@@ -1,9 +1,9 @@
 -- Tests joined by `and`: what a joined one says of its parts, by the cases of the first. And the test of an answer.
 -- Assumes nothing.
+use Rattle.refusal.specs.Refusal.{Checked, passed}
+use Rattle.std.specs.Prelude.{Ok, Err}
 use mathlib.Core.Path.{◌≡◌, refl, sym, ◌∙◌}
 use mathlib.Core.Bool.{Bool, true, false, ◌&&◌, ◌||◌, true≢false, false≢true}
-use Rattle.refusal.specs.declared.Checked.{Checked}
-use Rattle.refusal.specs.declared.Checked.TheVariants.{Passed, Refused}
 use Rattle.book.specs.Sheet.{is_accepted}
 
 -- ---- tests
@@ -35,6 +35,6 @@ tests_equal true b f g = sym (f refl)
 tests_equal false b f g = sym (false_unless b (λ e. false≢true (g e)))
 
 -- ---- answers
-pub is_accepted_true : (a : Checked) → is_accepted a ≡ true → a ≡ Passed
-is_accepted_true Passed e = refl
-is_accepted_true (Refused refusal) e = absurd (false≢true e)
+pub is_accepted_true : (a : Checked) → is_accepted a ≡ true → a ≡ passed
+is_accepted_true (Ok _) e = refl
+is_accepted_true (Err refusal) e = absurd (false≢true e)

@@ -1,6 +1,7 @@
 -- An item painted whole. On a sheet with that one layer nothing is owed by an earlier layer, so each paint call is accepted
 -- while rows are left, and each writes the row after the last one: the rows of `paint_rows`, in its order.
 -- Assumes nothing.
+use Rattle.refusal.specs.Refusal.{Checked, passed}
 use mathlib.Core.Path.{◌≡◌, refl, sym, ap, ap₂, ◌∙◌}
 use mathlib.Core.List.{List, [], ◌∷◌}
 use Prim.Native.Nat.{ℕ, zero, suc, ◌+◌, ◌*◌, ◌≤◌, ◌<◌}
@@ -9,8 +10,6 @@ use lib.IntN.{ℤ, pos, ◌+ℤ◌}
 use lib.ListN.{length, replicate}
 use borrow.Author.Tests.{lt-leb}
 use Rattle.signed.proofs.Laws.{int, add_law}
-use Rattle.refusal.specs.declared.Checked.{Checked}
-use Rattle.refusal.specs.declared.Checked.TheVariants.{Passed}
 use Rattle.book.specs.Book.{Drawing, add, paint, Book, first_left, some_owes, none_left, book_answer}
 use Rattle.book.specs.Book.{noted, book_after}
 use Rattle.book.specs.Sheet.{State, WithinSide, paint_row, after, answers, after_all, opened}
@@ -29,7 +28,7 @@ module _ (d : Drawing) (W H : ℕ) where
       paint_rows_length item n (y +ℤ pos 1) (paint_row d W H item y canvas) (paint_row_length d W H item y canvas size)
 
   -- ---- on a sheet with one layer
-  module _ (width : WithinSide d W) (height : WithinSide d H) (item : d.Item) (allowed : d.refuse item ≡ Passed)
+  module _ (width : WithinSide d W) (height : WithinSide d H) (item : d.Item) (allowed : d.refuse item ≡ passed)
       (room : 1 ≤ d.max_layers) where
     -- the book with the one item, n rows of it painted
     abbrev only : ℕ → Book d
@@ -39,11 +38,11 @@ module _ (d : Drawing) (W H : ℕ) where
     only_in_order n h =
         record { few = room; within = (record { allowed = allowed; counted_rows = h }, tt); order = (tt, tt) }
 
-    only_paint_accepted : (n : ℕ) → n < d.rows item → book_answer d (only n) (paint 0) ≡ Passed
+    only_paint_accepted : (n : ℕ) → n < d.rows item → book_answer d (only n) (paint 0) ≡ passed
     unfolding book_answer none_left some_owes
     only_paint_accepted n h = rw (lt-leb (d.rows item) n h)
 
-    only_add_accepted : book_answer d [] (add item) ≡ Passed
+    only_add_accepted : book_answer d [] (add item) ≡ passed
     unfolding book_answer
     only_add_accepted = rw (allowed, lt-leb d.max_layers 0 room)
 
@@ -63,7 +62,7 @@ module _ (d : Drawing) (W H : ℕ) where
 
     -- the k rows that are left after n
     rest_accepted : (k n : ℕ) (canvas : List ℕ) → n + k ≡ d.rows item → length canvas ≡ W * H
-        → answers d W H (sheet_of d (only n) canvas) (replicate k (paint 0)) ≡ replicate k Passed
+        → answers d W H (sheet_of d (only n) canvas) (replicate k (paint 0)) ≡ replicate k passed
     unfolding answers
     rest_accepted zero n canvas e size = refl
     rest_accepted (suc k) n canvas e size =

@@ -1,16 +1,14 @@
 -- The plain book of demand 3 (document 01, "The book"), over any drawing: what a figure with its style is, which rows it
 -- has and how it overpaints a canvas row stand in the record `Drawing`. The order is the paper's. What a call answers ("The
--- records", below the table) is said as a check's result is, in the words of `refusal`: `Passed` where it is accepted, or
--- `Refused` by a row of the table.
+-- records", below the table) is said as a check's result is, in the words of `refusal`: `passed` where it is accepted, or
+-- `Err` of a row of the table.
 -- Assumes nothing.
-use Rattle.std.specs.Prelude.{◌≡◌, List, [], ◌∷◌, ◌++◌, Bool, false, cond, not, ◌&&◌, ◌||◌, ℕ, suc, leb, ℤ, pos, ◌+ℤ◌, length, take, drop, set}
+use Rattle.std.specs.Prelude.{◌≡◌, List, [], ◌∷◌, ◌++◌, Bool, false, cond, not, ◌&&◌, ◌||◌, ℕ, suc, leb, ℤ, pos, ◌+ℤ◌, length, take, drop, set, Err}
 use Rattle.std.proofs.Math.Option.{Option, none, some}
 use Rattle.std.specs.Int.Signed.{le_z, lt_z}
 use Rattle.std.proofs.Math.ListN.{get_elem?}
 use Rattle.refusal.specs.declared.Refusal.TheVariants.{SheetFull, NoLayer, NoRowLeft, RowOwed}
-use Rattle.refusal.specs.declared.Checked.{Checked}
-use Rattle.refusal.specs.declared.Checked.TheVariants.{Refused}
-use Rattle.refusal.specs.Refusal.{refuse_if, or_else, keeping}
+use Rattle.refusal.specs.Refusal.{refuse_if, or_else, keeping, Checked}
 
 -- The run a..b (document 01, first lines): from a up to but not including b.
 abbrev pub in_run : ℤ → ℤ → ℤ → Bool
@@ -90,7 +88,7 @@ module _ (d : Drawing) where
 
   -- The answer to a paint call, by the entry that stands at its number ("The book"): 10, then 11, then 12.
   abbrev pub entry_answer : Book → ℕ → Option (Entry d.Item) → Checked
-  entry_answer book i none = Refused NoLayer
+  entry_answer book i none = Err NoLayer
   entry_answer book i (some e) =
       or_else (refuse_if (none_left e) NoRowLeft) (refuse_if (some_owes (take i book) (first_left e)) RowOwed)
 

@@ -1,8 +1,8 @@
 -- Demand 3 (document 00), as one statement over any drawing and whole lists of calls.
 -- Assumes nothing.
+use Rattle.refusal.specs.Refusal.{passed}
 use Rattle.std.specs.Prelude.{◌≡◌, ◌↔◌, ◌≢◌, ◌⊎◌, true, false, ℕ, ◌*◌, ◌<◌, ℤ, pos, length}
 use mathlib.Core.List.{List, [], ◌∷◌, ◌++◌, map, Memᴰ}
-use Rattle.refusal.specs.declared.Checked.TheVariants.{Passed}
 use Rattle.book.specs.Each.{Each}
 use Rattle.book.specs.Canvas.{canvas_row}
 use Rattle.book.specs.Book.{Drawing, Call, add, paint, remove, Entry, Book, first_left, is_left, owes, book_answers}
@@ -34,10 +34,10 @@ module _ (d : Drawing) where
     -- the paint call of a figure that is noted gets a number if the figure has no row left, or if one that is noted before
     -- it owes the first row that it has left, and only then
     pub refused_exactly : (before : Book d) (e : Entry d.Item) (later : Book d) → book ≡ before ++ e ∷ later
-        → (answer d W H s (paint (length before)) ≢ Passed) ↔ (NoRowLeft e ⊎ OwedBy before (first_left d e))
+        → (answer d W H s (paint (length before)) ≢ passed) ↔ (NoRowLeft e ⊎ OwedBy before (first_left d e))
     -- the first figure that has a row left can go on: its paint call is accepted
     pub earliest_accepted : (before : Book d) (e : Entry d.Item) (later : Book d) → book ≡ before ++ e ∷ later
-        → Each NoRowLeft before → SomeRowLeft e → answer d W H s (paint (length before)) ≡ Passed
+        → Each NoRowLeft before → SomeRowLeft e → answer d W H s (paint (length before)) ≡ passed
     -- the sheet's layers are the figures that are noted, each with the first row that it has left as its next row
     pub next_rows : s.layers ≡ map layer_of book
     -- the sheet keeps the rules

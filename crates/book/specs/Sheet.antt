@@ -2,14 +2,12 @@
 -- the answer, the sheet and the canvas. `Rules` has the rules in the paper's words. Number 7 is answered by the test
 -- `keeps_rules`; the law `keeps_rules_iff` (proofs/RulesTest.antt) says that the two agree.
 -- Assumes nothing.
-use Rattle.std.specs.Prelude.{◌≡◌, ◌↔◌, List, [], ◌∷◌, ◌++◌, Bool, true, false, cond, not, ◌&&◌, ◌||◌, ℕ, ◌*◌, ◌≤◌, leb, ltb, eqb, ℤ, pos, negsuc, ◌+ℤ◌, length, take, set}
+use Rattle.std.specs.Prelude.{◌≡◌, ◌↔◌, List, [], ◌∷◌, ◌++◌, Bool, true, false, cond, not, ◌&&◌, ◌||◌, ℕ, ◌*◌, ◌≤◌, leb, ltb, eqb, ℤ, pos, negsuc, ◌+ℤ◌, length, take, set, Ok, Err}
 use Rattle.std.proofs.Math.Option.{Option, none, some}
 use Rattle.std.specs.Int.Signed.{le_z, lt_z}
 use Rattle.std.proofs.Math.ListN.{get_elem?}
 use Rattle.refusal.specs.declared.Refusal.TheVariants.{SheetRule, CanvasLength, SheetFull, NoLayer, NoRowLeft, RowOwed}
-use Rattle.refusal.specs.declared.Checked.{Checked}
-use Rattle.refusal.specs.declared.Checked.TheVariants.{Passed, Refused}
-use Rattle.refusal.specs.Refusal.{refuse_if, or_else, keeping}
+use Rattle.refusal.specs.Refusal.{refuse_if, or_else, keeping, Checked, passed}
 use Rattle.book.specs.Each.{Each, EachTwo}
 use Rattle.book.specs.Canvas.{canvas_row, put_row, canvas_of}
 use Rattle.book.specs.Book.{in_run, without, Drawing, Call, add, paint, remove, end_row, has_row, overpainted}
@@ -26,8 +24,8 @@ pub record State (A : Type 0) : Type 0 where
 
 -- True of the answer of an accepted call ("Sheet": figures and styles within limits).
 abbrev pub is_accepted : Checked → Bool
-is_accepted Passed = true
-is_accepted (Refused refusal) = false
+is_accepted (Ok _) = true
+is_accepted (Err refusal) = false
 
 -- A canvas of W by H with its row y made into another, by a function of the row's number and its bytes; as it was where y is not a
 -- row of the canvas ("Sheet": pixels off the canvas are skipped).
@@ -56,7 +54,7 @@ module _ (d : Drawing) where
   -- The rules of one layer ("Sheet"): its figure and style are within limits, and its next row is from the first row to
   -- the one after the last.
   pub record LayerRules (l : Layer d.Item) : Type 0 where
-    pub allowed : d.refuse l.item ≡ Passed
+    pub allowed : d.refuse l.item ≡ passed
     pub from_first : le_z (d.first l.item) l.next ≡ true
     pub to_end : le_z l.next (end_row d l.item) ≡ true
 
@@ -113,7 +111,7 @@ module _ (d : Drawing) where
 
   -- The answer to a paint call, by the layer that stands at its number ("The records", the table): 10, then 11, then 12.
   abbrev pub layer_answer : Layers → ℕ → Option (Layer d.Item) → Checked
-  layer_answer layers i none = Refused NoLayer
+  layer_answer layers i none = Err NoLayer
   layer_answer layers i (some l) =
       or_else (refuse_if (le_z (end_row d l.item) l.next) NoRowLeft)
       (refuse_if (some_layer_owes (take i layers) l.next) RowOwed)

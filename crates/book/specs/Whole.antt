@@ -1,8 +1,8 @@
 -- An item painted in one call without a sheet (document 01, "Sheet", last paragraph), over any drawing, and what it
 -- means that a sheet with that one layer comes to the same bytes.
 -- Assumes nothing.
+use Rattle.refusal.specs.Refusal.{passed}
 use Rattle.std.specs.Prelude.{◌≡◌, List, [], ◌∷◌, ◌++◌, ℕ, zero, suc, ℤ, pos, ◌+ℤ◌, take, drop, replicate}
-use Rattle.refusal.specs.declared.Checked.TheVariants.{Passed}
 use Rattle.book.specs.Book.{Drawing, Call, add, paint, end_row}
 use Rattle.book.specs.Sheet.{paint_row, answers, after_all, opened}
 
@@ -31,6 +31,6 @@ module _ (d : Drawing) where
   -- That sheet accepts every call, its one layer comes to its end, and its canvas is the lent one with the whole item
   -- painted ("Sheet", last paragraph).
   pub record SingleLayerWhole (W H : ℕ) (lent : List ℕ) (item : d.Item) : Type 0 where
-    pub all_accepted : answers d W H (opened d lent) (whole_calls item) ≡ replicate (suc (d.rows item)) Passed
+    pub all_accepted : answers d W H (opened d lent) (whole_calls item) ≡ replicate (suc (d.rows item)) passed
     pub finished : after_all d W H (opened d lent) (whole_calls item)
         ≡ record { layers = record { item = item; next = end_row d item } ∷ []; canvas = paint_whole W H item lent }

@@ -1,15 +1,14 @@
 -- A search finds the same where it leaves out places at which the test is known to fail, and where it stops after the first
 -- place at which it holds.
 -- Assumes nothing.
+use Rattle.std.specs.Prelude.{Some, None}
 use mathlib.Core.Path.{◌≡◌, refl, sym, ap, ◌∙◌}
 use mathlib.Core.Bool.{Bool, true, false, false≢true}
 use Prim.Native.Nat.{ℕ, ◌+◌, ◌-◌, ◌≤◌, ◌<◌, max}
 use native.Mathlib.Omega.{arith}
 use borrow.Author.Tests.{ltb-true, ltb-false}
 use lib.Dec.{ltb}
-use Rattle.scanline.specs.declared.Place.{Place}
-use Rattle.scanline.specs.declared.Place.TheVariants.{At, Nowhere}
-use Rattle.scanline.specs.Places.{find_from}
+use Rattle.scanline.specs.Places.{find_from, Place}
 use Rattle.scanline.proofs.Find.{find_at, find_none, found_at, found_none}
 use Rattle.box_columns.specs.Columns.{NoneBefore}
 
@@ -32,12 +31,12 @@ module _ (test : ℕ → Bool) where
       both j after i fi ij = by_order i m (λ l. before i fi l) (λ l. after i l ij)
 
       by_answer : (p : Place) → find_from test (to - m) m ≡ p → find_from test (to - from) from ≡ p
-      by_answer (At j) e =
+      by_answer (Some j) e =
           let f = found_at test (to - m) m j e in
           let a = f.from in
           let b = f.below in
           find_at test (to - from) from j (omega arith) (omega arith) (both j f.none_before) f.holds
-      by_answer Nowhere e =
+      by_answer None e =
           find_none test (to - from) from
           (λ i fi il. both to (λ j mj jt. found_none test (to - m) m e j mj (omega arith)) i fi (omega arith))
 
@@ -47,18 +46,18 @@ module _ (test : ℕ → Bool) where
   find_past from n to none = find_later from (max from n) to (omega arith) (λ i fi im. none i (omega arith))
 
   -- one step of a walk
-  pub find_here : (k to : ℕ) → k < to → test k ≡ true → At k ≡ find_from test (to - k) k
+  pub find_here : (k to : ℕ) → k < to → test k ≡ true → Some k ≡ find_from test (to - k) k
   find_here k to l here = sym (find_at test (to - k) k k (omega arith) (omega arith) (λ i ki ik. absurd (omega arith)) here)
 
   pub find_next : (k to : ℕ) → test k ≡ false → find_from test (to - k) k ≡ find_from test (to - (k + 1)) (k + 1)
   find_next k to here = find_later k (k + 1) to (omega arith) (λ i ki ik. ap test (omega arith) ∙ here)
 
-  pub find_end : (k to : ℕ) → to ≤ k → Nowhere ≡ find_from test (to - k) k
+  pub find_end : (k to : ℕ) → to ≤ k → None ≡ find_from test (to - k) k
   find_end k to l = sym (find_none test (to - k) k (λ i ki il. absurd (omega arith)))
 
   -- what is found before one end is found before a later one
-  pub find_longer : (from to later k : ℕ) → to ≤ later → At k ≡ find_from test (to - from) from
-      → At k ≡ find_from test (later - from) from
+  pub find_longer : (from to later k : ℕ) → to ≤ later → Some k ≡ find_from test (to - from) from
+      → Some k ≡ find_from test (later - from) from
   find_longer from to later k l e =
       let f = found_at test (to - from) from k (sym e) in
       let a = f.from in

@@ -1,5 +1,6 @@
 -- The columns that a corner leaves out are not contained, as far as no corner before it in `contains_at` has them.
 -- Assumes nothing.
+use Rattle.std.specs.Prelude.{Some, None}
 use mathlib.Core.Path.{◌≡◌, refl, sym, ◌∙◌}
 use mathlib.Core.Bool.{Bool, true, false, cond, ◌&&◌}
 use Prim.Native.Nat.{ℕ, ◌-◌, ◌≤◌, ◌<◌, max}
@@ -7,9 +8,7 @@ use native.Mathlib.Omega.{arith}
 use borrow.Author.Tests.{lt-ltb, le-ltb, ltb-true}
 use lib.Dec.{ltb}
 use Rattle.geometry.specs.declared.Size.{Size}
-use Rattle.scanline.specs.declared.Place.{Place}
-use Rattle.scanline.specs.declared.Place.TheVariants.{At, Nowhere}
-use Rattle.scanline.specs.Places.{find_from}
+use Rattle.scanline.specs.Places.{find_from, Place}
 use Rattle.scanline.proofs.Find.{found_at, found_none}
 use Rattle.corner_radii.specs.declared.CornerRadii.{CornerRadii}
 use Rattle.rounded_rectangle.specs.Relative.{inside_corner, in_quadrant}
@@ -60,11 +59,11 @@ module _ (radius : Size) (e n : ℕ) where
     where
       by_answer : (p : Place) → find_from (λ d. inside_corner radius d e) n 0 ≡ p → d < place_else n p
           → (d < n) × (inside_corner radius d e ≡ false)
-      by_answer (At k) found l =
+      by_answer (Some k) found l =
           let f = found_at (λ d. inside_corner radius d e) n 0 k found in
           let b = f.below in
           (omega arith, f.none_before d (omega arith) l)
-      by_answer Nowhere found l = (l, found_none (λ d. inside_corner radius d e) n 0 found d (omega arith) (omega arith))
+      by_answer None found l = (l, found_none (λ d. inside_corner radius d e) n 0 found d (omega arith) (omega arith))
 
 -- ---- so the box does not contain them, where no corner that comes before has them
 module _ (c : CornerRadii) (s : Size) (dy : ℕ) where

@@ -1,11 +1,9 @@
 -- The columns of a box's row, counted from its left edge, and for the last contained one from its right edge, so that one
 -- search serves both.
 -- Assumes nothing.
-use Rattle.std.specs.Prelude.{◌≡◌, Bool, false, cond, ℕ, ◌-◌, ◌<◌, ltb}
+use Rattle.std.specs.Prelude.{◌≡◌, Bool, false, cond, ℕ, ◌-◌, ◌<◌, ltb, Some, None}
 use Rattle.geometry.specs.declared.Size.{Size}
-use Rattle.scanline.specs.declared.Place.{Place}
-use Rattle.scanline.specs.declared.Place.TheVariants.{At, Nowhere}
-use Rattle.scanline.specs.Places.{find_from}
+use Rattle.scanline.specs.Places.{find_from, Place}
 use Rattle.corner_radii.specs.declared.CornerRadii.{CornerRadii}
 use Rattle.rounded_rectangle.specs.Relative.{inside_corner, contains_at}
 
@@ -16,8 +14,8 @@ covered radius e = cond (ltb e radius.height) radius.width 0
 
 -- the place found, else n
 abbrev pub place_else : ℕ → Place → ℕ
-place_else n (At k) = k
-place_else n Nowhere = n
+place_else n (Some k) = k
+place_else n None = n
 
 -- how many of n columns from a corner on come before the first inside one on the corner's row e, all n if none is inside
 unfoldable pub left_out : Size → ℕ → ℕ → ℕ

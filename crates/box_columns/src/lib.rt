@@ -6,15 +6,13 @@
 // the last one from the right edge.
 #![tactic(auto)]
 
-ghost use Rattle.std.specs.Prelude.{◌≡◌, true, ◌+◌, ◌-◌, ◌<◌, ◌≤◌};
-ghost use Rattle.scanline.specs.declared.Place.TheVariants.{At};
+ghost use Rattle.std.specs.Prelude.{◌≡◌, true, ◌+◌, ◌-◌, ◌<◌, ◌≤◌, Some};
 ghost use Rattle.rounded_rectangle.specs.Relative.{Ready, ReadyBox, radii};
 ghost use Rattle.box_columns.specs.Columns.{covered as columns_covered, left_out, NoneBefore, contained_from_left, contained_from_right, first_contained, last_contained};
 
 use corner_quadrant::EllipseQuadrant;
 use geometry::Size;
 use rounded_rectangle::RoundedRectangleContains;
-use scanline::Place;
 
 // a − b, never below 0.
 pub fn difference(a: u32, b: u32) -> u32
@@ -32,6 +30,7 @@ pub fn covered(radius: Size, e: u32) -> u32
 
 // How many of the n columns from a corner on its ellipse leaves out before the first inside one on
 // its row e, all n if none is inside.
+#[tactic(auto, unfolding(crate::specs::Columns::left_out))]
 pub fn left_out(corner: EllipseQuadrant, e: u32, n: u32, hint: u32) -> u32
     requires ready { Ready corner }
     requires n_bound { n ≤ columns_covered corner.radius e }
@@ -40,10 +39,7 @@ pub fn left_out(corner: EllipseQuadrant, e: u32, n: u32, hint: u32) -> u32
     if n == 0 {
         return 0;
     }
-    let Place::At(k) = corner.first_inside(e, n, hint) else {
-        return n;
-    };
-    k
+    corner.first_inside(e, n, hint).unwrap_or(n)
 }
 
 // So many columns from the left edge on are surely not contained on row dy: the top-left corner
@@ -104,36 +100,34 @@ pub fn right_skip(b: RoundedRectangleContains, dy: u32, hint: u32) -> u32
 }
 
 // The first contained column of from..to on row dy.
-pub fn first_contained(b: RoundedRectangleContains, dy: u32, from: u32, to: u32) -> Place
+#[tactic(auto, using(crate::proofs::Searches::find_here, crate::proofs::Searches::find_next, crate::proofs::Searches::find_end))]
+pub fn first_contained(b: RoundedRectangleContains, dy: u32, from: u32, to: u32) -> Option<u32>
     requires ready_box { ReadyBox b }
     requires dy_lt_height { (dy < b.size.height) × (to ≤ b.size.width) }
     ensures { result ≡ first_contained (radii b) b.size dy from to }
 {
-    let mut dx = from;
-    while dx < to {
+    for dx in from..to {
         if b.contains(dx, dy) {
-            return Place::At(dx);
+            return Some(dx);
         }
-        dx += 1;
     }
-    Place::Nowhere
+    None
 }
 
 // The last contained column of row dy, counted from the right edge from `from` on: there is one, at
 // the place `to` at the latest.
+#[tactic(auto, using(crate::proofs::Searches::find_here, crate::proofs::Searches::find_next))]
 pub fn last_contained(b: RoundedRectangleContains, dy: u32, from: u32, to: u32) -> u32
     requires ready_box { ReadyBox b }
     requires dy_lt_height { (dy < b.size.height) × (to < b.size.width) × (from ≤ to) }
     requires to_value { contained_from_right (radii b) b.size dy to ≡ true }
-    ensures { (At result ≡ last_contained (radii b) b.size dy from (to + 1)) × (result ≤ to) }
+    ensures { (Some result ≡ last_contained (radii b) b.size dy from (to + 1)) × (result ≤ to) }
 {
     let size = b.size;
-    let mut k = from;
-    while k < to {
+    for k in from..to {
         if b.contains(size.width - 1 - k, dy) {
             return k;
         }
-        k += 1;
     }
-    k
+    to
 }

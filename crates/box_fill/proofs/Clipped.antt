@@ -1,6 +1,7 @@
 -- A search over the columns of a run s..e for a test that fails outside the box's columns is a search over those that both
 -- have, counted from the box's left edge, or for the last one from its right edge.
 -- Assumes nothing.
+use Rattle.std.specs.Prelude.{Some, None}
 use mathlib.Core.Path.{◌≡◌, refl, sym, ap, ◌∙◌}
 use mathlib.Core.Bool.{Bool, true, false}
 use Prim.Native.Nat.{ℕ, ◌-◌, ◌≤◌, ◌<◌}
@@ -9,10 +10,8 @@ use lib.IntN.{ℤ, pos, ◌+ℤ◌, ◌-ℤ◌}
 use lib.Signed.{lt_z, le_z}
 use Rattle.signed.specs.Signed.{floor0}
 use Rattle.signed.proofs.Laws.{int, add_law, sub_law}
-use Rattle.scanline.specs.declared.Place.{Place}
-use Rattle.scanline.specs.declared.Place.TheVariants.{At, Nowhere}
 use Rattle.scanline.specs.Columns.{found, none, first_column, last_column, column_else, column_after_else}
-use Rattle.scanline.specs.Places.{find_from, Placed}
+use Rattle.scanline.specs.Places.{find_from, Placed, Place}
 use Rattle.scanline.proofs.Find.{FoundAt, find_at, find_none, found_at, found_none}
 use Rattle.scanline.proofs.Columns.{from_left, from_right, first_from_edge, last_from_edge}
 use Rattle.scanline.proofs.Placed.{placed_before, placed_after}
@@ -55,7 +54,7 @@ closer w j k q jw is kq back = omega arith
 
 -- ---- the columns of s..e that the box has: from one place on and before another, counted from its left edge
 module _ (test : ℤ → Bool) (here : ℕ → Bool) (left : ℤ) (w : ℕ) (agree : (k : ℕ) → k < w → test (left +ℤ pos k) ≡ here k)
-    (beside : (x : ℤ) → Placed left w x Nowhere → test x ≡ false) (s e : ℤ) where
+    (beside : (x : ℤ) → Placed left w x None → test x ≡ false) (s e : ℤ) where
   abbrev from : ℕ
   from = place_in left w s
 
@@ -111,10 +110,10 @@ module _ (test : ℤ → Bool) (here : ℕ → Bool) (left : ℤ) (w : ℕ) (agr
       (λ k low high _. none_in k low high)
 
   first_by_place : (p : Place) → find_from here (to - from) from ≡ p → first_column test s (floor0 (e -ℤ s)) ≡ from_left left p
-  first_by_place Nowhere is =
+  first_by_place None is =
       first_column_none test s (floor0 (e -ℤ s))
       (none_of_run (λ i fi it. found_none here (to - from) from is i fi (omega arith)))
-  first_by_place (At k) is = by_found is_found.from (omega (arith, is_found.from, is_found.below))
+  first_by_place (Some k) is = by_found is_found.from (omega (arith, is_found.from, is_found.below))
     where
       is_found : FoundAt here (to - from) from k
       is_found = found_at here (to - from) from k is
@@ -137,8 +136,8 @@ module _ (test : ℤ → Bool) (here : ℕ → Bool) (left : ℤ) (w : ℕ) (agr
       ap (column_else s) (first_by_place (find_from here (to - from) from) refl) ∙ by_place (find_from here (to - from) from)
     where
       by_place : (p : Place) → column_else s (from_left left p) ≡ start_else left s p
-      by_place (At k) = refl
-      by_place Nowhere = refl
+      by_place (Some k) = refl
+      by_place None = refl
 
   -- ---- from the right edge
   module _ (mirrored : ℕ → Bool) (mirror : (k : ℕ) → mirrored k ≡ here (w - 1 - k)) where
@@ -149,13 +148,13 @@ module _ (test : ℤ → Bool) (here : ℕ → Bool) (left : ℤ) (w : ℕ) (agr
     to_le = omega arith
 
     last_by_place : (p : Place) → search ≡ p → column_after_else e (last_column test s (floor0 (e -ℤ s))) ≡ end_else left w e p
-    last_by_place Nowhere is = ap (column_after_else e) (last_column_none test s (floor0 (e -ℤ s)) (none_of_run none_in))
+    last_by_place None is = ap (column_after_else e) (last_column_none test s (floor0 (e -ℤ s)) (none_of_run none_in))
       where
         none_in : (i : ℕ) → from ≤ i → i < to → here i ≡ false
         none_in i fi it =
             let m = to_right w from to i to_le fi it in
             ap here m.i_is ∙ sym (mirror (w - 1 - i)) ∙ found_none mirrored _ _ is (w - 1 - i) m.k_from m.k_below
-    last_by_place (At j) is = by_found (w - 1 - j) (to_left w from to j to_le is_found.from is_found.below)
+    last_by_place (Some j) is = by_found (w - 1 - j) (to_left w from to j to_le is_found.from is_found.below)
       where
         is_found : FoundAt mirrored (w - from - (w - to)) (w - to) j
         is_found = found_at mirrored (w - from - (w - to)) (w - to) j is

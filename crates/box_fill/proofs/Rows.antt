@@ -1,5 +1,6 @@
 -- The fill of a row, from the paper's signed columns to those counted from the fill area's edges, and the code's way to it.
 -- Assumes nothing.
+use Rattle.std.specs.Prelude.{Some, None}
 use mathlib.Core.Path.{◌≡◌, refl, sym, ap, ap₂, ◌∙◌}
 use mathlib.Core.Bool.{Bool, true, false}
 use Prim.Native.Nat.{ℕ, ◌+◌, ◌-◌, ◌≤◌, ◌<◌, max}
@@ -13,7 +14,6 @@ use Rattle.geometry_range.specs.declared.Range.{Range}
 use Rattle.geometry_range.specs.Range.{contains as range_contains}
 use Rattle.rectangle.specs.Rectangle.{rows}
 use Rattle.geometry_range.proofs.Fields.{range_by_fields}
-use Rattle.scanline.specs.declared.Place.TheVariants.{At, Nowhere}
 use Rattle.scanline.specs.Places.{Placed}
 use Rattle.scanline.proofs.Find.{FoundAt, find_none, found_at, found_none}
 use Rattle.scanline.proofs.Placed.{place_among}
@@ -30,11 +30,11 @@ use Rattle.box_fill.proofs.Clipped.{start_clipped, end_clipped}
 
 -- ---- from signed columns to places
 module _ (b : RoundedRectangle) (y : ℤ) (run : Range) where
-  pub fill_off_rows : Placed (top b) (height b) y Nowhere → record { start = run.end; end = run.end } ≡ fill_run b y run
+  pub fill_off_rows : Placed (top b) (height b) y None → record { start = run.end; end = run.end } ≡ fill_run b y run
   unfolding fill_run
   fill_off_rows h = rw h
 
-  module _ (dy : ℕ) (p : Placed (top b) (height b) y (At dy)) where
+  module _ (dy : ℕ) (p : Placed (top b) (height b) y (Some dy)) where
     abbrev from_left : ℕ → Bool
     from_left = contained_from_left b.corners b.rectangle.size dy
 
@@ -44,7 +44,7 @@ module _ (b : RoundedRectangle) (y : ℤ) (run : Range) where
     agree : (k : ℕ) → k < width b → contains b (left b +ℤ pos k) y ≡ from_left k
     agree k l = ap (contains b (left b +ℤ pos k)) p.0 ∙ contains_relative b k dy l p.1
 
-    beside : (x : ℤ) → Placed (left b) (width b) x Nowhere → contains b x y ≡ false
+    beside : (x : ℤ) → Placed (left b) (width b) x None → contains b x y ≡ false
     beside x h = sym (contains_no_column b x y h)
 
     pub fill_relative : row_fill b.corners b.rectangle.size (left b) dy run ≡ fill_run b y run
@@ -82,8 +82,8 @@ module _ {c : CornerRadii} {s : Size} {left : ℤ} {dy : ℕ} {run : Range} {fro
   last_placed i = last_contained c s dy (w - l.to_is i) (w - l.from_is i)
 
   -- none from the left: none from the right
-  module _ (e : Nowhere ≡ first_contained c s dy (max from n) to) where
-    last_nowhere : Nowhere ≡ last_contained c s dy (w - to) (w - from)
+  module _ (e : None ≡ first_contained c s dy (max from n) to) where
+    last_nowhere : None ≡ last_contained c s dy (w - to) (w - from)
     last_nowhere =
         sym (find_none (contained_from_right c s dy) _ _
         (λ k tk kf.
@@ -101,7 +101,7 @@ module _ {c : CornerRadii} {s : Size} {left : ℤ} {dy : ℕ} {run : Range} {fro
         (ap (end_else left w run.end) (last_nowhere ∙ last_placed))
 
   -- one from the left: the search from the right stops there at the latest
-  module _ (first : ℕ) (e : At first ≡ first_contained c s dy (max from n) to) where
+  module _ (first : ℕ) (e : Some first ≡ first_contained c s dy (max from n) to) where
     abbrev first_found : FoundAt (contained_from_left c s dy) (to - max from n) (max from n) first
     first_found = found_at (contained_from_left c s dy) (to - max from n) (max from n) first (sym e)
 
@@ -125,8 +125,8 @@ module _ {c : CornerRadii} {s : Size} {left : ℤ} {dy : ℕ} {run : Range} {fro
           let h = holds_past (contained_from_right c s dy) m (w - 1 - first) none_right first_mirrored in
           omega arith
 
-      module _ (last : ℕ) (g : At last ≡ last_contained c s dy (max (w - to) m) (w - 1 - first + 1)) where
-        last_whole : At last ≡ last_contained c s dy (w - to) (w - from)
+      module _ (last : ℕ) (g : Some last ≡ last_contained c s dy (max (w - to) m) (w - 1 - first + 1)) where
+        last_whole : Some last ≡ last_contained c s dy (w - to) (w - from)
         last_whole =
             find_longer (contained_from_right c s dy) (max (w - to) m) (w - 1 - first + 1) (w - from) last before_from g
             ∙ sym (find_past (contained_from_right c s dy) (w - to) m (w - from) none_right)

@@ -1,14 +1,13 @@
 -- `fill_run` counted from the fill area's edges, which the code computes: proofs/Rows.antt equates the two. A column of the
 -- box is counted from its left edge, and for the last contained one from its right edge, so that one search serves both.
 -- Assumes nothing.
-use Rattle.std.specs.Prelude.{◌≡◌, ℕ, ◌-◌, ◌*◌, min, ℤ, pos, ◌+ℤ◌, ◌-ℤ◌}
+use Rattle.scanline.specs.Places.{Place}
+use Rattle.std.specs.Prelude.{◌≡◌, ℕ, ◌-◌, ◌*◌, min, ℤ, pos, ◌+ℤ◌, ◌-ℤ◌, Some, None}
 use Rattle.signed.specs.Signed.{Near, floor0}
 use Rattle.geometry.specs.declared.Size.{Size}
 use Rattle.geometry_range.specs.declared.Range.{Range}
 use Rattle.rectangle.specs.declared.Rectangle.{Rectangle}
 use Rattle.geometry.specs.Bounds.{wide_point, PointNear}
-use Rattle.scanline.specs.declared.Place.{Place}
-use Rattle.scanline.specs.declared.Place.TheVariants.{At, Nowhere}
 use Rattle.corner_radii.specs.declared.CornerRadii.{CornerRadii}
 use Rattle.rounded_rectangle.specs.declared.RoundedRectangle.{RoundedRectangle}
 use Rattle.rounded_rectangle.specs.declared.RoundedRectangleContains.{RoundedRectangleContains}
@@ -39,12 +38,12 @@ place_in first n v = min (floor0 (v -ℤ first)) n
 -- the column of a place counted from the left edge, and the one after the column of a place counted from the right edge of
 -- w columns; else another
 abbrev pub start_else : ℤ → ℤ → Place → ℤ
-start_else left other (At k) = left +ℤ pos k
-start_else left other Nowhere = other
+start_else left other (Some k) = left +ℤ pos k
+start_else left other None = other
 
 abbrev pub end_else : ℤ → ℕ → ℤ → Place → ℤ
-end_else left w other (At k) = left +ℤ pos w -ℤ pos k
-end_else left w other Nowhere = other
+end_else left w other (Some k) = left +ℤ pos w -ℤ pos k
+end_else left w other None = other
 
 -- the fill of row dy of a fill area whose first column is `left`: the columns of the run that the box has go from one place
 -- up to another

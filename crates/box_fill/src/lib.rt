@@ -13,7 +13,6 @@ ghost use Rattle.box_fill.specs.Relative.{NearRun, place_in, row_fill};
 use box_columns::{first_contained, last_contained, left_skip, right_skip};
 use geometry_range::Range;
 use rounded_rectangle::RoundedRectangleContains;
-use scanline::Place;
 
 // Where the searches of a row begin, on the left and on the right: nothing depends on it but time.
 #[derive(Clone, Copy)]
@@ -59,7 +58,7 @@ pub fn row_fill(
     let to = place_in(left, size.width, run.end);
     let left_hint = hints.left;
     let from_left = left_skip(b, dy, left_hint);
-    let Place::At(first) = first_contained(b, dy, signed::most(from, from_left), to) else {
+    let Some(first) = first_contained(b, dy, signed::most(from, from_left), to) else {
         return FillRun {
             run: Range {
                 start: run.start,

@@ -1,6 +1,7 @@
 -- Rows whose two sides are alike: the columns between those that a corner leaves out on the left, and as many on the right, are
 -- contained. In its quadrant a corner's test, once true, stays true.
 -- Assumes nothing.
+use Rattle.std.specs.Prelude.{Some, None}
 use mathlib.Core.Path.{◌≡◌, refl, sym, ap, subst, ◌∙◌}
 use mathlib.Core.Bool.{Bool, true, false, false≢true}
 use Prim.Native.Nat.{ℕ, ◌+◌, ◌-◌, ◌*◌, ◌≤◌, ◌<◌, max}
@@ -10,9 +11,7 @@ use lib.Dec.{eqb}
 use Rattle.geometry.specs.declared.Size.{Size}
 use Rattle.geometry.specs.Bounds.{wide_side}
 use Rattle.corner.specs.Bounds.{wide_radius, wide_stroke_side}
-use Rattle.scanline.specs.declared.Place.{Place}
-use Rattle.scanline.specs.declared.Place.TheVariants.{At, Nowhere}
-use Rattle.scanline.specs.Places.{find_from}
+use Rattle.scanline.specs.Places.{find_from, Place}
 use Rattle.scanline.proofs.Find.{found_at}
 use Rattle.ellipse.specs.Relative.{gap, contains_of}
 use Rattle.ellipse_search.proofs.Search.{columns_rise}
@@ -55,16 +54,16 @@ module _ (radius : Size) (e n : ℕ) (small : n ≤ radius.width) where
   past_left_out d = by_answer (find_from (λ d. inside_corner radius d e) n 0) refl
     where
       by_answer : (p : Place) → find_from (λ d. inside_corner radius d e) n 0 ≡ p → place_else n p ≤ d → d < n → inside_corner radius d e ≡ true
-      by_answer (At k) found l dn = inside_rises k d l dn (found_at (λ d. inside_corner radius d e) n 0 k found).holds
-      by_answer Nowhere found l dn = absurd (omega arith)
+      by_answer (Some k) found l dn = inside_rises k d l dn (found_at (λ d. inside_corner radius d e) n 0 k found).holds
+      by_answer None found l dn = absurd (omega arith)
 
   pub left_out_le : left_out radius e n ≤ n
   unfolding left_out
   left_out_le = by_answer (find_from (λ d. inside_corner radius d e) n 0) refl
     where
       by_answer : (p : Place) → find_from (λ d. inside_corner radius d e) n 0 ≡ p → place_else n p ≤ n
-      by_answer (At k) found = let b = (found_at (λ d. inside_corner radius d e) n 0 k found).below in omega arith
-      by_answer Nowhere found = omega arith
+      by_answer (Some k) found = let b = (found_at (λ d. inside_corner radius d e) n 0 k found).below in omega arith
+      by_answer None found = omega arith
 
 -- ---- rows that only the upper corners have, and rows that only the lower ones have
 module _ (c : CornerRadii) (s : Size) (dy : ℕ) (r : ℕ) where

@@ -1,9 +1,8 @@
 -- Rows of a box that are alike on both sides, and rows with straight sides.
 -- Assumes nothing.
-use Rattle.std.specs.Prelude.{◌≡◌, Bool, true, ◌&&◌, ℕ, ◌+◌, ◌-◌, ◌*◌, ◌≤◌, ◌<◌, max, eqb}
+use Rattle.scanline.specs.Places.{Place}
+use Rattle.std.specs.Prelude.{◌≡◌, Bool, true, ◌&&◌, ℕ, ◌+◌, ◌-◌, ◌*◌, ◌≤◌, ◌<◌, max, eqb, Some, None}
 use Rattle.geometry.specs.declared.Size.{Size}
-use Rattle.scanline.specs.declared.Place.{Place}
-use Rattle.scanline.specs.declared.Place.TheVariants.{At, Nowhere}
 use Rattle.corner_radii.specs.declared.CornerRadii.{CornerRadii}
 use Rattle.box_columns.specs.Columns.{NoneBefore, contained_from_left, contained_from_right}
 
@@ -20,8 +19,8 @@ pub record Between (c : CornerRadii) (s : Size) (dy k : ℕ) : Type 0 where
 
 -- so many columns of row dy are left out on either side; or nothing is said
 abbrev pub MirroredSides : CornerRadii → Size → ℕ → Place → Type 0
-MirroredSides c s dy (At k) = Between c s dy k
-MirroredSides c s dy Nowhere = Unit {0}
+MirroredSides c s dy (Some k) = Between c s dy k
+MirroredSides c s dy None = Unit {0}
 
 -- row dy of a box has straight sides: it lies below the upper corners and above the lower ones
 pub record Straight (c : CornerRadii) (s : Size) (dy : ℕ) : Type 0 where

@@ -11,7 +11,6 @@ use box_columns::{covered, difference, left_out};
 use corner_quadrant::side_inset;
 use geometry::Size;
 use rounded_rectangle::{Insets, RoundedRectangleContains};
-use scanline::Place;
 
 // Whether two corners are alike.
 pub fn are_alike(a: Size, b: Size) -> bool
@@ -29,7 +28,7 @@ pub fn are_alike(a: Size, b: Size) -> bool
 // How many columns row dy leaves out on either side, where its two sides are alike: only the upper
 // corners have the row, or only the lower ones, those two are alike, and they do not overlap. Then
 // all columns between are contained, and one search serves both sides.
-pub fn mirrored_skip(b: RoundedRectangleContains, dy: u32, hint: u32) -> Place
+pub fn mirrored_skip(b: RoundedRectangleContains, dy: u32, hint: u32) -> Option<u32>
     requires ready_box { ReadyBox b }
     requires dy_lt_height { dy < b.size.height }
     ensures { MirroredSides (radii b) b.size dy result }
@@ -47,19 +46,19 @@ pub fn mirrored_skip(b: RoundedRectangleContains, dy: u32, hint: u32) -> Place
     if by_bottom == 0 {
         if are_alike(top_left.radius, top_right.radius) {
             if 2 * by_top_left <= size.width {
-                return Place::At(left_out(top_left, dy, by_top_left, hint));
+                return Some(left_out(top_left, dy, by_top_left, hint));
             }
         }
-        return Place::Nowhere;
+        return None;
     }
     if by_top == 0 {
         if are_alike(bottom_left.radius, bottom_right.radius) {
             if 2 * by_bottom_left <= size.width {
-                return Place::At(left_out(bottom_left, below, by_bottom_left, hint));
+                return Some(left_out(bottom_left, below, by_bottom_left, hint));
             }
         }
     }
-    Place::Nowhere
+    None
 }
 
 // The insets of the box's row dy, as `RoundedRectangleContains::insets` has them: where the corners on

@@ -1,20 +1,18 @@
 -- The fill of a row whose two sides are alike: from the first column of the run between the columns left out on either side, up to the
 -- last.
 -- Assumes nothing.
+use Rattle.std.specs.Prelude.{Some, None}
 use mathlib.Core.Path.{◌≡◌, refl, sym, ap, ◌∙◌}
 use mathlib.Core.Bool.{Bool, true, false, cond}
-use Prim.Native.Nat.{ℕ, ◌+◌, ◌-◌, ◌*◌, ◌≤◌, ◌<◌, min, max}
+use Prim.Native.Nat.{ℕ, ◌+◌, ◌-◌, ◌≤◌, ◌<◌, min, max}
 use native.Mathlib.Omega.{arith}
 use borrow.Author.Tests.{ltb-true, ltb-false, lt-ltb, le-ltb}
 use lib.Dec.{ltb}
 use lib.IntN.{ℤ, pos, ◌+ℤ◌, ◌-ℤ◌}
 use Rattle.signed.proofs.Laws.{int, add_law, sub_law}
 use Rattle.geometry.specs.declared.Size.{Size}
-use Rattle.geometry.specs.Bounds.{wide_side}
-use Rattle.corner.specs.Bounds.{wide_stroke_side}
 use Rattle.geometry_range.specs.declared.Range.{Range}
 use Rattle.geometry_range.proofs.Fields.{range_by_fields}
-use Rattle.scanline.specs.declared.Place.TheVariants.{At, Nowhere}
 use Rattle.scanline.proofs.Find.{find_at, find_none}
 use Rattle.corner_radii.specs.declared.CornerRadii.{CornerRadii}
 use Rattle.box_columns.specs.Columns.{contained_from_left, contained_from_right, first_contained, last_contained}
@@ -56,7 +54,7 @@ module _ (c : CornerRadii) (s : Size) (dy k : ℕ) (b : Between c s dy k) where
 
   module _ (from to first end : ℕ) (l : Looked from to first end) where
     module _ (some : first < end) where
-      first_found : first_contained c s dy from to ≡ At first
+      first_found : first_contained c s dy from to ≡ Some first
       first_found =
           let ff = l.first_from in
           let et = l.end_to in
@@ -65,7 +63,7 @@ module _ (c : CornerRadii) (s : Size) (dy k : ℕ) (b : Between c s dy k) where
           find_at (contained_from_left c s dy) (to - from) from first ff (omega arith)
           (λ i fi il. b.none_left i (l.before_first i fi il)) (b.inside first fp (omega arith))
 
-      last_found : last_contained c s dy (w - to) (w - from) ≡ At (w - end)
+      last_found : last_contained c s dy (w - to) (w - from) ≡ Some (w - end)
       last_found =
           let ti = l.to_in in
           let ff = l.first_from in
@@ -95,13 +93,13 @@ module _ (c : CornerRadii) (s : Size) (dy k : ℕ) (b : Between c s dy k) where
           by_order i first (λ il. b.none_left i (l.before_first i fi il))
           (λ fl. mirrored i (omega arith) ∙ b.none_right (w - 1 - i) (l.from_end i it (omega arith)))
 
-      first_none : first_contained c s dy from to ≡ Nowhere
+      first_none : first_contained c s dy from to ≡ None
       first_none = find_none (contained_from_left c s dy) (to - from) from (λ i fi il. none_between i fi (within i fi il))
         where
           within : (i : ℕ) → from ≤ i → i < from + (to - from) → i < to
           within i fi il = omega arith
 
-      last_none : last_contained c s dy (w - to) (w - from) ≡ Nowhere
+      last_none : last_contained c s dy (w - to) (w - from) ≡ None
       last_none =
           find_none (contained_from_right c s dy) (w - from - (w - to)) (w - to)
           (λ j tj jl. let m = to_left w from to j l.to_in tj jl in none_between (w - 1 - j) m.i_from m.i_to)
@@ -164,10 +162,3 @@ module _ (left : ℤ) (w : ℕ) (run : Range) (k first end : ℕ) (first_is : fi
   between_none l =
       (λ i. cond (sym (le-ltb first end l) i) (record { start = left +ℤ pos first; end = left +ℤ pos end }) run)
       ∙ (λ i. cond (ltb (first_is i) (end_is i)) (record { start = left +ℤ pos (first_is i); end = left +ℤ pos (end_is i) }) run)
-
--- both ends are places of a side
-pub first_small : (a k w n : ℕ) → n ≡ max a k → a ≤ w → 2 * k ≤ w → w ≤ wide_stroke_side → n ≤ wide_side
-first_small a k w n is aw kw small = omega (arith, is)
-
-pub end_small : (a m w n : ℕ) → n ≡ min a m → a ≤ w → w ≤ wide_stroke_side → n ≤ wide_side
-end_small a m w n is aw small = omega (arith, is)

@@ -16,7 +16,6 @@ use box_mirrored::mirrored_skip;
 use geometry_range::Range;
 use rectangle::Rectangle;
 use rounded_rectangle::RoundedRectangleContains;
-use scanline::Place;
 
 // The fill of a row that leaves out k columns of `width` on either side and contains those between.
 // Where none of these is in the run, the whole run is fill.
@@ -53,7 +52,7 @@ pub fn fill_run(
 {
     let top_left = rectangle.top_left;
     let size = b.size;
-    let Place::At(dy) = scanline::place_of(top_left.y, size.height, y) else {
+    let Some(dy) = scanline::place_of(top_left.y, size.height, y) else {
         return FillRun {
             run: Range {
                 start: run.end,
@@ -64,7 +63,7 @@ pub fn fill_run(
     };
     let left_hint = hints.left;
     let right_hint = hints.right;
-    let Place::At(k) = mirrored_skip(b, dy, left_hint) else {
+    let Some(k) = mirrored_skip(b, dy, left_hint) else {
         return row_fill(top_left.x, b, dy, run, hints);
     };
     FillRun {

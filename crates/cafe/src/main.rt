@@ -9,12 +9,11 @@ ghost use Rattle.std.specs.Prelude.{◌≡◌, ◌↔◌, IsTrue};
 use corner_radii::CornerRadii;
 use figure::Figure;
 use geometry::{Point, Size};
-use netpbm::WriteAnswer;
 use rectangle::Rectangle;
 use rounded_rectangle::RoundedRectangle;
 use sheet::Sheet;
 use std::io::{self, Write};
-use style::{Paint, StrokeAlignment, Style};
+use style::{StrokeAlignment, Style};
 
 const WIDTH: u32 = 232;
 
@@ -26,8 +25,8 @@ const LAYERS: u32 = 12;
 const ROUNDS: u32 = 64;
 
 // The sheet with a figure more, in a border of 2 pixels.
-fn with_figure(sheet: Sheet, figure: Figure, fill: Paint) -> Sheet {
-    let style = Style::new(Paint::Colour(40), fill, 2).with_alignment(StrokeAlignment::Inside);
+fn with_figure(sheet: Sheet, figure: Figure, fill: Option<u8>) -> Sheet {
+    let style = Style::new(Some(40), fill, 2).with_alignment(StrokeAlignment::Inside);
     let outcome = sheet.add(figure, style);
     let added = outcome.sheet;
     added
@@ -56,11 +55,11 @@ fn with_tile(sheet: Sheet, corner: Point, oval_corner: Point, clocked_in: bool) 
             height: 24,
         },
     });
-    let boxed = with_figure(sheet, tile, Paint::Colour(220));
+    let boxed = with_figure(sheet, tile, Some(220));
     if clocked_in {
-        return with_figure(boxed, oval, Paint::Colour(40));
+        return with_figure(boxed, oval, Some(40));
     }
-    with_figure(boxed, oval, Paint::Absent)
+    with_figure(boxed, oval, None)
 }
 
 // The page: three tiles above three.
@@ -112,7 +111,7 @@ fn main(rt: HostRuntime) -> io::Result<()> {
         return Ok(());
     }
     let mut file = [0u8; 27855];
-    let WriteAnswer::Written(_) = netpbm::write_p5(WIDTH, HEIGHT, &interleaved, &mut file) else {
+    let Ok(_) = netpbm::write_p5(WIDTH, HEIGHT, &interleaved, &mut file) else {
         return Ok(());
     };
     io::writer(&rt).write_all(&file)

@@ -1,5 +1,7 @@
 -- The whole run in the stroke paint and then the fill over it leave the bytes that the three runs leave, where they are nested.
 -- Assumes nothing.
+use Rattle.style.specs.Style.{Paint}
+use Rattle.std.specs.Prelude.{Some, None}
 use mathlib.Core.Path.{◌≡◌, refl, sym, ap, ◌∙◌}
 use mathlib.Core.Bool.{Bool, true, false, cond, ◌&&◌, ◌||◌, false≢true}
 use mathlib.Core.List.{List}
@@ -13,8 +15,6 @@ use Rattle.signed.proofs.Laws.{int}
 use Rattle.geometry_range.specs.declared.Range.{Range}
 use Rattle.geometry_range.specs.Range.{contains}
 use Rattle.scanline.specs.declared.StyledRuns.{StyledRuns}
-use Rattle.style.specs.declared.Paint.{Paint}
-use Rattle.style.specs.declared.Paint.TheVariants.{Absent, Colour}
 use Rattle.style.specs.declared.Style.{Style}
 use Rattle.canvas_run.specs.Run.{under, byte_over, run_over}
 use Rattle.canvas_run.specs.declared.Columns.{Columns}
@@ -30,8 +30,8 @@ columns_in_order run width columns is = rw is (clipped_in_order run width)
 
 -- ---- one byte, by whether each run holds its column
 twice : (stroke : Paint) (byte : ℕ) → under stroke (under stroke byte) ≡ under stroke byte
-twice Absent byte = refl
-twice (Colour colour) byte = refl
+twice None byte = refl
+twice (Some colour) byte = refl
 
 either_stroke : (left right : Bool) (stroke : Paint) (byte : ℕ)
     → cond (left || right) (under stroke byte) byte

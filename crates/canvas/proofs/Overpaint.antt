@@ -1,5 +1,8 @@
 -- An overpainted row: it is as long as before, and each of its bytes is the stroke, the fill or what was there, by the runs.
 -- Assumes nothing.
+use Rattle.style.specs.Style.{Paint}
+use Rattle.scanline.specs.Rows.{StyledRow}
+use Rattle.std.specs.Prelude.{Some, None}
 use mathlib.Core.Path.{◌≡◌, refl, ap, subst, ◌∙◌}
 use mathlib.Core.Bool.{Bool, true, false, cond, ◌&&◌, ◌||◌}
 use mathlib.Core.List.{List}
@@ -12,10 +15,6 @@ use Rattle.signed.proofs.Laws.{lt_z_true, lt_le_z}
 use Rattle.geometry_range.specs.declared.Range.{Range}
 use Rattle.geometry_range.specs.Range.{contains}
 use Rattle.scanline.specs.declared.StyledRuns.{StyledRuns}
-use Rattle.scanline.specs.declared.StyledRow.{StyledRow}
-use Rattle.scanline.specs.declared.StyledRow.TheVariants.{Runs, NoRow}
-use Rattle.style.specs.declared.Paint.{Paint}
-use Rattle.style.specs.declared.Paint.TheVariants.{Absent, Colour}
 use Rattle.style.specs.declared.Style.{Style}
 use Rattle.canvas_run.specs.Run.{under, byte_over, run_over}
 use Rattle.canvas.specs.Canvas.{overpaint_runs, overpaint}
@@ -28,8 +27,8 @@ unfolding overpaint_runs
 overpaint_runs_length style runs row = run_over_length _ _ _ ∙ run_over_length _ _ _ ∙ run_over_length _ _ _
 
 pub overpaint_length : (style : Style) (styled : StyledRow) (row : List ℕ) → length (overpaint style styled row) ≡ length row
-overpaint_length style (Runs runs) row = overpaint_runs_length style runs row
-overpaint_length style NoRow row = refl
+overpaint_length style (Some runs) row = overpaint_runs_length style runs row
+overpaint_length style None row = refl
 
 -- ---- byte k, of any three runs: under left, then fill, then right
 pub overpaint_runs_byte : (style : Style) (runs : StyledRuns) (row : List ℕ) (k : ℕ) → k < length row
@@ -82,8 +81,8 @@ overpaint_pixel style runs row k meet h =
     impossible e = let z : ◌≡◌ {A = ℕ} 0 1 = cc in absurd (omega arith)
 
     twice : (stroke : Paint) (byte : ℕ) → under stroke (under stroke byte) ≡ under stroke byte
-    twice Absent byte = refl
-    twice (Colour colour) byte = refl
+    twice None byte = refl
+    twice (Some colour) byte = refl
 
     by_runs : (left fill right : Bool) (stroke inner : Paint) (byte : ℕ)
         → (left ≡ true → fill ≡ false) → (fill ≡ true → right ≡ false)

@@ -1,10 +1,9 @@
 -- Document 01, 'The book' (to overpaint a canvas row by a styled row), after the pixel iterators of both `styled.rs`.
 -- Assumes nothing.
-use Rattle.std.specs.Prelude.{List, ℕ}
+use Rattle.scanline.specs.Rows.{StyledRow}
+use Rattle.std.specs.Prelude.{List, ℕ, Some, None}
 use Rattle.book.specs.Canvas.{canvas_row, put_row}
 use Rattle.scanline.specs.declared.StyledRuns.{StyledRuns}
-use Rattle.scanline.specs.declared.StyledRow.{StyledRow}
-use Rattle.scanline.specs.declared.StyledRow.TheVariants.{Runs, NoRow}
 use Rattle.style.specs.declared.Style.{Style}
 use Rattle.canvas_run.specs.Run.{run_over}
 
@@ -18,8 +17,8 @@ overpaint_runs style runs row =
 
 -- a row overpainted by a styled row. Where the figure lacks the row it stays
 abbrev pub overpaint : Style → StyledRow → List ℕ → List ℕ
-overpaint style (Runs runs) row = overpaint_runs style runs row
-overpaint style NoRow row = row
+overpaint style (Some runs) row = overpaint_runs style runs row
+overpaint style None row = row
 
 -- a canvas of W columns with its row y overpainted by three runs; every byte outside that row is kept
 abbrev pub overpaint_at : ℕ → ℕ → Style → StyledRuns → List ℕ → List ℕ

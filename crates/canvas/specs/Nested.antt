@@ -1,12 +1,11 @@
 -- When a styled row may be painted as its whole run in the stroke paint and then the fill over it, as the code does with short rows:
 -- proofs/Nested.antt says that it comes to the same.
 -- Assumes nothing.
-use Rattle.std.specs.Prelude.{◌≡◌, true, ℕ}
+use Rattle.style.specs.Style.{Paint}
+use Rattle.std.specs.Prelude.{◌≡◌, true, ℕ, Some}
 use Rattle.std.specs.Int.Signed.{le_z}
 use Rattle.geometry_range.specs.declared.Range.{Range}
 use Rattle.scanline.specs.declared.StyledRuns.{StyledRuns}
-use Rattle.style.specs.declared.Paint.{Paint}
-use Rattle.style.specs.declared.Paint.TheVariants.{Colour}
 
 -- from the start of the left stroke to the end of the right one
 abbrev pub whole_run : StyledRuns → Range
@@ -16,7 +15,7 @@ whole_run runs = record { start = runs.stroke_left.start; end = runs.stroke_righ
 -- neither stroke leaves the whole run
 pub record Nested (runs : StyledRuns) (fill : Paint) : Type 0 where
   pub colour : ℕ
-  pub fill_is : fill ≡ Colour colour
+  pub fill_is : fill ≡ Some colour
   pub left_reaches : le_z runs.fill.start runs.stroke_left.end ≡ true
   pub right_reaches : le_z runs.stroke_right.start runs.fill.end ≡ true
   pub right_after : le_z runs.fill.end runs.stroke_right.start ≡ true

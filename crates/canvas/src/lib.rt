@@ -11,7 +11,7 @@ ghost use Rattle.canvas.specs.Nested.{Nested};
 use canvas_run::{clip, paint_run};
 use geometry_range::Range;
 use scanline::StyledRuns;
-use style::{Paint, Style};
+use style::Style;
 
 // Up to so many bytes it takes less time to paint the whole run and the fill over it than to begin a
 // third run.
@@ -19,10 +19,11 @@ const SHORT: u32 = 256;
 
 // Whether a row of this width is painted by the whole run and the fill over it: where that comes to
 // the same, and the run is short.
-fn is_nested(runs: StyledRuns, fill: Paint, width: u32) -> bool
+#[tactic(auto, using(crate::proofs::Nested::columns_in_order))]
+fn is_nested(runs: StyledRuns, fill: Option<u8>, width: u32) -> bool
     ensures { result ≡ true → Nested runs fill }
 {
-    let Paint::Colour(_) = fill else {
+    let Some(_) = fill else {
         return false;
     };
     let left = runs.stroke_left;
@@ -78,6 +79,7 @@ fn merged(runs: StyledRuns, style: Style, width: u32) -> StyledRuns
 }
 
 // Overpaints a row by a styled row.
+#[tactic(auto, unfolding(crate::specs::Canvas::overpaint_runs))]
 fn paint_row(row: &mut [u8], scanline: StyledRuns, style: Style)
     requires { length row.old ≤ wide_side }
     ensures { row.new ≡ overpaint_runs style scanline row.old }
@@ -92,6 +94,7 @@ fn paint_row(row: &mut [u8], scanline: StyledRuns, style: Style)
 
 // Overpaints row y of a canvas of this width by a styled row: the row's part of the canvas is lent
 // onward, and every byte outside it stays.
+#[tactic(auto, using(canvas_run::proofs::LentPart::lent_row_length, canvas_run::proofs::LentPart::lent_row_put))]
 pub fn paint_row_at(canvas: &mut [u8], width: u32, y: u32, scanline: StyledRuns, style: Style)
     requires width_le_wide_side { width ≤ wide_side }
     requires width_in_bounds { y * width + width ≤ length canvas.old }

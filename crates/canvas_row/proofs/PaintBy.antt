@@ -1,5 +1,7 @@
 -- What a styled row makes of a canvas: the runs laid over the canvas row, or nothing where the canvas or the figure lacks it.
 -- Assumes nothing.
+use Rattle.scanline.specs.Rows.{StyledRow}
+use Rattle.std.specs.Prelude.{Some, None}
 use mathlib.Core.Path.{◌≡◌, refl, ap, ◌∙◌}
 use mathlib.Core.Bool.{Bool, true, false, cond}
 use mathlib.Core.List.{List}
@@ -11,9 +13,7 @@ use lib.IntN.{ℤ, pos, negsuc}
 use lib.Signed.{lt_z}
 use Rattle.signed.specs.Signed.{floor0}
 use Rattle.signed.proofs.Laws.{int}
-use Rattle.scanline.specs.declared.StyledRow.{StyledRow}
 use Rattle.scanline.specs.declared.StyledRuns.{StyledRuns}
-use Rattle.scanline.specs.declared.StyledRow.TheVariants.{Runs, NoRow}
 use Rattle.style.specs.declared.Style.{Style}
 use Rattle.book.specs.Canvas.{canvas_row, put_row}
 use Rattle.book.specs.Sheet.{with_row}
@@ -31,7 +31,7 @@ module _ (row_at : ℤ → StyledRow) (style : Style) (W H : ℕ) (canvas : List
   paint_by_row row (negsuc y) is = refl
 
   -- a row that the figure lacks
-  pub paint_by_lacking : (y : ℤ) → row_at y ≡ NoRow → paint_by row_at style W H y canvas ≡ canvas
+  pub paint_by_lacking : (y : ℤ) → row_at y ≡ None → paint_by row_at style W H y canvas ≡ canvas
   unfolding with_row
   paint_by_lacking (pos y) is = by_test (ltb y H)
     where
@@ -64,6 +64,6 @@ module _ (row_at : ℤ → StyledRow) (style : Style) (W H : ℕ) (canvas : List
   paint_by_on (negsuc y) from low = absurd (omega (arith, int))
 
   module _ (y : ℤ) (from : lt_z y (pos 0) ≡ false) (low : floor0 y < H) where
-    pub paint_by_runs : (runs : StyledRuns) → row_at y ≡ Runs runs
+    pub paint_by_runs : (runs : StyledRuns) → row_at y ≡ Some runs
         → paint_by row_at style W H y canvas ≡ overpaint_at W (floor0 y) style runs canvas
     paint_by_runs runs is = paint_by_on y from low ∙ ap (λ (row : StyledRow). with row y) is

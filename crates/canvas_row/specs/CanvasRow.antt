@@ -1,7 +1,7 @@
 -- Document 01, 'The book': a canvas with one of its rows overpainted.
 -- Assumes nothing.
+use Rattle.scanline.specs.Rows.{StyledRow}
 use Rattle.std.specs.Prelude.{List, ℕ, ℤ}
-use Rattle.scanline.specs.declared.StyledRow.{StyledRow}
 use Rattle.style.specs.declared.Style.{Style}
 use Rattle.book.specs.Sheet.{with_row}
 use Rattle.canvas.specs.Canvas.{overpaint}

@@ -8,11 +8,17 @@ ghost use Rattle.geometry.specs.Bounds.{wide_point, wide_side};
 ghost use Rattle.canvas_row.specs.CanvasRow.{paint_by};
 
 use canvas_size::CanvasSize;
-use scanline::StyledRow;
+use scanline::StyledRuns;
 use style::Style;
 
 // Paints a styled row at y, if the canvas has that row.
-pub fn paint_row_on(canvas: &mut [u8], size: CanvasSize, row: StyledRow, style: Style, y: i32)
+pub fn paint_row_on(
+    canvas: &mut [u8],
+    size: CanvasSize,
+    row: Option<StyledRuns>,
+    style: Style,
+    y: i32,
+)
     requires canvas_len { length canvas.old ≡ size.width * size.height }
     requires width_le_wide_side { size.width ≤ wide_side }
     requires near { Near wide_point y }
@@ -25,7 +31,7 @@ pub fn paint_row_on(canvas: &mut [u8], size: CanvasSize, row: StyledRow, style: 
     if size.height <= place {
         return;
     }
-    let StyledRow::Runs(runs) = row else {
+    let Some(runs) = row else {
         return;
     };
     canvas::paint_row_at(canvas, size.width, place, runs, style);

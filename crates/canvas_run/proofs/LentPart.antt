@@ -1,13 +1,12 @@
--- A part of a list that was lent and came back: what stands at each index afterwards; the loop that makes a part one colour;
--- and a canvas row put back.
+-- A part of a list that was lent and came back: what stands at each index afterwards; and a canvas row put
+-- back.
 -- Assumes nothing.
-use mathlib.Core.Path.{◌≡◌, sym, ap, subst, ◌∙◌}
-use mathlib.Core.List.{List, [], ◌∷◌, ◌++◌}
+use mathlib.Core.Path.{◌≡◌, ap, subst, ◌∙◌}
+use mathlib.Core.List.{List, ◌++◌}
 use Prim.Native.Nat.{ℕ, ◌+◌, ◌-◌, ◌*◌, ◌≤◌, ◌<◌}
-use native.Mathlib.Numerals.{add-one}
 use native.Mathlib.Omega.{arith}
-use lib.ListN.{length, take, drop, set, get_or, replicate, length-append, length-take, length-drop, replicate-append-replicate, get_or-append}
-use lib.Seq.{length-take-le, take_all, take-suc-set, get_or-append-add, get_or-take, get_or-drop}
+use lib.ListN.{length, take, drop, get_or, length-append, length-take, length-drop, get_or-append}
+use lib.Seq.{length-take-le, get_or-append-add, get_or-take, get_or-drop}
 use Rattle.book.specs.Canvas.{canvas_row, put_row}
 
 -- xs with ys in the place of its n elements from index a on
@@ -40,21 +39,6 @@ module _ (xs : List ℕ) (a n : ℕ) (ys : List ℕ) (within : a + n ≤ length 
       (get_or-append-add (take a xs) (ys ++ drop n (drop a xs)) (n + i) 0
       ∙ subst (λ (k : ℕ). get_or (ys ++ drop n (drop a xs)) (k + i) 0 ≡ get_or xs (a + (n + i)) 0) long
       (get_or-append-add ys (drop n (drop a xs)) i 0 ∙ get_or-drop n (drop a xs) i 0 ∙ get_or-drop a xs (n + i) 0))
-
--- ---- a part made one colour: a turn of the loop, and its end
-pub fill_turn : (part : List ℕ) (i colour : ℕ) → i < length part → take i part ≡ replicate i colour
-    → take (i + 1) (set part i colour) ≡ replicate (i + 1) colour
-fill_turn part i colour h e =
-    ap (λ (m : ℕ). take m (set part i colour)) (add-one i)
-    ∙ take-suc-set part i colour h
-    ∙ ap (λ (l : List ℕ). l ++ (colour ∷ [])) e
-    ∙ replicate-append-replicate i 1 colour
-
-pub fill_end : (part : List ℕ) (i colour : ℕ) → length part ≤ i → i ≤ length part → take i part ≡ replicate i colour
-    → part ≡ replicate (length part) colour
-fill_end part i colour h k e =
-    let whole : i ≡ length part = omega arith in
-    sym (take_all i part h) ∙ e ∙ ap (λ (m : ℕ). replicate m colour) whole
 
 -- ---- a row of a canvas that was lent and came back: it is put in its place, and all else is kept
 row_ends : (W y : ℕ) → y * W + W - y * W ≡ W

@@ -1,5 +1,7 @@
 -- A run painted over a row: its length, its bytes, and that the columns which the code sets are those of the run.
 -- Assumes nothing.
+use Rattle.style.specs.Style.{Paint}
+use Rattle.std.specs.Prelude.{Some, None}
 use mathlib.Core.Path.{◌≡◌, refl, sym, ap, ap₂, ◌∙◌}
 use mathlib.Core.Bool.{Bool, true, false, cond, ◌&&◌, and-false}
 use mathlib.Core.List.{List, [], ◌∷◌}
@@ -15,8 +17,6 @@ use lib.Signed.{le_z, lt_z}
 use Rattle.signed.proofs.Laws.{le_le_z, lt_le_z, lt_lt_z, le_lt_z}
 use Rattle.geometry_range.specs.declared.Range.{Range}
 use Rattle.geometry_range.specs.Range.{contains}
-use Rattle.style.specs.declared.Paint.{Paint}
-use Rattle.style.specs.declared.Paint.TheVariants.{Absent, Colour}
 use Rattle.canvas_run.specs.declared.Columns.{Columns}
 use Rattle.canvas_run.specs.Run.{byte_over, run_over_from, run_over}
 use Rattle.canvas_run.specs.Columns.{clipped, columns_over}
@@ -50,7 +50,7 @@ run_over_byte run paint row k h =
     run_over_from_byte run paint 0 row k h ∙ ap (λ (z : ℕ). byte_over run paint z (get_or row k 0)) (omega arith)
 
 -- an absent paint leaves the row
-run_over_from_absent : (run : Range) (x : ℕ) (row : List ℕ) → run_over_from run Absent x row ≡ row
+run_over_from_absent : (run : Range) (x : ℕ) (row : List ℕ) → run_over_from run None x row ≡ row
 unfolding run_over_from
 run_over_from_absent run x [] = refl
 run_over_from_absent run x (byte ∷ row) =
@@ -60,7 +60,7 @@ run_over_from_absent run x (byte ∷ row) =
     either_way true = refl
     either_way false = refl
 
-pub run_over_absent : (run : Range) (row : List ℕ) → run_over run Absent row ≡ row
+pub run_over_absent : (run : Range) (row : List ℕ) → run_over run None row ≡ row
 run_over_absent run row = run_over_from_absent run 0 row
 
 -- ---- the columns of a clipped run are those that the run holds
@@ -113,7 +113,7 @@ module _ (run : Range) (colour from to : ℕ) (row : List ℕ) (in_order : from 
   columns_length = with_part_length row from (to - from) coloured columns_within (length-replicate (to - from) colour)
 
   columns_byte : (k : ℕ) → k < length row → (before before_end : Bool) → ltb k from ≡ before → ltb k to ≡ before_end
-      → get_or (columns_over from to colour row) k 0 ≡ byte_over run (Colour colour) k (get_or row k 0)
+      → get_or (columns_over from to colour row) k 0 ≡ byte_over run (Some colour) k (get_or row k 0)
   unfolding columns_over
   columns_byte k h true t b e =
       with_part_before row from (to - from) coloured columns_within (length-replicate (to - from) colour) k (ltb-true k from b)
@@ -132,16 +132,16 @@ module _ (run : Range) (colour from to : ℕ) (row : List ℕ) (in_order : from 
       ∙ ap (λ (i : ℕ). get_or row i 0) (sym here)
       ∙ rw (not_after k (ltb-false k to e) h)
 
-  columns_over_run : columns_over from to colour row ≡ run_over run (Colour colour) row
+  columns_over_run : columns_over from to colour row ≡ run_over run (Some colour) row
   columns_over_run =
-      ext_get_or 0 (columns_over from to colour row) (run_over run (Colour colour) row)
-      (columns_length ∙ sym (run_over_length run (Colour colour) row))
+      ext_get_or 0 (columns_over from to colour row) (run_over run (Some colour) row)
+      (columns_length ∙ sym (run_over_length run (Some colour) row))
       (λ k h.
       let inside : k < length row = omega (arith, columns_length) in
-      columns_byte k inside (ltb k from) (ltb k to) refl refl ∙ sym (run_over_byte run (Colour colour) row k inside))
+      columns_byte k inside (ltb k from) (ltb k to) refl refl ∙ sym (run_over_byte run (Some colour) row k inside))
 
 run_over_clipped : (run : Range) (colour : ℕ) (row : List ℕ)
-    → columns_over (clipped run (length row)).from (clipped run (length row)).to colour row ≡ run_over run (Colour colour) row
+    → columns_over (clipped run (length row)).from (clipped run (length row)).to colour row ≡ run_over run (Some colour) row
 run_over_clipped run colour row =
     columns_over_run run colour (clipped run (length row)).from (clipped run (length row)).to row
     (clipped_in_order run (length row)) (clipped_within run (length row)) (clipped_holds run (length row))
@@ -149,7 +149,7 @@ run_over_clipped run colour row =
 
 -- a row after the columns of the clipped run were set is the row with the run painted
 pub run_over_by_columns : (run : Range) (colour : ℕ) (row after : List ℕ) (columns : Columns) (paint : Paint)
-    → paint ≡ Colour colour → columns ≡ clipped run (length row) → after ≡ columns_over columns.from columns.to colour row
+    → paint ≡ Some colour → columns ≡ clipped run (length row) → after ≡ columns_over columns.from columns.to colour row
     → after ≡ run_over run paint row
 run_over_by_columns run colour row after columns paint p c e =
     e

@@ -1,16 +1,15 @@
 -- Document 01, 'Sheet' (absent paints and pixels off the canvas are skipped): a run painted onto a row, after the pixel iterators
 -- of both `styled.rs`.
 -- Assumes nothing.
-use Rattle.std.specs.Prelude.{cond, List, [], ◌∷◌, ℕ, suc, pos}
+use Rattle.style.specs.Style.{Paint}
+use Rattle.std.specs.Prelude.{cond, List, [], ◌∷◌, ℕ, suc, pos, Some, None}
 use Rattle.geometry_range.specs.declared.Range.{Range}
 use Rattle.geometry_range.specs.Range.{contains}
-use Rattle.style.specs.declared.Paint.{Paint}
-use Rattle.style.specs.declared.Paint.TheVariants.{Absent, Colour}
 
 -- a byte under a paint: a colour takes its place, an absent paint leaves it
 abbrev pub under : Paint → ℕ → ℕ
-under Absent byte = byte
-under (Colour colour) byte = colour
+under None byte = byte
+under (Some colour) byte = colour
 
 -- the byte of column x after a run was painted: under the paint where the run holds x
 abbrev pub byte_over : Range → Paint → ℕ → ℕ → ℕ

@@ -8,7 +8,6 @@ ghost use Rattle.canvas_run.specs.Run.{run_over};
 ghost use Rattle.canvas_run.specs.Columns.{clipped, columns_over};
 
 use geometry_range::Range;
-use style::Paint;
 
 // Columns of a row, from `from` up to but not including `to`.
 #[derive(Clone, Copy)]
@@ -18,6 +17,7 @@ pub struct Columns {
 }
 
 // The columns of a run that a row of this width has.
+#[tactic(auto, using(crate::proofs::Runs::columns_by_fields), unfolding(crate::specs::Columns::clipped))]
 pub fn clip(run: Range, width: u32) -> Columns
     ensures { result ≡ clipped run width }
 {
@@ -26,18 +26,18 @@ pub fn clip(run: Range, width: u32) -> Columns
     Columns { from: from, to: to }
 }
 
-// Makes a whole part one colour: a plain loop, of which the compiler makes one memset.
+// Makes a whole part one colour: a plain loop, of which the compiler makes one memset; of std's `fill` it makes
+// a memset of all but the last byte and a store.
 fn fill(part: &mut [u8], colour: u8)
     ensures { part.new ≡ replicate (length part.old) colour }
 {
-    let mut i: usize = 0;
-    while i < part.len() {
-        part[i] = colour;
-        i += 1;
+    for byte in part.iter_mut() {
+        *byte = colour;
     }
 }
 
 // Makes the columns from `from` up to `to` one colour.
+#[tactic(auto, using(crate::proofs::Runs::lent_columns_set))]
 fn fill_columns(row: &mut [u8], from: u32, to: u32, colour: u8)
     requires { (from ≤ to) × (to ≤ length row.old) }
     ensures { row.new ≡ columns_over from to colour row.old }
@@ -48,11 +48,11 @@ fn fill_columns(row: &mut [u8], from: u32, to: u32, colour: u8)
 }
 
 // Paints a run, as far as the row goes.
-pub fn paint_run(row: &mut [u8], run: Range, paint: Paint)
+pub fn paint_run(row: &mut [u8], run: Range, paint: Option<u8>)
     requires { length row.old ≤ wide_side }
     ensures { row.new ≡ run_over run paint row.old }
 {
-    let Paint::Colour(colour) = paint else {
+    let Some(colour) = paint else {
         return;
     };
     let columns = clip(run, row.len() as u32);

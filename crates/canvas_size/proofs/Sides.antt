@@ -8,19 +8,18 @@ use native.Mathlib.Omega.{arith}
 use borrow.Author.Tests.{ltb-false, eqb-true}
 use lib.Dec.{ltb, eqb}
 use Rattle.refusal.specs.declared.Refusal.TheVariants.{CanvasSide, CanvasLength}
-use Rattle.refusal.specs.declared.Checked.TheVariants.{Passed}
 use Rattle.geometry.specs.Limits.{max_canvas_side}
-use Rattle.refusal.specs.Refusal.{refuse_if}
+use Rattle.refusal.specs.Refusal.{refuse_if, passed}
 use Rattle.refusal.proofs.Checks.{passed_first, passed_next, passed_condition, passed_above}
 use Rattle.canvas_size.specs.CanvasSize.{side_check, canvas_size_check, canvas_length_check, CanvasSides}
 
-pub side_passed_least : (n : ℕ) → side_check n ≡ Passed → 1 ≤ n
+pub side_passed_least : (n : ℕ) → side_check n ≡ passed → 1 ≤ n
 side_passed_least n e = ltb-false n 1 (passed_condition (ltb n 1) CanvasSide (passed_first _ _ e))
 
-pub side_passed_most : (n : ℕ) → side_check n ≡ Passed → n ≤ max_canvas_side
+pub side_passed_most : (n : ℕ) → side_check n ≡ passed → n ≤ max_canvas_side
 side_passed_most n e = passed_above max_canvas_side n CanvasSide (passed_next (refuse_if (ltb n 1) CanvasSide) _ e)
 
-pub canvas_size_passed : (W H : ℕ) → canvas_size_check W H ≡ Passed → CanvasSides W H
+pub canvas_size_passed : (W H : ℕ) → canvas_size_check W H ≡ passed → CanvasSides W H
 unfolding canvas_size_check
 canvas_size_passed W H e =
     let width = passed_first (side_check W) (side_check H) e in
@@ -32,7 +31,7 @@ canvas_size_passed W H e =
       height_most = side_passed_most H height;
     }
 
-pub canvas_length_passed : (W H n : ℕ) → canvas_length_check W H n ≡ Passed → n ≡ W * H
+pub canvas_length_passed : (W H n : ℕ) → canvas_length_check W H n ≡ passed → n ≡ W * H
 unfolding canvas_length_check
 canvas_length_passed W H n e =
     let equal = eqb n (W * H) in

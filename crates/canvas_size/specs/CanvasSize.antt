@@ -2,9 +2,8 @@
 -- Assumes nothing.
 use Rattle.std.specs.Prelude.{not, ℕ, ◌*◌, ◌≤◌, ltb, eqb}
 use Rattle.refusal.specs.declared.Refusal.TheVariants.{CanvasSide, CanvasLength}
-use Rattle.refusal.specs.declared.Checked.{Checked}
 use Rattle.geometry.specs.Limits.{max_canvas_side}
-use Rattle.refusal.specs.Refusal.{refuse_if, or_else, above}
+use Rattle.refusal.specs.Refusal.{refuse_if, or_else, above, Checked}
 
 -- 6 of one side: it is below 1, or above the limit
 abbrev pub side_check : ℕ → Checked

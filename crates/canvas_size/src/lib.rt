@@ -18,7 +18,7 @@ fn check_side(side: u32) -> Checked
     ensures { result ≡ side_check side }
 {
     if side < CanvasSize::MIN_SIDE {
-        return Checked::Refused(Refusal::CanvasSide);
+        return Err(Refusal::CanvasSide);
     }
     refuse_above(CanvasSize::MAX_SIDE, side, Refusal::CanvasSide)
 }
@@ -30,20 +30,23 @@ impl CanvasSize {
     pub const MAX_SIDE: u32 = 1024;
 
     // Refusal 6.
+    #[tactic(auto, unfolding(crate::specs::CanvasSize::canvas_size_check))]
     pub fn check(self) -> Checked
         ensures { result ≡ canvas_size_check self.width self.height }
     {
-        check_side(self.width).or_else(check_side(self.height))
+        check_side(self.width)?;
+        check_side(self.height)
     }
 
     // Refusal 8 of a canvas that is length bytes long. The product of two sides of any size fits.
+    #[tactic(auto, using(crate::proofs::Sides::product_fits), unfolding(crate::specs::CanvasSize::canvas_length_check))]
     pub fn check_length(self, length: usize) -> Checked
         ensures { result ≡ canvas_length_check self.width self.height length }
     {
         if length == self.width as usize * self.height as usize {
-            Checked::Passed
+            Ok(())
         } else {
-            Checked::Refused(Refusal::CanvasLength)
+            Err(Refusal::CanvasLength)
         }
     }
 }

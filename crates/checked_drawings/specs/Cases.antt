@@ -1,13 +1,12 @@
 -- Document 01, 'Checked drawings': what the definitions give, and what the paper says, cases a to k.
 -- Assumes nothing.
-use Rattle.std.specs.Prelude.{cond, List, [], ◌∷◌, map, ℕ, zero, suc, ◌+◌, ℤ, pos, negsuc, ◌+ℤ◌, length}
+use Rattle.std.specs.Prelude.{cond, List, [], ◌∷◌, map, ℕ, zero, suc, ◌+◌, ℤ, pos, negsuc, ◌+ℤ◌, length, None}
 use Rattle.rectangle.specs.declared.Rectangle.{Rectangle}
 use Rattle.rectangle.specs.Calls.{rectangle_values}
 use Rattle.ellipse.specs.Ellipse.{threshold}
 use Rattle.ellipse_rows.specs.EllipsePoints.{is_run, row as ellipse_row, row_count}
 use Rattle.corner_radii.specs.CornerRadii.{equal_radii}
 use Rattle.rounded_rectangle.specs.declared.RoundedRectangle.{RoundedRectangle}
-use Rattle.style.specs.declared.Paint.TheVariants.{Absent}
 use Rattle.style.specs.declared.Style.{Style}
 use Rattle.style.specs.declared.StrokeAlignment.{StrokeAlignment}
 use Rattle.style.specs.declared.StrokeAlignment.TheVariants.{Inside, Center, Outside}
@@ -45,7 +44,7 @@ rows_of e = numbers (row_count e ∷ count_rows e e.top_left.y e.size.height ∷
 
 -- a style without paints, by its stroke width and alignment
 abbrev pub stroked : ℕ → StrokeAlignment → Style
-stroked width alignment = aligned (styled_by_default Absent Absent width) alignment
+stroked width alignment = aligned (styled_by_default None None width) alignment
 
 abbrev pub cases : List Case
 cases =

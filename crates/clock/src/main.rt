@@ -5,11 +5,10 @@
 use corner_radii::CornerRadii;
 use figure::Figure;
 use geometry::{Point, Size};
-use netpbm::WriteAnswer;
 use rectangle::Rectangle;
 use rounded_rectangle::RoundedRectangle;
 use std::io::{self, Write};
-use style::{Paint, StrokeAlignment, Style};
+use style::{StrokeAlignment, Style};
 
 const WIDTH: u32 = 144;
 
@@ -43,19 +42,19 @@ fn tile_oval(x: i32) -> Figure {
 }
 
 // Paints a figure with a border of 2 pixels. Nothing here is beyond a limit, so nothing is refused.
-fn paint_bordered(canvas: &mut [u8], figure: Figure, fill: Paint) {
-    let style = Style::new(Paint::Colour(40), fill, 2).with_alignment(StrokeAlignment::Inside);
+fn paint_bordered(canvas: &mut [u8], figure: Figure, fill: Option<u8>) {
+    let style = Style::new(Some(40), fill, 2).with_alignment(StrokeAlignment::Inside);
     let _ = paint::paint_figure(figure, style, WIDTH, HEIGHT, canvas);
 }
 
 fn main(rt: HostRuntime) -> io::Result<()> {
     let mut canvas = [255u8; 9216];
-    paint_bordered(&mut canvas, tile_box(6), Paint::Colour(220));
-    paint_bordered(&mut canvas, tile_oval(26), Paint::Colour(40));
-    paint_bordered(&mut canvas, tile_box(74), Paint::Colour(220));
-    paint_bordered(&mut canvas, tile_oval(94), Paint::Absent);
+    paint_bordered(&mut canvas, tile_box(6), Some(220));
+    paint_bordered(&mut canvas, tile_oval(26), Some(40));
+    paint_bordered(&mut canvas, tile_box(74), Some(220));
+    paint_bordered(&mut canvas, tile_oval(94), None);
     let mut file = [0u8; 9230];
-    let WriteAnswer::Written(_) = netpbm::write_p5(WIDTH, HEIGHT, &canvas, &mut file) else {
+    let Ok(_) = netpbm::write_p5(WIDTH, HEIGHT, &canvas, &mut file) else {
         return Ok(());
     };
     io::writer(&rt).write_all(&file)

@@ -1,5 +1,6 @@
 -- The inset of a row, and that of a side by its two corners.
 -- Assumes nothing.
+use Rattle.std.specs.Prelude.{Some, None}
 use mathlib.Core.Path.{◌≡◌, refl, sym, ap}
 use mathlib.Core.Bool.{Bool, true, false, cond}
 use Prim.Native.Nat.{ℕ, ◌-◌, ◌*◌, ◌≤◌, ◌<◌}
@@ -7,9 +8,7 @@ use native.Mathlib.Omega.{arith}
 use borrow.Author.Tests.{lt-ltb, le-ltb}
 use lib.Dec.{ltb}
 use Rattle.geometry.specs.declared.Size.{Size}
-use Rattle.scanline.specs.declared.Place.{Place}
-use Rattle.scanline.specs.declared.Place.TheVariants.{At, Nowhere}
-use Rattle.scanline.specs.Places.{find_from, place_else0}
+use Rattle.scanline.specs.Places.{find_from, place_else0, Place}
 use Rattle.scanline.proofs.Find.{find_none, found_at}
 use Rattle.ellipse_search.specs.Search.{column_inside}
 use Rattle.ellipse.proofs.Distances.{no_width_outside}
@@ -18,8 +17,8 @@ use Rattle.corner_quadrant.specs.Quadrant.{inside_corner, inset, side_inset}
 -- ---- an inset
 -- the place found is below n
 found_below : (test : ℕ → Bool) (n : ℕ) (p : Place) → find_from test n 0 ≡ p → place_else0 p ≤ n
-found_below test n (At k) e = let b = (found_at test n 0 k e).below in omega arith
-found_below test n Nowhere e = omega arith
+found_below test n (Some k) e = let b = (found_at test n 0 k e).below in omega arith
+found_below test n None e = omega arith
 
 module _ (radius : Size) (e n : ℕ) where
   pub inset_le : inset radius e n ≤ n

@@ -11,7 +11,6 @@ ghost use Rattle.corner_quadrant.specs.Quadrant.{Ready, inside_corner, in_quadra
 
 use ellipse::EllipseContains;
 use geometry::Size;
-use scanline::Place;
 
 #[derive(Clone, Copy)]
 pub struct EllipseQuadrant {
@@ -57,7 +56,7 @@ impl EllipseQuadrant {
 
     // The first of n columns from the corner on that is inside on its row e. The radius may be larger
     // than n: the ellipse's middle then lies beyond them.
-    pub fn first_inside(self, e: u32, n: u32, hint: u32) -> Place
+    pub fn first_inside(self, e: u32, n: u32, hint: u32) -> Option<u32>
         requires ready { Ready self }
         requires e_lt_height { (e < self.radius.height) × (0 < self.radius.width) × (n ≤ wide_side) }
         ensures { result ≡ find_from (λ d. inside_corner self.radius d e) n 0 }
@@ -79,10 +78,7 @@ impl EllipseQuadrant {
         if radius.width == 0 {
             return 0;
         }
-        let Place::At(k) = self.first_inside(e, n, hint) else {
-            return 0;
-        };
-        k
+        self.first_inside(e, n, hint).unwrap_or(0)
     }
 }
 

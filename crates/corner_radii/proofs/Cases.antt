@@ -1,13 +1,14 @@
 -- The definitions computed: document 01's cases f and g, sides and radii of 0, ties between edges, offsets and limits at
 -- their ends.
 -- Assumes nothing.
+use Rattle.refusal.specs.Refusal.{passed}
+use Rattle.std.specs.Prelude.{Err}
 use mathlib.Core.Path.{◌≡◌, refl}
 use mathlib.Core.List.{List, [], ◌∷◌, map}
 use Prim.Native.Nat.{ℕ}
 use lib.IntN.{ℤ, pos, negsuc}
 use Rattle.geometry.specs.declared.Size.{Size}
 use Rattle.refusal.specs.declared.Refusal.TheVariants.{Radius}
-use Rattle.refusal.specs.declared.Checked.TheVariants.{Passed, Refused}
 use Rattle.corner_radii.specs.declared.CornerRadii.{CornerRadii}
 use Rattle.corner_radii.specs.declared.ConfinedRadii.{ConfinedRadii}
 use Rattle.corner.specs.declared.edge.Edge.{Edge}
@@ -163,6 +164,6 @@ above =
     ∷ corners 0 0 0 0 0 0 0 1025
     ∷ []
 
-checks_hold : map radii_check (within ∷ above) ≡ Passed ∷ map (λ _. Refused Radius) above
+checks_hold : map radii_check (within ∷ above) ≡ passed ∷ map (λ _. Err Radius) above
 unfolding radii_check radius_check
 checks_hold = refl

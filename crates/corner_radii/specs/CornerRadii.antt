@@ -4,9 +4,8 @@
 -- Assumes nothing.
 use Rattle.std.specs.Prelude.{cond, ℕ, ◌+◌, ℤ, pos, negsuc}
 use Rattle.geometry.specs.declared.Size.{Size}
-use Rattle.refusal.specs.declared.Checked.{Checked}
 use Rattle.refusal.specs.declared.Refusal.TheVariants.{Radius}
-use Rattle.refusal.specs.Refusal.{refuse_if, or_else, above}
+use Rattle.refusal.specs.Refusal.{refuse_if, or_else, above, Checked}
 use Rattle.geometry.specs.Limits.{max_radius}
 use Rattle.corner.specs.declared.edge.Edge.{Edge}
 use Rattle.corner.specs.declared.edge.Edges.{Edges}

@@ -36,12 +36,12 @@ pub struct ConfinedRadii {
 }
 
 // Refusal 2 of one corner.
+#[tactic(auto, unfolding(crate::specs::CornerRadii::radius_check))]
 fn check_radius(radius: Size) -> Checked
     ensures { result ≡ radius_check radius }
 {
-    let width = refuse_above(CornerRadii::MAX_RADIUS, radius.width, Refusal::Radius);
-    let height = refuse_above(CornerRadii::MAX_RADIUS, radius.height, Refusal::Radius);
-    width.or_else(height)
+    refuse_above(CornerRadii::MAX_RADIUS, radius.width, Refusal::Radius)?;
+    refuse_above(CornerRadii::MAX_RADIUS, radius.height, Refusal::Radius)
 }
 
 impl CornerRadii {
@@ -61,12 +61,14 @@ impl CornerRadii {
     }
 
     // Refusal 2, of the corners in order.
+    #[tactic(auto, unfolding(crate::specs::CornerRadii::radii_check))]
     pub fn check(self) -> Checked
         ensures { result ≡ radii_check self }
     {
-        let top = check_radius(self.top_left).or_else(check_radius(self.top_right));
-        let bottom = check_radius(self.bottom_right).or_else(check_radius(self.bottom_left));
-        top.or_else(bottom)
+        check_radius(self.top_left)?;
+        check_radius(self.top_right)?;
+        check_radius(self.bottom_right)?;
+        check_radius(self.bottom_left)
     }
 
     // The edges of a box of this size.

@@ -1,12 +1,12 @@
 -- What a figure's row makes of a canvas is what its styled row does; the laws of `canvas_row` on that are passed on.
 -- Assumes nothing.
+use Rattle.scanline.specs.Rows.{StyledRow}
 use mathlib.Core.Path.{◌≡◌, refl, ap, ◌∙◌}
 use mathlib.Core.Bool.{cond}
 use mathlib.Core.List.{List}
 use Prim.Native.Nat.{ℕ}
 use lib.Dec.{ltb}
 use lib.IntN.{ℤ, pos, negsuc}
-use Rattle.scanline.specs.declared.StyledRow.{StyledRow}
 use Rattle.figure.specs.declared.Figure.{Figure}
 use Rattle.style.specs.declared.Style.{Style}
 use Rattle.book.specs.Canvas.{canvas_row, put_row}

@@ -1,6 +1,8 @@
 -- The rows of a stroke area by the figure's kind: radii play no part. They start near, and are no more than a side allows. Off them a
 -- styled figure has no row, and sets nothing.
 -- Assumes nothing.
+use Rattle.scanline.specs.Rows.{StyledRow}
+use Rattle.std.specs.Prelude.{None}
 use mathlib.Core.Path.{◌≡◌, refl, ap}
 use mathlib.Core.Bool.{Bool, true, false, cond, ◌&&◌}
 use mathlib.Core.List.{List}
@@ -13,9 +15,6 @@ use Rattle.geometry.specs.declared.Size.{Size}
 use Rattle.geometry_range.specs.declared.Range.{Range}
 use Rattle.geometry_range.specs.Range.{contains as range_contains}
 use Rattle.rectangle.specs.Rectangle.{rows, offset as rectangle_offset}
-use Rattle.scanline.specs.declared.Row.TheVariants as row_of
-use Rattle.scanline.specs.declared.StyledRow.{StyledRow}
-use Rattle.scanline.specs.declared.StyledRow.TheVariants.{NoRow}
 use Rattle.ellipse_rows.specs.EllipsePoints.{row as ellipse_row}
 use Rattle.ellipse_rows.specs.EllipsePoints.{scanline, row_count, has_rows}
 use Rattle.ellipse_styled.specs.EllipseStyled.{styled_by, ellipse_fill, ellipse_styled_row}
@@ -80,26 +79,26 @@ ellipse_rows_within r area =
 abbrev within : StrokeRows → ℤ → Bool
 within rows y = in_run rows.first (rows.first +ℤ pos rows.count) y
 
-off_box_rows : (area fill : RoundedRectangle) (y : ℤ) → within (box_rows area.rectangle) y ≡ false → box_styled_row area fill y ≡ NoRow
+off_box_rows : (area fill : RoundedRectangle) (y : ℤ) → within (box_rows area.rectangle) y ≡ false → box_styled_row area fill y ≡ None
 unfolding box_styled_row rounded_rectangle_row
 off_box_rows area fill y off = rw off
 
 off_ellipse_rows : (area : Rectangle) (sides : Size) (y : ℤ) → within (ellipse_rows area) y ≡ false
-    → ellipse_styled_row area sides y ≡ NoRow
+    → ellipse_styled_row area sides y ≡ None
 unfolding ellipse_styled_row ellipse_row row_count
 off_ellipse_rows area sides y = by_rows (has_rows area) (ellipse_fill sides area y)
   where
     by_rows : (has : Bool) (fill : Range → Range)
         → in_run area.top_left.y (area.top_left.y +ℤ pos (cond has area.size.height 0)) y ≡ false
-        → styled_by (cond (range_contains (rows area) y && has) (scanline area y) row_of.NoRow) fill ≡ NoRow
+        → styled_by (cond (range_contains (rows area) y && has) (scanline area y) None) fill ≡ None
     by_rows true fill off = rw off
     by_rows false fill off = ends (range_contains (rows area) y)
       where
-        ends : (t : Bool) → styled_by (cond (t && false) (scanline area y) row_of.NoRow) fill ≡ NoRow
+        ends : (t : Bool) → styled_by (cond (t && false) (scanline area y) None) fill ≡ None
         ends true = refl
         ends false = refl
 
-off_shape_rows : (stroke fill : Shape) (y : ℤ) → within (rows_of_shape stroke) y ≡ false → styled_row_of_shapes stroke fill y ≡ NoRow
+off_shape_rows : (stroke fill : Shape) (y : ℤ) → within (rows_of_shape stroke) y ≡ false → styled_row_of_shapes stroke fill y ≡ None
 unfolding styled_row_of_shapes
 off_shape_rows (shape_of.Ellipse area) (shape_of.Ellipse inner) y off = off_ellipse_rows area inner.size y off
 off_shape_rows (shape_of.Ellipse area) (shape_of.RoundedBox b) y off = refl

@@ -1,10 +1,9 @@
 -- The drawing of demand 3: figures with their styles, their rows and what those make of a canvas row, for the definitions of `book`.
 -- Assumes nothing.
 use Rattle.std.specs.Prelude.{◌≡◌, List, ℕ, ℤ, length}
-use Rattle.refusal.specs.declared.Checked.{Checked}
 use Rattle.geometry.specs.Limits.{max_canvas_side}
 use Rattle.geometry.specs.Limits.{max_layers as limits_max_layers}
-use Rattle.refusal.specs.Refusal.{or_else}
+use Rattle.refusal.specs.Refusal.{or_else, Checked}
 use Rattle.figure.specs.declared.Figure.{Figure}
 use Rattle.figure.specs.Calls.{figure_check}
 use Rattle.style.specs.declared.Style.{Style}

@@ -28,13 +28,16 @@ pub struct StrokeRows {
 }
 
 // Refusals 1, 2, 3 and 5.
+#[tactic(auto, unfolding(crate::specs::Drawing::styled_check))]
 pub fn check(figure: Figure, style: Style) -> Checked
     ensures { result ≡ styled_check figure style }
 {
-    figure.check().or_else(style.check())
+    figure.check()?;
+    style.check()
 }
 
 // The rows of a box that is offset by k: each row of its rectangle.
+#[tactic(auto, using(figure::proofs::Within::own_area, figure::proofs::Within::area_bounded, figure::proofs::Within::offset_area))]
 fn box_rows(rectangle: Rectangle, k: i32) -> StrokeRows
     requires own_rectangle { OwnRectangle rectangle }
     requires near { Near wide_offset k }
@@ -50,6 +53,7 @@ fn box_rows(rectangle: Rectangle, k: i32) -> StrokeRows
 }
 
 // The rows of an ellipse that is offset by k: all of its rectangle's, or none.
+#[tactic(auto, using(figure::proofs::Within::own_area, figure::proofs::Within::area_bounded, figure::proofs::Within::offset_area))]
 fn ellipse_rows(rectangle: Rectangle, k: i32) -> StrokeRows
     requires own_rectangle { OwnRectangle rectangle }
     requires near { Near wide_offset k }
@@ -64,6 +68,7 @@ fn ellipse_rows(rectangle: Rectangle, k: i32) -> StrokeRows
 }
 
 // The rows of a figure's stroke area. Radii play no part, so none are confined.
+#[tactic(auto, using(figure::proofs::Within::offset_area, style::proofs::StrokeWidths::outside_within_stroke, crate::proofs::Rows::rows_of_ellipse, crate::proofs::Rows::rows_of_crate_box, crate::proofs::Rows::rows_of_w3c_box, crate::proofs::Rows::box_rows_within, crate::proofs::Rows::ellipse_rows_within))]
 pub fn stroke_rows(figure: Figure, style: Style) -> StrokeRows
     requires own_figure { OwnFigure figure }
     requires stroke_width_bound { style.stroke_width ≤ wide_offset }

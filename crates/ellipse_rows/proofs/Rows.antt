@@ -1,6 +1,8 @@
 -- An ellipse's rows. From the paper's signed columns and rows to places counted from the box's corner; and since the first row is
 -- the farthest from the middle, all rows have an inside column if it has one.
 -- Assumes nothing.
+use Rattle.scanline.specs.Rows.{Row}
+use Rattle.std.specs.Prelude.{Some, None}
 use mathlib.Core.Path.{◌≡◌, refl, sym, ap, ap₂, ◌∙◌}
 use mathlib.Core.Bool.{Bool, true, false, cond, ◌&&◌, false≢true}
 use Prim.Native.Nat.{ℕ, zero, suc, ◌-◌, ◌/◌, ◌≤◌, ◌<◌}
@@ -14,11 +16,7 @@ use Rattle.rectangle.specs.declared.Rectangle.{Rectangle}
 use Rattle.geometry_range.specs.Range.{contains as range_contains}
 use Rattle.rectangle.specs.Rectangle.{rows, columns}
 use Rattle.geometry_range.proofs.Fields.{range_by_fields}
-use Rattle.scanline.specs.declared.Place.{Place}
-use Rattle.scanline.specs.declared.Place.TheVariants.{At, Nowhere}
-use Rattle.scanline.specs.declared.Row.{Row}
-use Rattle.scanline.specs.declared.Row.TheVariants.{Run, NoRow}
-use Rattle.scanline.specs.Places.{find_from, is_at, Placed}
+use Rattle.scanline.specs.Places.{find_from, is_at, Placed, Place}
 use Rattle.scanline.specs.Points.{EndsWithin}
 use Rattle.scanline.proofs.Find.{FoundAt, find_none, found_at, found_none}
 use Rattle.scanline.proofs.Columns.{from_left, first_from_edge, column_zero}
@@ -40,7 +38,7 @@ middle_nearer c w k l e = nearer_inside c (gap_middle w k) l e
 
 module _ (w h : ℕ) where
   -- the place found is inside
-  first_inside_holds : (dy k : ℕ) → first_inside w h dy ≡ At k → column_inside (contains_of w h) w (gap h dy) k ≡ true
+  first_inside_holds : (dy k : ℕ) → first_inside w h dy ≡ Some k → column_inside (contains_of w h) w (gap h dy) k ≡ true
   unfolding first_inside
   first_inside_holds dy k e = (found_at (column_inside (contains_of w h) w (gap h dy)) w 0 k e).holds
 
@@ -53,13 +51,13 @@ module _ (w h : ℕ) where
       test = column_inside (contains_of w h) w (gap h dy)
 
       by_test : (b : Bool) → test ((w - 1) / 2) ≡ b → (p : Place) → find_from test w 0 ≡ p → b ≡ is_at p
-      by_test true e (At k) q = refl
-      by_test true e Nowhere q = sym e ∙ found_none test w 0 q ((w - 1) / 2) (omega arith) (omega arith)
-      by_test false e (At k) q = sym e ∙ middle_nearer (contains_of w h) w k (le_refl (gap h dy)) (found_at test w 0 k q).holds
-      by_test false e Nowhere q = refl
+      by_test true e (Some k) q = refl
+      by_test true e None q = sym e ∙ found_none test w 0 q ((w - 1) / 2) (omega arith) (omega arith)
+      by_test false e (Some k) q = sym e ∙ middle_nearer (contains_of w h) w k (le_refl (gap h dy)) (found_at test w 0 k q).holds
+      by_test false e None q = refl
 
   -- a first inside column is at or before the middle, so the run from it is not empty
-  pub first_inside_half : (dy k : ℕ) → first_inside w h dy ≡ At k → (k ≤ (w - 1) / 2) × (k < w)
+  pub first_inside_half : (dy k : ℕ) → first_inside w h dy ≡ Some k → (k ≤ (w - 1) / 2) × (k < w)
   unfolding first_inside
   first_inside_half dy k e = by_order (dec_le k ((w - 1) / 2))
     where
@@ -83,10 +81,10 @@ module _ (w h : ℕ) where
   rows_all_inside dy l e = by_first (first_inside w h 0) refl e
     where
       by_first : (p : Place) → first_inside w h 0 ≡ p → is_at p ≡ true → is_at (first_inside w h dy) ≡ true
-      by_first (At k) q t =
+      by_first (Some k) q t =
           let half = first_inside_half 0 k q in
           sym (middle_inside dy (omega arith)) ∙ middle_nearer (contains_of w h) w k (gap_edge h dy l) (first_inside_holds 0 k q)
-      by_first Nowhere q t = absurd (false≢true t)
+      by_first None q t = absurd (false≢true t)
 
   -- the one test by which the code decides
   pub first_row_by_middle : 0 < w → below_threshold (contains_of w h) (gap w ((w - 1) / 2)) (gap h 0) ≡ first_row_inside w h
@@ -143,12 +141,12 @@ module _ (e : Rectangle) where
 
   -- the run from place k, and no row
   abbrev pub row_at : Place → Row
-  row_at (At k) = Run (mirrored_run left w k)
-  row_at Nowhere = NoRow
+  row_at (Some k) = Some (mirrored_run left w k)
+  row_at None = None
 
   row_by_place : (p : Place) → run_from (columns e) (from_left left p) ≡ row_at p
-  row_by_place (At k) =
-      ap Run
+  row_by_place (Some k) =
+      ap Some
       (range_by_fields refl
       (omega (
         arith,
@@ -159,7 +157,7 @@ module _ (e : Rectangle) where
         sub_law
             (left +ℤ pos w) (pos k),
       )))
-  row_by_place Nowhere = refl
+  row_by_place None = refl
 
   pub scanline_at : (j : ℕ) → scanline e (top +ℤ pos j) ≡ row_at (first_inside w h j)
   unfolding scanline first_inside
@@ -172,34 +170,34 @@ module _ (e : Rectangle) where
   has_rows_relative = ap (λ (y : ℤ). is_run (scanline e y)) (column_zero top) ∙ ap is_run (scanline_at 0) ∙ by_place (first_inside w h 0)
     where
       by_place : (p : Place) → is_run (row_at p) ≡ is_at p
-      by_place (At k) = refl
-      by_place Nowhere = refl
+      by_place (Some k) = refl
+      by_place None = refl
 
   pub row_count_relative : row_count e ≡ cond (first_row_inside w h) h 0
   unfolding row_count
   row_count_relative = ap (λ (b : Bool). cond b h 0) has_rows_relative
 
   -- ---- the ways to a row
-  pub row_out : (y : ℤ) → Placed top h y Nowhere → row e y ≡ NoRow
+  pub row_out : (y : ℤ) → Placed top h y None → row e y ≡ None
   unfolding row
   row_out y p = rw p
 
-  pub row_lacking : (y : ℤ) → first_row_inside w h ≡ false → row e y ≡ NoRow
+  pub row_lacking : (y : ℤ) → first_row_inside w h ≡ false → row e y ≡ None
   unfolding row
   row_lacking y f = rw (has_rows_relative ∙ f) (either (range_contains (rows e) y))
     where
-      either : (b : Bool) → cond (b && false) (scanline e y) NoRow ≡ NoRow
+      either : (b : Bool) → cond (b && false) (scanline e y) None ≡ None
       either true = refl
       either false = refl
 
-  pub row_placed : (y : ℤ) (dy : ℕ) → Placed top h y (At dy) → first_row_inside w h ≡ true → row e y ≡ row_at (first_inside w h dy)
+  pub row_placed : (y : ℤ) (dy : ℕ) → Placed top h y (Some dy) → first_row_inside w h ≡ true → row e y ≡ row_at (first_inside w h dy)
   unfolding row
   row_placed y dy p f =
-      ap (λ (z : ℤ). cond (range_contains (rows e) z && has_rows e) (scanline e z) NoRow) p.0
+      ap (λ (z : ℤ). cond (range_contains (rows e) z && has_rows e) (scanline e z) None) p.0
       ∙ rw (place_among top h dy p.1, has_rows_relative ∙ f) (scanline_at dy)
 
   -- the row found, by the code's own search
-  pub row_found : (y : ℤ) (dy d : ℕ) (test : EllipseContains) (p : Place) → Placed top h y (At dy) → first_row_inside w h ≡ true
+  pub row_found : (y : ℤ) (dy d : ℕ) (test : EllipseContains) (p : Place) → Placed top h y (Some dy) → first_row_inside w h ≡ true
       → test ≡ contains_of w h → d ≡ gap h dy → p ≡ find_from (column_inside test w d) w 0 → row_at p ≡ row e y
   unfolding first_inside
   row_found y dy d test p placed first test_is d_is p_is =

@@ -3,8 +3,7 @@
 -- Assumes nothing.
 use Rattle.std.specs.Prelude.{Bool, ℕ, ℤ, pos, ◌+ℤ◌, ◌-ℤ◌}
 use Rattle.geometry_range.specs.declared.Range.{Range}
-use Rattle.scanline.specs.declared.Place.{Place}
-use Rattle.scanline.specs.Places.{find_from, is_at}
+use Rattle.scanline.specs.Places.{find_from, is_at, Place}
 use Rattle.ellipse.specs.Relative.{gap, contains_of}
 use Rattle.ellipse_search.specs.Search.{column_inside}
 

@@ -15,7 +15,6 @@ use ellipse_search::first_inside;
 use geometry::Size;
 use geometry_range::Range;
 use rectangle::Rectangle;
-use scanline::{Place, Row};
 
 // All the rows or none: one test, at the middle of the first row. The Rust finds out by looking
 // through the first row.
@@ -59,22 +58,18 @@ fn mirrored(left: i32, width: u32, k: u32) -> Range
 }
 
 // The row at y.
-pub fn row(ellipse: Rectangle, y: i32) -> Row
+pub fn row(ellipse: Rectangle, y: i32) -> Option<Range>
     requires bounded { Bounded ellipse }
     requires near { Near wide_point y }
     ensures { (result ≡ ellipse_points_row ellipse y) × RowWithin ellipse.top_left.x ellipse.size.width result }
 {
     let top_left = ellipse.top_left;
     let size = ellipse.size;
-    let Place::At(dy) = scanline::place_of(top_left.y, size.height, y) else {
-        return Row::NoRow;
-    };
+    let dy = scanline::place_of(top_left.y, size.height, y)?;
     let test = EllipseContains::new(size);
     if !has_rows(test, size) {
-        return Row::NoRow;
+        return None;
     }
-    let Place::At(k) = first_inside(test, size.width, gap(size.height, dy), 0, size.width) else {
-        return Row::NoRow;
-    };
-    Row::Run(mirrored(top_left.x, size.width, k))
+    let k = first_inside(test, size.width, gap(size.height, dy), 0, size.width)?;
+    Some(mirrored(top_left.x, size.width, k))
 }

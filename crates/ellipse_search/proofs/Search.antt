@@ -1,16 +1,13 @@
 -- The search along a row. Up to the nearest column to the middle the test, once true, stays true, and where that column is outside
 -- all are: so halving, and walking from any column, find what looking from the left would.
 -- Assumes nothing.
+use Rattle.std.specs.Prelude.{Some, None}
 use mathlib.Core.Path.{◌≡◌, refl, sym, subst, ◌∙◌}
-use mathlib.Core.Logic.{⊎_elim}
 use mathlib.Core.Bool.{Bool, true, false}
 use Prim.Native.Nat.{ℕ, ◌+◌, ◌-◌, ◌/◌, ◌≤◌, ◌<◌, min}
-use native.Mathlib.Nat.{eq-or-lt_of_le}
 use native.Mathlib.Decide.{dec_le}
 use native.Mathlib.Omega.{arith}
-use Rattle.scanline.specs.declared.Place.{Place}
-use Rattle.scanline.specs.declared.Place.TheVariants.{At, Nowhere}
-use Rattle.scanline.specs.Places.{find_from}
+use Rattle.scanline.specs.Places.{find_from, Place}
 use Rattle.scanline.proofs.Find.{FoundAt, find_at, find_none, found_at, found_none, Rising}
 use Rattle.ellipse.specs.declared.EllipseContains.{EllipseContains}
 use Rattle.ellipse.specs.declared.RowContains.{RowContains}
@@ -48,11 +45,11 @@ module _ (row : RowContains) (width : ℕ) where
 
         by_place : (p : Place) → find_from test (start + 1 - from) from ≡ p → find_from test (start + 1 - from) from
             ≡ find_from test count from
-        by_place (At j) e =
+        by_place (Some j) e =
             let f = found_at test (start + 1 - from) from j e in
             let b = f.below in
             e ∙ sym (find_at test count from j f.from (omega arith) f.none_before f.holds)
-        by_place Nowhere e =
+        by_place None e =
             let out = found_none test (start + 1 - from) from e start fs (omega arith) in
             let z : ◌≡◌ {A = Bool} true false = sym here ∙ out in
             let n : ◌≡◌ {A = ℕ} 0 1 = cc in
@@ -71,7 +68,7 @@ module _ (row : RowContains) (width : ℕ) where
 
         by_place : (p : Place) → find_from test (nearest - start) (start + 1) ≡ p → find_from test (nearest - start) (start + 1)
             ≡ find_from test count from
-        by_place (At j) e =
+        by_place (Some j) e =
             let f = found_at test (nearest - start) (start + 1) j e in
             let l = f.from in
             let b = f.below in
@@ -80,7 +77,7 @@ module _ (row : RowContains) (width : ℕ) where
             up_to : (i : ℕ) → from ≤ i → i < j → FoundAt test (nearest - start) (start + 1) j → Dec (i ≤ start) → test i ≡ false
             up_to i fi ij f (yes l) = before_start i fi l
             up_to i fi ij f (no l) = f.none_before i (omega arith) ij
-        by_place Nowhere e = e ∙ sym (find_none test count from (nearest_outside (at_nearest (dec_le nearest start))))
+        by_place None e = e ∙ sym (find_none test count from (nearest_outside (at_nearest (dec_le nearest start))))
           where
             at_nearest : Dec (nearest ≤ start) → test nearest ≡ false
             at_nearest (yes l) = before_start nearest (omega arith) l
@@ -99,9 +96,3 @@ module _ (c : EllipseContains) (width y : ℕ) where
 
   pub columns_rise : (from m : ℕ) → m ≤ (width - 1) / 2 → Rising (column_inside c width y) from m
   columns_rise from m mw = subst (λ (test : ℕ → Bool). Rising test from m) column_on_row_lem (row_rises (on_row c y) width from m mw)
-
--- one column more that is outside
-pub passed_more : {test : ℕ → Bool} {start k : ℕ} → ((i : ℕ) → start < i → i ≤ k → test i ≡ false) → test (k + 1) ≡ false
-    → (i : ℕ) → start < i → i ≤ k + 1 → test i ≡ false
-passed_more {test} {start} {k} passed out i s l =
-    ⊎_elim (λ e. subst (λ (j : ℕ). test j ≡ false) (sym e) out) (λ m. passed i s (omega arith)) (eq-or-lt_of_le l)

@@ -13,7 +13,6 @@ ghost use Rattle.ellipse_search.specs.Search.{column_inside, NearestOf};
 ghost use Rattle.ellipse_search.specs.Row.{column_on_row};
 
 use ellipse::{EllipseContains, RowContains};
-use scanline::Place;
 
 // The test at a column at or before the middle, where the distance is a plain difference.
 fn inside_left(row: RowContains, width: u32, k: u32) -> bool
@@ -26,32 +25,31 @@ fn inside_left(row: RowContains, width: u32, k: u32) -> bool
 
 // Of the `count` columns from `from` on, if there are any, the one nearest to the middle: the middle, or
 // the last of them. Up to it the test once true stays true.
-fn nearest_column(width: u32, from: u32, count: u32) -> Place
+fn nearest_column(width: u32, from: u32, count: u32) -> Option<u32>
     requires width_nonzero { (0 < width) × (width ≤ wide_side) }
     requires from_bound { (from ≤ (width - 1) / 2) × (count ≤ wide_side) }
     ensures { NearestOf width from count result }
 {
     if count == 0 {
-        return Place::Nowhere;
+        return None;
     }
-    Place::At(signed::least((width - 1) / 2, from + count - 1))
+    Some(signed::least((width - 1) / 2, from + count - 1))
 }
 
 // The first inside column of the `count` from `from` on, by halving.
-fn first_on_row(row: RowContains, width: u32, from: u32, count: u32) -> Place
+fn first_on_row(row: RowContains, width: u32, from: u32, count: u32) -> Option<u32>
     requires small_weight { SmallWeight row }
     requires width_nonzero { (0 < width) × (width ≤ wide_side) }
     requires from_bound { (from ≤ (width - 1) / 2) × (count ≤ wide_side) }
     ensures { result ≡ find_from (column_on_row row width) count from }
 {
-    let Place::At(nearest) = nearest_column(width, from, count) else {
-        return Place::Nowhere;
-    };
+    let nearest = nearest_column(width, from, count)?;
     if !inside_left(row, width, nearest) {
-        return Place::Nowhere;
+        return None;
     }
     let mut lo = from;
     let mut hi = nearest;
+    // A while: it halves, by two ends that come together.
     while lo < hi {
         let k = lo + (hi - lo) / 2;
         if inside_left(row, width, k) {
@@ -60,55 +58,51 @@ fn first_on_row(row: RowContains, width: u32, from: u32, count: u32) -> Place
             lo = k + 1;
         }
     }
-    Place::At(hi)
+    Some(hi)
 }
 
 // The first inside column, from an inside one: to the left while it is inside.
-fn walk_left(row: RowContains, width: u32, from: u32, start: u32) -> Place
+#[tactic(auto, using(scanline::proofs::Find::find_at))]
+fn walk_left(row: RowContains, width: u32, from: u32, start: u32) -> Option<u32>
     requires small_weight { SmallWeight row }
     requires width_le_wide_side { (width ≤ wide_side) × (start < width) × (start ≤ (width - 1) / 2) }
     requires from_le_start { (from ≤ start) × (column_on_row row width start ≡ true) }
     ensures { result ≡ find_from (column_on_row row width) (start + 1 - from) from }
 {
-    let mut k = start;
-    while from < k {
-        if inside_left(row, width, k - 1) {
-            k -= 1;
-        } else {
-            return Place::At(k);
+    for k in (from..start).rev() {
+        if !inside_left(row, width, k) {
+            return Some(k + 1);
         }
     }
-    Place::At(k)
+    Some(from)
 }
 
 // The first inside column after `start`, up to the nearest to the middle.
-fn walk_right(row: RowContains, width: u32, start: u32, nearest: u32) -> Place
+#[tactic(auto, using(scanline::proofs::Find::find_none))]
+fn walk_right(row: RowContains, width: u32, start: u32, nearest: u32) -> Option<u32>
     requires small_weight { SmallWeight row }
     requires width_le_wide_side { (width ≤ wide_side) × (nearest < width) × (nearest ≤ (width - 1) / 2) }
     requires start_le_nearest { start ≤ nearest }
     ensures { result ≡ find_from (column_on_row row width) (nearest - start) (start + 1) }
 {
-    let mut k = start;
-    while k < nearest {
-        k += 1;
+    for k in start + 1..nearest + 1 {
         if inside_left(row, width, k) {
-            return Place::At(k);
+            return Some(k);
         }
     }
-    Place::Nowhere
+    None
 }
 
 // The same as `first_on_row`, looked for from a column that the caller supposes near: in a scan the row
 // before gives it. The answer does not depend on it.
-fn next_on_row(row: RowContains, width: u32, from: u32, count: u32, hint: u32) -> Place
+#[tactic(auto, using(scanline::proofs::Find::find_none, crate::proofs::Search::walk_right_finds))]
+fn next_on_row(row: RowContains, width: u32, from: u32, count: u32, hint: u32) -> Option<u32>
     requires small_weight { SmallWeight row }
     requires width_nonzero { (0 < width) × (width ≤ wide_side) }
     requires from_bound { (from ≤ (width - 1) / 2) × (count ≤ wide_side) }
     ensures { result ≡ find_from (column_on_row row width) count from }
 {
-    let Place::At(nearest) = nearest_column(width, from, count) else {
-        return Place::Nowhere;
-    };
+    let nearest = nearest_column(width, from, count)?;
     let start = signed::least(signed::most(hint, from), nearest);
     if inside_left(row, width, start) {
         return walk_left(row, width, from, start);
@@ -119,7 +113,14 @@ fn next_on_row(row: RowContains, width: u32, from: u32, count: u32, hint: u32) -
 // The same by a walk from the hint, or by halving where the hint is none of the columns. The test comes as
 // its two numbers: as a struct it would lie in memory, and a scan would write it there for every row, though
 // it seldom comes here.
-fn find_on_row(x_weight: u64, threshold: u64, width: u32, from: u32, count: u32, hint: u32) -> Place
+fn find_on_row(
+    x_weight: u64,
+    threshold: u64,
+    width: u32,
+    from: u32,
+    count: u32,
+    hint: u32,
+) -> Option<u32>
     requires x_weight_le_wide_side_square { x_weight ≤ wide_side_square }
     requires width_nonzero { (0 < width) × (width ≤ wide_side) }
     requires from_bound { (from ≤ (width - 1) / 2) × (count ≤ wide_side) }
@@ -137,7 +138,8 @@ fn find_on_row(x_weight: u64, threshold: u64, width: u32, from: u32, count: u32,
 
 // The first inside column of the `count` from `from` on, by halving: for a row that is asked for
 // alone.
-pub fn first_inside(test: EllipseContains, width: u32, y: u64, from: u32, count: u32) -> Place
+#[tactic(auto, using(crate::proofs::Search::finds_on_row))]
+pub fn first_inside(test: EllipseContains, width: u32, y: u64, from: u32, count: u32) -> Option<u32>
     requires small_weights { SmallWeights test }
     requires width_nonzero { (0 < width) × (width ≤ wide_side) × (y ≤ wide_distance) }
     requires from_bound { (from ≤ (width - 1) / 2) × (count ≤ wide_side) }
@@ -151,6 +153,7 @@ pub const ANYWHERE: u32 = 0xffff_ffff;
 
 // The first inside column of the `count` from `from` on: by a walk from the hint, or by halving where
 // the hint is none of the columns.
+#[tactic(auto, using(crate::proofs::Search::finds_on_row))]
 pub fn find_inside(
     test: EllipseContains,
     width: u32,
@@ -158,14 +161,14 @@ pub fn find_inside(
     from: u32,
     count: u32,
     hint: u32,
-) -> Place
+) -> Option<u32>
     requires small_weights { SmallWeights test }
     requires width_nonzero { (0 < width) × (width ≤ wide_side) × (y ≤ wide_distance) }
     requires from_bound { (from ≤ (width - 1) / 2) × (count ≤ wide_side) }
     ensures { result ≡ find_from (column_inside test width y) count from }
 {
-    let row = test.on_row(y);
-    find_on_row(row.x_weight, row.threshold, width, from, count, hint)
+    let by_row = test.on_row(y);
+    find_on_row(by_row.x_weight, by_row.threshold, width, from, count, hint)
 }
 
 // The same in a scan that goes on outward: where the hint is inside and one of the columns, not past the
@@ -179,7 +182,7 @@ pub fn scan_inside(
     from: u32,
     count: u32,
     hint: u32,
-) -> Place
+) -> Option<u32>
     requires small_weights { SmallWeights test }
     requires width_nonzero { (0 < width) × (width ≤ wide_side) × (y ≤ wide_distance) }
     requires from_bound { (from ≤ (width - 1) / 2) × (count ≤ wide_side) }
@@ -193,8 +196,7 @@ pub fn scan_inside(
             }
         }
     }
-    let Place::At(k) = find_on_row(row.x_weight, row.threshold, width, from, count, hint) else {
-        return Place::Nowhere;
-    };
-    Place::At(k)
+    // Taken apart and made anew, so that the short way above stays in registers (docs/SPEED.md).
+    let k = find_on_row(row.x_weight, row.threshold, width, from, count, hint)?;
+    Some(k)
 }

@@ -1,6 +1,8 @@
 -- The styled row of an ellipse by places: the fill's search over signed columns is one over places from s on, since the test at a
 -- column depends on its distance from the middle alone.
 -- Assumes nothing.
+use Rattle.scanline.specs.Rows.{Row}
+use Rattle.std.specs.Prelude.{Some, None}
 use mathlib.Core.Path.{◌≡◌, refl, sym, ap, ◌∙◌}
 use mathlib.Core.Bool.{true, false}
 use Prim.Native.Nat.{ℕ, ◌-◌, ◌*◌, ◌≤◌, ◌<◌}
@@ -9,12 +11,8 @@ use lib.IntN.{ℤ, pos, ◌+ℤ◌, ◌-ℤ◌}
 use Rattle.signed.proofs.Laws.{int, add_law, sub_law}
 use Rattle.geometry.specs.declared.Size.{Size}
 use Rattle.rectangle.specs.declared.Rectangle.{Rectangle}
-use Rattle.scanline.specs.declared.Row.{Row}
-use Rattle.scanline.specs.declared.StyledRow.TheVariants.{Runs, NoRow}
-use Rattle.scanline.specs.declared.Place.{Place}
-use Rattle.scanline.specs.declared.Place.TheVariants.{At, Nowhere}
 use Rattle.scanline.specs.Columns.{Column, first_column}
-use Rattle.scanline.specs.Places.{find_from, Placed}
+use Rattle.scanline.specs.Places.{find_from, Placed, Place}
 use Rattle.scanline.specs.Points.{run_length}
 use Rattle.scanline.proofs.Columns.{from_left, first_from_left}
 use Rattle.ellipse.specs.declared.EllipseContains.{EllipseContains}
@@ -44,7 +42,7 @@ module _ (area : Rectangle) (sides : Size) where
   -- the fill around, by the place where it starts
   runs_by_place : (s : ℕ) (p : Place) → s ≤ w → around_fill (mirrored_run left w s) (fill_from (mirrored_run left w s) (from_left left p))
       ≡ runs_from left w s p
-  runs_by_place s (At c) l =
+  runs_by_place s (Some c) l =
       let end : left +ℤ pos w -ℤ pos s -ℤ (left +ℤ pos c -ℤ (left +ℤ pos s)) ≡ left +ℤ pos w -ℤ pos c =
       omega (
         arith,
@@ -58,7 +56,7 @@ module _ (area : Rectangle) (sides : Size) where
         sub_law (left +ℤ pos w -ℤ pos s) (left +ℤ pos c -ℤ (left +ℤ pos s)),
       ) in
       scanline_by_ends refl refl refl end end refl
-  runs_by_place s Nowhere l = refl
+  runs_by_place s None l = refl
 
   -- the run from s has w − 2s columns
   run_length_mirrored : (s : ℕ) → 2 * s < w → run_length (mirrored_run left w s) ≡ w - 2 * s
@@ -73,25 +71,25 @@ module _ (area : Rectangle) (sides : Size) where
       )
 
   module _ (y : ℤ) where
-    pub styled_out : Placed top h y Nowhere → NoRow ≡ ellipse_styled_row area sides y
+    pub styled_out : Placed top h y None → None ≡ ellipse_styled_row area sides y
     unfolding ellipse_styled_row
     styled_out p = ap (λ (r : Row). styled_by r (ellipse_fill sides area y)) (sym (row_out area y p))
 
-    pub styled_lacking : first_row_inside w h ≡ false → NoRow ≡ ellipse_styled_row area sides y
+    pub styled_lacking : first_row_inside w h ≡ false → None ≡ ellipse_styled_row area sides y
     unfolding ellipse_styled_row
     styled_lacking f = ap (λ (r : Row). styled_by r (ellipse_fill sides area y)) (sym (row_lacking area y f))
 
-    module _ (dy : ℕ) (placed : Placed top h y (At dy)) (rows_there : first_row_inside w h ≡ true) where
+    module _ (dy : ℕ) (placed : Placed top h y (Some dy)) (rows_there : first_row_inside w h ≡ true) where
       -- the row by its place
       by_row : ellipse_styled_row area sides y ≡ styled_by (row_at area (first_inside w h dy)) (ellipse_fill sides area y)
       unfolding ellipse_styled_row
       by_row = ap (λ (r : Row). styled_by r (ellipse_fill sides area y)) (row_placed area y dy placed rows_there)
 
-      pub styled_none : first_inside w h dy ≡ Nowhere → NoRow ≡ ellipse_styled_row area sides y
+      pub styled_none : first_inside w h dy ≡ None → None ≡ ellipse_styled_row area sides y
       styled_none e = sym (by_row ∙ ap (λ (p : Place). styled_by (row_at area p) (ellipse_fill sides area y)) e)
 
-      pub styled_found : (s : ℕ) → first_inside w h dy ≡ At s
-          → Runs (runs_from left w s (find_from (column_inside (contains_of sides.width sides.height) w (gap h dy)) (w - 2 * s) s))
+      pub styled_found : (s : ℕ) → first_inside w h dy ≡ Some s
+          → Some (runs_from left w s (find_from (column_inside (contains_of sides.width sides.height) w (gap h dy)) (w - 2 * s) s))
           ≡ ellipse_styled_row area sides y
       styled_found s e =
           let half = first_inside_half w h dy s e in
@@ -99,11 +97,11 @@ module _ (area : Rectangle) (sides : Size) where
           sym
           (by_row
           ∙ ap (λ (p : Place). styled_by (row_at area p) (ellipse_fill sides area y)) e
-          ∙ ap (λ (c : Column). Runs (around_fill (mirrored_run left w s) (fill_from (mirrored_run left w s) c)))
+          ∙ ap (λ (c : Column). Some (around_fill (mirrored_run left w s) (fill_from (mirrored_run left w s) c)))
           (ap (first_column (λ x. inside_about sides area x y) (left +ℤ pos s)) (run_length_mirrored s (omega arith))
           ∙ first_from_left (λ x. inside_about sides area x y) test left (w - 2 * s) s
           (λ k _ _. ap (inside_about sides area (left +ℤ pos k)) placed.0 ∙ inside_about_at sides area k dy))
-          ∙ ap Runs (runs_by_place s (find_from test (w - 2 * s) s) (omega arith)))
+          ∙ ap Some (runs_by_place s (find_from test (w - 2 * s) s) (omega arith)))
 
 -- the place found by the code's own search
 pub first_inside_found : (w h dy d : ℕ) (test : EllipseContains) (p : Place) → test ≡ contains_of w h → d ≡ gap h dy

@@ -1,14 +1,11 @@
 -- Document 01, 'Styled rows' (`ellipse/styled.rs`, `common/styled_scanline.rs`): a styled row as three runs, and the ellipse's.
 -- Assumes nothing.
-use Rattle.std.specs.Prelude.{ℤ, ◌-ℤ◌}
+use Rattle.scanline.specs.Rows.{Row, StyledRow}
+use Rattle.std.specs.Prelude.{ℤ, ◌-ℤ◌, Some, None}
 use Rattle.geometry.specs.declared.Size.{Size}
 use Rattle.geometry_range.specs.declared.Range.{Range}
 use Rattle.rectangle.specs.declared.Rectangle.{Rectangle}
-use Rattle.scanline.specs.declared.Row.{Row}
-use Rattle.scanline.specs.declared.Row.TheVariants as row_of
 use Rattle.scanline.specs.declared.StyledRuns.{StyledRuns}
-use Rattle.scanline.specs.declared.StyledRow.{StyledRow}
-use Rattle.scanline.specs.declared.StyledRow.TheVariants.{Runs, NoRow}
 use Rattle.scanline.specs.Columns.{Column, found, none, first_column}
 use Rattle.scanline.specs.Points.{run_length}
 use Rattle.ellipse.specs.Ellipse.{inside_about}
@@ -25,8 +22,8 @@ around_fill run fill =
 
 -- a styled row by the stroke area's row and the fill of its run; 'no row' where the stroke area lacks it
 abbrev pub styled_by : Row → (Range → Range) → StyledRow
-styled_by (row_of.Run run) fill = Runs (around_fill run (fill run))
-styled_by row_of.NoRow fill = NoRow
+styled_by (Some run) fill = Some (around_fill run (fill run))
+styled_by None fill = None
 
 -- the fill from a column c of s..e to e − (c − s); e..e where there is none
 abbrev pub fill_from : Range → Column → Range

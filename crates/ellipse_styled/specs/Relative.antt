@@ -1,9 +1,8 @@
 -- `ellipse_styled_row` by places counted from the stroke area's left edge, which the code computes: proofs/Rows.antt equates the two.
 -- Assumes nothing.
-use Rattle.std.specs.Prelude.{◌≡◌, ℕ, ℤ, pos, ◌+ℤ◌, ◌-ℤ◌}
+use Rattle.scanline.specs.Places.{Place}
+use Rattle.std.specs.Prelude.{◌≡◌, ℕ, ℤ, pos, ◌+ℤ◌, ◌-ℤ◌, Some, None}
 use Rattle.scanline.specs.declared.StyledRuns.{StyledRuns}
-use Rattle.scanline.specs.declared.Place.{Place}
-use Rattle.scanline.specs.declared.Place.TheVariants.{At, Nowhere}
 use Rattle.rectangle.specs.Bounds.{Bounded}
 use Rattle.ellipse.specs.Relative.{contains_of, SmallWeights}
 use Rattle.ellipse_rows.specs.Relative.{first_row_inside}
@@ -18,13 +17,13 @@ from_right_edge left w k = left +ℤ pos w -ℤ pos k
 
 -- the three runs of a row of w columns whose stroke starts at place s and whose fill starts at a place, if anywhere
 abbrev pub runs_from : ℤ → ℕ → ℕ → Place → StyledRuns
-runs_from left w s (At c) =
+runs_from left w s (Some c) =
     record {
       stroke_left = record { start = from_left_edge left s; end = from_left_edge left c };
       fill = record { start = from_left_edge left c; end = from_right_edge left w c };
       stroke_right = record { start = from_right_edge left w c; end = from_right_edge left w s };
     }
-runs_from left w s Nowhere =
+runs_from left w s None =
     record {
       stroke_left = record { start = from_left_edge left s; end = from_right_edge left w s };
       fill = record { start = from_right_edge left w s; end = from_right_edge left w s };

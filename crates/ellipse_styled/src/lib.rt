@@ -3,11 +3,10 @@
 // sides about the centre of the stroke area.
 #![tactic(auto)]
 
-ghost use Rattle.std.specs.Prelude.{◌≡◌, ◌*◌, ◌-◌, ◌<◌, ◌≤◌};
+ghost use Rattle.std.specs.Prelude.{◌≡◌, ◌*◌, ◌-◌, ◌<◌, ◌≤◌, Some, None};
 ghost use Rattle.signed.specs.Signed.{Near};
 ghost use Rattle.geometry.specs.Bounds.{wide_side, wide_point, SizeUpTo};
 ghost use Rattle.rectangle.specs.Bounds.{Bounded};
-ghost use Rattle.scanline.specs.declared.Place.TheVariants.{At, Nowhere};
 ghost use Rattle.scanline.specs.Places.{find_from};
 ghost use Rattle.ellipse.specs.Relative.{wide_distance, SmallWeights};
 ghost use Rattle.ellipse_search.specs.Search.{column_inside};
@@ -20,7 +19,7 @@ use ellipse_search::scan_inside;
 use geometry::Size;
 use geometry_range::Range;
 use rectangle::Rectangle;
-use scanline::{Place, StyledRow, StyledRuns};
+use scanline::StyledRuns;
 
 // Where the searches of a row begin, for the stroke and for the fill: nothing depends on it but time.
 #[derive(Clone, Copy)]
@@ -43,7 +42,7 @@ pub struct StyledEllipse {
 // A styled row, and the hints for the row after it.
 #[derive(Clone, Copy)]
 pub struct EllipseRow {
-    pub row: StyledRow,
+    pub row: Option<StyledRuns>,
     pub hints: EllipseHints,
 }
 
@@ -58,7 +57,7 @@ struct HintedRuns {
 pub fn filled_runs(left: i32, width: u32, s: u32, c: u32) -> StyledRuns
     requires near { Near wide_point left }
     requires width_le_wide_side { (width ≤ wide_side) × (s ≤ width) × (c ≤ width) }
-    ensures { result ≡ runs_from left width s (At c) }
+    ensures { result ≡ runs_from left width s (Some c) }
 {
     let fill_start = scanline::from_first(left, c);
     let fill_end = scanline::before_end(left, width, c);
@@ -82,7 +81,7 @@ pub fn filled_runs(left: i32, width: u32, s: u32, c: u32) -> StyledRuns
 pub fn hollow_runs(left: i32, width: u32, s: u32) -> StyledRuns
     requires near { Near wide_point left }
     requires width_le_wide_side { (width ≤ wide_side) × (s ≤ width) }
-    ensures { result ≡ runs_from left width s Nowhere }
+    ensures { result ≡ runs_from left width s None }
 {
     let end = scanline::before_end(left, width, s);
     StyledRuns {
@@ -116,7 +115,7 @@ fn runs_at(
     requires small_weights { SmallWeights fill }
     ensures { result.runs ≡ runs_from left width s (find_from (column_inside fill width distance) (width - 2 * s) s) }
 {
-    let Place::At(c) = scan_inside(fill, width, distance, s, width - 2 * s, hint) else {
+    let Some(c) = scan_inside(fill, width, distance, s, width - 2 * s, hint) else {
         return HintedRuns {
             runs: hollow_runs(left, width, s),
             hint: hint,
@@ -153,25 +152,24 @@ impl StyledEllipse {
         let area = self.area;
         let top_left = area.top_left;
         let size = area.size;
-        let Place::At(dy) = scanline::place_of(top_left.y, size.height, y) else {
+        let Some(dy) = scanline::place_of(top_left.y, size.height, y) else {
             return EllipseRow {
-                row: StyledRow::NoRow,
+                row: None,
                 hints: hints,
             };
         };
         if !self.rows {
             return EllipseRow {
-                row: StyledRow::NoRow,
+                row: None,
                 hints: hints,
             };
         }
         let distance = ellipse::gap(size.height, dy);
         let stroke = self.stroke;
         let stroke_hint = hints.stroke;
-        let Place::At(s) = scan_inside(stroke, size.width, distance, 0, size.width, stroke_hint)
-        else {
+        let Some(s) = scan_inside(stroke, size.width, distance, 0, size.width, stroke_hint) else {
             return EllipseRow {
-                row: StyledRow::NoRow,
+                row: None,
                 hints: hints,
             };
         };
@@ -181,7 +179,7 @@ impl StyledEllipse {
         let runs = found.runs;
         let next_fill = found.hint;
         EllipseRow {
-            row: StyledRow::Runs(runs),
+            row: Some(runs),
             hints: EllipseHints {
                 stroke: s,
                 fill: next_fill,

@@ -1,22 +1,12 @@
 -- Bounds: a figure that passes its check is within the wide bounds of a figure's own numbers; the laws of `shape::box_rules` on its
 -- rectangle or box are passed on. And what a figure's shape says of its confined radii.
 -- Assumes nothing.
-use mathlib.Core.Path.{◌≡◌, refl, sym, ap}
-use mathlib.Core.List.{List, [], ◌∷◌}
+use mathlib.Core.Path.{◌≡◌, sym, ap}
 use Prim.Native.Nat.{ℕ}
 use native.Mathlib.Omega.{arith}
-use lib.IntN.{ℤ, pos}
-use Rattle.geometry.specs.declared.Point.{Point}
-use Rattle.geometry.specs.declared.Size.{Size}
-use Rattle.rectangle.specs.declared.Rectangle.{Rectangle}
-use Rattle.refusal.specs.declared.Checked.{Checked}
-use Rattle.refusal.specs.declared.Checked.TheVariants.{Passed, Refused}
-use Rattle.refusal.specs.Refusal.{or_else, refused, answered, unless}
+use Rattle.refusal.specs.Refusal.{or_else, answered, passed}
 use Rattle.refusal.proofs.Checks.{passed_first, passed_next}
-use Rattle.rectangle.specs.Calls.{rectangle_values}
-use Rattle.geometry.specs.Checks.{size_check, position_check}
 use Rattle.rectangle.specs.Bounds.{Bounded}
-use Rattle.rectangle.specs.Rectangle.{with_center}
 use Rattle.rounded_rectangle.specs.declared.ConfinedBox.{ConfinedBox}
 use Rattle.shape.proofs.Within.{own_box_passed, own_rectangle_passed}
 pub use Rattle.shape.proofs.Within.{point_wider, size_wider, own_area, own_box_bounded, area_bounded}
@@ -27,15 +17,15 @@ use Rattle.figure.specs.declared.Figure.TheVariants.{Ellipse, CrateBox, W3cBox}
 use Rattle.shape.specs.declared.Shape.TheVariants as shape_of
 use Rattle.figure.specs.Figure.{own_rectangle, confined, confined_w3c, shape}
 use Rattle.figure.specs.Bounds.{OwnFigure, BoundedFigure}
-use Rattle.figure.specs.Calls.{sides_check, corners_check, place_check, figure_check, confined_radii_values, figure_values, confined_values}
+use Rattle.figure.specs.Calls.{sides_check, corners_check, place_check, figure_check, confined_radii_values, confined_values}
 
 -- each of the three checks has passed
 pub record FigureChecked (f : Figure) : Type 0 where
-  pub sides : sides_check f ≡ Passed
-  pub corners : corners_check f ≡ Passed
-  pub place : place_check f ≡ Passed
+  pub sides : sides_check f ≡ passed
+  pub corners : corners_check f ≡ passed
+  pub place : place_check f ≡ passed
 
-pub figure_checked : (f : Figure) → figure_check f ≡ Passed → FigureChecked f
+pub figure_checked : (f : Figure) → figure_check f ≡ passed → FigureChecked f
 figure_checked f e =
     let two = passed_first (or_else (sides_check f) (corners_check f)) (place_check f) e in
     record {
@@ -44,7 +34,7 @@ figure_checked f e =
       place = passed_next (or_else (sides_check f) (corners_check f)) (place_check f) e;
     }
 
-pub figure_passed : (f : Figure) → figure_check f ≡ Passed → OwnFigure f
+pub figure_passed : (f : Figure) → figure_check f ≡ passed → OwnFigure f
 figure_passed f e = by_kind f (figure_checked f e)
   where
     by_kind : (f : Figure) → FigureChecked f → OwnFigure f
@@ -64,11 +54,6 @@ own_rectangle_bounded (CrateBox b) own = area_bounded b.rectangle (own_area b.re
 own_rectangle_bounded (W3cBox b) own = area_bounded b.rectangle (own_area b.rectangle own.rectangle)
 
 -- ---- confined radii by the shape
-pub no_corners : (f : Figure) (r : Rectangle) → shape f ≡ shape_of.Ellipse r → answered [] ≡ answered (confined_values f)
-no_corners (Ellipse q) r e = refl
-no_corners (CrateBox b) r e = let z : ◌≡◌ {A = ℕ} 0 1 = cc in absurd (omega arith)
-no_corners (W3cBox b) r e = let z : ◌≡◌ {A = ℕ} 0 1 = cc in absurd (omega arith)
-
 pub shape_corners : (f : Figure) (q : ConfinedBox) → shape f ≡ shape_of.RoundedBox q
     → answered (confined_radii_values q.corners) ≡ answered (confined_values f)
 shape_corners (Ellipse r) q e = let z : ◌≡◌ {A = ℕ} 0 1 = cc in absurd (omega arith)
@@ -78,25 +63,3 @@ shape_corners (CrateBox b) q e =
 shape_corners (W3cBox b) q e =
     let is : confined_w3c b ≡ q = cc in
     ap (λ (p : ConfinedBox). answered (confined_radii_values p.corners)) (sym is)
-
--- the check of an ellipse about a centre
-abbrev pub center_answer : Point → Size → Checked
-center_answer c s = or_else (size_check s) (position_check (with_center c s).top_left)
-
--- ---- an ellipse about a centre answers as its rectangle does
-module _ (check : Checked) (r : Rectangle) where
-  pub ellipse_outcome_refused : (n : ℕ) → refused n ≡ unless check (rectangle_values r) → refused n ≡ unless check (figure_values (Ellipse r))
-  ellipse_outcome_refused n e = by_check check e
-    where
-      by_check : (c : Checked) → refused n ≡ unless c (rectangle_values r) → refused n ≡ unless c (figure_values (Ellipse r))
-      by_check (Refused refusal) e = e
-      by_check Passed e = let z : ◌≡◌ {A = ℕ} 0 1 = cc in absurd (omega arith)
-
-  pub ellipse_outcome_answered : (q : Rectangle) → answered (rectangle_values q) ≡ unless check (rectangle_values r)
-      → answered (figure_values (Ellipse q)) ≡ unless check (figure_values (Ellipse r))
-  ellipse_outcome_answered q e = by_check check e
-    where
-      by_check : (c : Checked) → answered (rectangle_values q) ≡ unless c (rectangle_values r)
-          → answered (figure_values (Ellipse q)) ≡ unless c (figure_values (Ellipse r))
-      by_check (Refused refusal) e = let z : ◌≡◌ {A = ℕ} 0 1 = cc in absurd (omega arith)
-      by_check Passed e = let same : rectangle_values q ≡ rectangle_values r = cc in ap (λ (vs : List ℤ). answered (pos 0 ∷ vs)) same

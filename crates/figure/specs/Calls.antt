@@ -1,30 +1,20 @@
 -- What the calls on figures promise: the lowest of the refusals 1, 2, 3, 4 and 5 that applies, else the values of `Figure`.
 -- Assumes nothing.
-use Rattle.std.specs.Prelude.{Bool, true, false, List, [], ◌∷◌, ◌++◌, ℤ, pos}
+use Rattle.scanline.specs.Rows.{Row}
+use Rattle.std.specs.Prelude.{Bool, true, false, List, [], ◌∷◌, ◌++◌, ℤ, pos, Option, Some, None, Result}
 use Rattle.geometry.specs.declared.Point.{Point}
 use Rattle.geometry.specs.declared.Size.{Size}
-use Rattle.refusal.specs.declared.Checked.{Checked}
-use Rattle.refusal.specs.declared.Checked.TheVariants.{Passed}
-use Rattle.refusal.specs.Refusal.{number, or_else, Outcome, refused, answered, unless}
+use Rattle.refusal.specs.declared.Refusal.{Refusal}
+use Rattle.refusal.specs.Refusal.{Checked, passed, or_else, Outcome, outcome, any_values, unless}
 use Rattle.rectangle.specs.Calls.{range_values, rectangle_values}
 use Rattle.geometry.specs.Checks.{size_check, position_check, asked_check, point_check, offset_check}
 use Rattle.rectangle.specs.Rectangle.{with_center}
 use Rattle.scanline.specs.declared.Scanline.{Scanline}
-use Rattle.scanline.specs.declared.Row.{Row}
-use Rattle.scanline.specs.declared.Row.TheVariants as row_of
 use Rattle.corner_radii.specs.declared.CornerRadii.{CornerRadii}
 use Rattle.corner_radii.specs.declared.ConfinedRadii.{ConfinedRadii}
 use Rattle.corner_radii.specs.CornerRadii.{radii_check}
 use Rattle.figure.specs.declared.Figure.{Figure}
 use Rattle.figure.specs.declared.Figure.TheVariants.{Ellipse, CrateBox, W3cBox}
-use Rattle.figure.specs.declared.calls.ContainsAnswer.{ContainsAnswer}
-use Rattle.figure.specs.declared.calls.ContainsAnswer.TheVariants as contains_answer_cases
-use Rattle.figure.specs.declared.calls.RowAnswer.{RowAnswer}
-use Rattle.figure.specs.declared.calls.RowAnswer.TheVariants as row_answer_cases
-use Rattle.figure.specs.declared.calls.FigureAnswer.{FigureAnswer}
-use Rattle.figure.specs.declared.calls.FigureAnswer.TheVariants as figure_answer_cases
-use Rattle.figure.specs.declared.calls.RadiiAnswer.{RadiiAnswer}
-use Rattle.figure.specs.declared.calls.RadiiAnswer.TheVariants as radii_answer_cases
 use Rattle.figure.specs.Figure.{own_rectangle, confined, confined_w3c, offset, contains, row}
 
 -- ---- What is refused of a figure ('The records', the table), number by number.
@@ -35,7 +25,7 @@ sides_check f = size_check (own_rectangle f).size
 
 -- 2: a radius above the limit; an ellipse has none
 abbrev pub corners_check : Figure → Checked
-corners_check (Ellipse r) = Passed
+corners_check (Ellipse r) = passed
 corners_check (CrateBox b) = radii_check b.corners
 corners_check (W3cBox b) = radii_check b.corners
 
@@ -53,23 +43,20 @@ abbrev pub flag : Bool → ℤ
 flag true = pos 1
 flag false = pos 0
 
-abbrev pub contains_outcome : ContainsAnswer → Outcome
-contains_outcome (contains_answer_cases.Refused refusal) = refused (number refusal)
-contains_outcome (contains_answer_cases.Answered inside) = answered (flag inside ∷ [])
+abbrev pub contains_outcome : Result Bool Refusal → Outcome
+contains_outcome = outcome (λ inside. flag inside ∷ [])
 
 -- a row: its y, and the run's ends as computed; no values for 'no row'
 abbrev pub scanline_values : Scanline → List ℤ
 scanline_values s = s.y ∷ range_values s.x
 
-abbrev pub row_outcome : RowAnswer → Outcome
-row_outcome (row_answer_cases.Refused refusal) = refused (number refusal)
-row_outcome row_answer_cases.NoRow = answered []
-row_outcome (row_answer_cases.Row s) = answered (scanline_values s)
+abbrev pub row_outcome : Result (Option Scanline) Refusal → Outcome
+row_outcome = outcome (any_values scanline_values)
 
 -- the values of the row at y
 abbrev pub row_values : ℤ → Row → List ℤ
-row_values y (row_of.Run r) = scanline_values (record { y = y; x = r })
-row_values y row_of.NoRow = []
+row_values y (Some r) = scanline_values (record { y = y; x = r })
+row_values y None = []
 
 -- radii: width and height of each corner, clockwise from the top-left
 abbrev pub size_values : Size → List ℤ
@@ -88,15 +75,12 @@ figure_values (Ellipse r) = pos 0 ∷ rectangle_values r
 figure_values (CrateBox b) = pos 1 ∷ rectangle_values b.rectangle ++ radii_values b.corners
 figure_values (W3cBox b) = pos 2 ∷ rectangle_values b.rectangle ++ radii_values b.corners
 
-abbrev pub figure_outcome : FigureAnswer → Outcome
-figure_outcome (figure_answer_cases.Refused refusal) = refused (number refusal)
-figure_outcome (figure_answer_cases.Answered f) = answered (figure_values f)
+abbrev pub figure_outcome : Result Figure Refusal → Outcome
+figure_outcome = outcome figure_values
 
 -- no values where the figure has no corners
-abbrev pub radii_outcome : RadiiAnswer → Outcome
-radii_outcome (radii_answer_cases.Refused refusal) = refused (number refusal)
-radii_outcome radii_answer_cases.NoCorners = answered []
-radii_outcome (radii_answer_cases.Radii c) = answered (confined_radii_values c)
+abbrev pub radii_outcome : Result (Option ConfinedRadii) Refusal → Outcome
+radii_outcome = outcome (any_values confined_radii_values)
 
 -- ---- the calls
 -- `contains`: 1, 2, 3, 4

@@ -1,11 +1,11 @@
 -- Document 01: figures, their offset, their test, rows and points ('The records', 'Rectangle and offset', 'Ellipse', 'Corners', 'Box
 -- rows and points').
 -- Assumes nothing.
+use Rattle.scanline.specs.Rows.{Row}
 use Rattle.std.specs.Prelude.{Bool, List, ℤ}
 use Rattle.geometry.specs.declared.Point.{Point}
 use Rattle.rectangle.specs.declared.Rectangle.{Rectangle}
 use Rattle.rectangle.specs.Rectangle.{offset as rectangle_offset}
-use Rattle.scanline.specs.declared.Row.{Row}
 use Rattle.rounded_rectangle.specs.ConfinedBox.{plain_box}
 unfoldable pub use Rattle.shape.specs.BoxRules.{confined, confined_w3c, offset_box, spread_box}
 pub use Rattle.shape.specs.BoxRules.{offset_w3c_box}

@@ -44,15 +44,9 @@ impl Figure {
         ensures { result ≡ corners_check self }
     {
         match self {
-            Figure::Ellipse(_) => Checked::Passed,
-            Figure::CrateBox(b) => {
-                let corners = b.corners;
-                corners.check()
-            }
-            Figure::W3cBox(b) => {
-                let corners = b.corners;
-                corners.check()
-            }
+            Figure::Ellipse(_) => Ok(()),
+            Figure::CrateBox(b) => b.corners.check(),
+            Figure::W3cBox(b) => b.corners.check(),
         }
     }
 
@@ -61,9 +55,9 @@ impl Figure {
         ensures { result ≡ figure_check self }
     {
         let rectangle = self.own_rectangle();
-        let sides = check_size(rectangle.size);
-        let position = check_position(rectangle.top_left);
-        sides.or_else(self.check_corners()).or_else(position)
+        check_size(rectangle.size)?;
+        self.check_corners()?;
+        check_position(rectangle.top_left)
     }
 
     // The figure offset by k. A W3C box is confined before and after.

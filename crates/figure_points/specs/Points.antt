@@ -1,20 +1,17 @@
 -- What the call that lists a figure's points promises: document 01, 'Box rows and points', with the refusals 1, 2, 3 and 13.
 -- Assumes nothing.
-use Rattle.std.specs.Prelude.{List, [], ◌∷◌, ℕ, ◌*◌, ℤ, pos, length}
+use Rattle.refusal.specs.declared.Refusal.{Refusal}
+use Rattle.std.specs.Prelude.{List, [], ◌∷◌, ℕ, ◌*◌, ℤ, pos, length, Result}
 use Rattle.std.proofs.lemmas.List.Edits.{sets}
-use Rattle.refusal.specs.declared.Checked.{Checked}
-use Rattle.refusal.specs.Refusal.{number, or_else, Outcome, refused, answered, unless, keeping, room_check}
+use Rattle.refusal.specs.Refusal.{or_else, Outcome, unless, keeping, room_check, Checked, outcome}
 use Rattle.scanline.specs.Points.{entries}
 use Rattle.figure.specs.declared.Figure.{Figure}
 use Rattle.figure.specs.Figure.{points}
 use Rattle.figure.specs.Calls.{figure_check}
-use Rattle.figure_points.specs.declared.PointsAnswer.{PointsAnswer}
-use Rattle.figure_points.specs.declared.PointsAnswer.TheVariants as points_answer_cases
 
 -- the number of pairs
-abbrev pub points_outcome : PointsAnswer → Outcome
-points_outcome (points_answer_cases.Refused refusal) = refused (number refusal)
-points_outcome (points_answer_cases.Pairs n) = answered (pos n ∷ [])
+abbrev pub points_outcome : Result ℕ Refusal → Outcome
+points_outcome = outcome (λ n. pos n ∷ [])
 
 -- `points`: 1, 2, 3, 13; the list needs two entries for each pair, and entries past the pairs stay
 unfoldable pub points_check : Figure → ℕ → Checked

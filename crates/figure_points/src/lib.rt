@@ -15,15 +15,7 @@ ghost use Rattle.figure_points.specs.Points.{points_outcome, points_call, list_a
 
 use figure::{Figure, Shape};
 use geometry_range::Range;
-use refusal::{Checked, Refusal, check_room};
-use scanline::Row;
-
-#[derive(Clone, Copy)]
-pub enum PointsAnswer {
-    Refused(Refusal),
-    // The number of x, y pairs, from the list's start on.
-    Pairs(u32),
-}
+use refusal::{Refusal, check_room};
 
 // The number of columns in a run.
 fn run_length(run: Range) -> u32
@@ -45,16 +37,14 @@ fn count_points(shape: Shape) -> u32
     let top = top_left.y;
     let height = size.height;
     let mut n: u32 = 0;
-    let mut dy: u32 = 0;
-    while dy < height {
-        let Row::Run(run) = shape.row(scanline::from_first(top, dy)) else {
+    for dy in 0..height {
+        let Some(run) = shape.row(scanline::from_first(top, dy)) else {
             return n;
         };
         if run.is_empty() {
             return n;
         }
         n += run_length(run);
-        dy += 1;
     }
     n
 }
@@ -71,35 +61,28 @@ fn put_points(shape: Shape, list: &mut [i32])
     let top = top_left.y;
     let height = size.height;
     let mut at: usize = 0;
-    let mut dy: u32 = 0;
-    while dy < height {
+    for dy in 0..height {
         let y = scanline::from_first(top, dy);
-        let Row::Run(run) = shape.row(y) else {
+        let Some(run) = shape.row(y) else {
             return;
         };
         if run.is_empty() {
             return;
         }
         at = scanline::put_run(list, at, y, run.start, run_length(run));
-        dy += 1;
     }
 }
 
-// Lists the points as x, y pairs. Refused by 1, 2, 3 and 13; then the list stays as it is.
-pub fn points(figure: Figure, list: &mut [i32]) -> PointsAnswer
+// Lists the points as x, y pairs from the list's start on, and answers their number. Refused by 1, 2, 3 and 13; then the list stays as it is.
+#[tactic(auto, using(figure::proofs::Within::figure_passed, figure::proofs::Within::own_figure_bounded, crate::proofs::Listed::room_passed), unfolding(crate::specs::Points::points_check))]
+pub fn points(figure: Figure, list: &mut [i32]) -> Result<u32, Refusal>
     ensures result_value { points_outcome result ≡ points_call figure list.old }
     ensures list_after { list.new ≡ list_after figure list.old }
 {
-    let checked = figure.check();
-    let Checked::Passed = checked else {
-        return PointsAnswer::Refused(checked.refusal());
-    };
+    figure.check()?;
     let shape = figure.shape();
     let count = count_points(shape);
-    let room = check_room(2 * (count as usize), list.len());
-    let Checked::Passed = room else {
-        return PointsAnswer::Refused(room.refusal());
-    };
+    check_room(2 * (count as usize), list.len())?;
     put_points(shape, list);
-    PointsAnswer::Pairs(count)
+    Ok(count)
 }

@@ -7,8 +7,7 @@ use lib.IntN.{ℤ, nat_abs}
 use Rattle.signed.specs.Signed.{Near}
 use Rattle.signed.proofs.Laws.{near_within}
 use Rattle.refusal.specs.declared.Refusal.TheVariants.{Side, Position}
-use Rattle.refusal.specs.declared.Checked.TheVariants.{Passed}
-use Rattle.refusal.specs.Refusal.{refuse_if, above, beyond}
+use Rattle.refusal.specs.Refusal.{refuse_if, above, beyond, passed}
 use Rattle.refusal.proofs.Checks.{passed_first, passed_next, passed_above, passed_beyond}
 use Rattle.geometry.specs.declared.Point.{Point}
 use Rattle.geometry.specs.declared.Size.{Size}
@@ -16,7 +15,7 @@ use Rattle.geometry.specs.Limits.{max_side, max_position, max_asked, max_offset}
 use Rattle.geometry.specs.Bounds.{wide_point, PointNear, SizeUpTo}
 use Rattle.geometry.specs.Checks.{size_check, position_check, center_check, asked_check, point_check, offset_check}
 
-pub size_passed : (s : Size) → size_check s ≡ Passed → SizeUpTo max_side s
+pub size_passed : (s : Size) → size_check s ≡ passed → SizeUpTo max_side s
 unfolding size_check
 size_passed s e =
     record {
@@ -24,7 +23,7 @@ size_passed s e =
       height = passed_above max_side s.height Side (passed_next (refuse_if (above max_side s.width) Side) _ e);
     }
 
-pub position_passed : (p : Point) → position_check p ≡ Passed → PointNear max_position p
+pub position_passed : (p : Point) → position_check p ≡ passed → PointNear max_position p
 unfolding position_check
 position_passed p e =
     record {
@@ -34,21 +33,21 @@ position_passed p e =
           (passed_next (refuse_if (beyond max_position p.x) Position) _ e)) (omega arith);
     }
 
-pub offset_passed : (k : ℤ) → offset_check k ≡ Passed → Near max_offset k
+pub offset_passed : (k : ℤ) → offset_check k ≡ passed → Near max_offset k
 unfolding offset_check
 offset_passed k e = near_within max_offset k (passed_beyond max_offset k _ e) (omega arith)
 
-pub asked_passed : (z : ℤ) → asked_check z ≡ Passed → Near max_asked z
+pub asked_passed : (z : ℤ) → asked_check z ≡ passed → Near max_asked z
 unfolding asked_check
 asked_passed z e = near_within max_asked z (passed_beyond max_asked z _ e) (omega arith)
 
-pub point_passed : (p : Point) → point_check p ≡ Passed → PointNear max_asked p
+pub point_passed : (p : Point) → point_check p ≡ passed → PointNear max_asked p
 unfolding point_check
 point_passed p e =
     record { x = asked_passed p.x (passed_first _ _ e); y = asked_passed p.y (passed_next (asked_check p.x) _ e) }
 
 -- ---- a centre that passes is near
-pub center_passed : (c : Point) → center_check c ≡ Passed → PointNear (2 * wide_point) c
+pub center_passed : (c : Point) → center_check c ≡ passed → PointNear (2 * wide_point) c
 unfolding center_check
 center_passed c e =
     record {

@@ -2,8 +2,7 @@
 -- Assumes nothing.
 use Rattle.std.specs.Prelude.{◌+◌, ℤ}
 use Rattle.refusal.specs.declared.Refusal.TheVariants.{Side, Position, Asked, Offset}
-use Rattle.refusal.specs.declared.Checked.{Checked}
-use Rattle.refusal.specs.Refusal.{refuse_if, or_else, above, beyond}
+use Rattle.refusal.specs.Refusal.{refuse_if, or_else, above, beyond, Checked}
 use Rattle.geometry.specs.declared.Point.{Point}
 use Rattle.geometry.specs.declared.Size.{Size}
 use Rattle.geometry.specs.Limits.{max_side, max_position, max_asked, max_offset}

@@ -36,21 +36,21 @@ impl Size {
 }
 
 // Refusal 1 of a size.
+#[tactic(auto, unfolding(crate::specs::Checks::size_check))]
 pub fn check_size(size: Size) -> Checked
     ensures { result ≡ size_check size }
 {
-    let width = refuse_above(Size::MAX_SIDE, size.width, Refusal::Side);
-    let height = refuse_above(Size::MAX_SIDE, size.height, Refusal::Side);
-    width.or_else(height)
+    refuse_above(Size::MAX_SIDE, size.width, Refusal::Side)?;
+    refuse_above(Size::MAX_SIDE, size.height, Refusal::Side)
 }
 
 // Refusal 3 of a rectangle's position.
+#[tactic(auto, unfolding(crate::specs::Checks::position_check))]
 pub fn check_position(top_left: Point) -> Checked
     ensures { result ≡ position_check top_left }
 {
-    let x = refuse_beyond(Point::MAX_POSITION, top_left.x, Refusal::Position);
-    let y = refuse_beyond(Point::MAX_POSITION, top_left.y, Refusal::Position);
-    x.or_else(y)
+    refuse_beyond(Point::MAX_POSITION, top_left.x, Refusal::Position)?;
+    refuse_beyond(Point::MAX_POSITION, top_left.y, Refusal::Position)
 }
 
 // Refusal 4 of an asked row, and of an asked point.
@@ -60,10 +60,12 @@ pub fn check_row(y: i32) -> Checked
     refuse_beyond(Point::MAX_ASKED, y, Refusal::Asked)
 }
 
+#[tactic(auto, unfolding(crate::specs::Checks::point_check))]
 pub fn check_point(point: Point) -> Checked
     ensures { result ≡ point_check point }
 {
-    check_row(point.x).or_else(check_row(point.y))
+    check_row(point.x)?;
+    check_row(point.y)
 }
 
 // Refusal 5 of an offset.
@@ -74,11 +76,11 @@ pub fn check_offset(k: i32) -> Checked
 }
 
 // Refusal 3 of a centre so far out that it is the centre of no rectangle within limits.
+#[tactic(auto, unfolding(crate::specs::Checks::center_check))]
 pub fn check_center(center: Point) -> Checked
     ensures { result ≡ center_check center }
 {
     let furthest = Point::MAX_POSITION + Size::MAX_SIDE;
-    let x = refuse_beyond(furthest, center.x, Refusal::Position);
-    let y = refuse_beyond(furthest, center.y, Refusal::Position);
-    x.or_else(y)
+    refuse_beyond(furthest, center.x, Refusal::Position)?;
+    refuse_beyond(furthest, center.y, Refusal::Position)
 }

@@ -14,8 +14,7 @@ use mir.Val.{SFits, to_z, of_z}
 use mir.Facts.{to_z-of_z}
 use Rattle.signed.proofs.Laws.{int, range}
 use Rattle.signed.specs.Signed.{max_i32, Is}
-use Rattle.refusal.specs.declared.Checked.{Checked}
-use Rattle.refusal.specs.Refusal.{answer_number, Outcome, refused, answered, keeping, room_check}
+use Rattle.refusal.specs.Refusal.{answer_number, Outcome, refused, answered, keeping, room_check, Checked}
 use Rattle.host_answers.specs.HostAnswers.{nothing_there, told, held_by32, out_after, Tells}
 
 -- a number that 32 bits with a sign hold comes out as it is

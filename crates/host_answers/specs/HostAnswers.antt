@@ -1,13 +1,11 @@
 -- What a host is told of a call that it makes on numbers: one number for the answer, and values in a list that it lent. Document 01
 -- has the refusals; that numbers may be no record, and that there may be no row, need a number of their own here.
 -- Assumes nothing.
-use Rattle.std.specs.Prelude.{◌≡◌, Bool, true, false, cond, List, [], ◌∷◌, map, ℕ, suc, ℤ, pos, ◌-ℤ◌, length}
+use Rattle.std.specs.Prelude.{◌≡◌, Bool, true, false, cond, List, [], ◌∷◌, map, ℕ, suc, ℤ, pos, ◌-ℤ◌, length, Ok, Err}
 use Rattle.std.proofs.lemmas.List.Edits.{sets}
 use Rattle.std.specs.Int.Signed.{lt_z}
 use Rattle.signed.specs.Signed.{max_i32}
-use Rattle.refusal.specs.declared.Checked.{Checked}
-use Rattle.refusal.specs.declared.Checked.TheVariants.{Passed, Refused}
-use Rattle.refusal.specs.Refusal.{number, answer_number, Outcome, refused, answered, keeping, room_check}
+use Rattle.refusal.specs.Refusal.{number, answer_number, Outcome, refused, answered, keeping, room_check, Checked}
 
 -- the numbers given are no record of their kind
 abbrev pub no_record : ℕ
@@ -29,8 +27,8 @@ if_record false before after = before
 
 -- a call that is made once a check has passed
 abbrev pub after_check : Checked → Outcome → Outcome
-after_check Passed outcome = outcome
-after_check (Refused refusal) outcome = refused (number refusal)
+after_check (Ok _) outcome = outcome
+after_check (Err refusal) outcome = refused (number refusal)
 
 -- what the host is told of a call that gives no values
 abbrev pub outcome_number : Outcome → ℕ

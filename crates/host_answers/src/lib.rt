@@ -8,7 +8,7 @@ ghost use Rattle.signed.specs.Signed.{Is};
 ghost use Rattle.refusal.specs.Refusal.{answer_number, room_check, keeping};
 ghost use Rattle.host_answers.specs.HostAnswers.{held_by32};
 
-use refusal::{Checked, check_room};
+use refusal::check_room;
 
 // The answers that are no refusal's number: done; the numbers given are no record; there is nothing
 // to give.
@@ -37,23 +37,20 @@ pub fn put_from(out: &mut [i32], at: usize, values: &[i32])
     requires { at + length values.now ≤ length out.old }
     ensures { out.new ≡ sets out.old at values.now }
 {
-    let mut i: usize = 0;
-    while i < values.len() {
-        out[at + i] = values[i];
-        i += 1;
-    }
+    let end = at + values.len();
+    out[at..end].copy_from_slice(values);
 }
 
 // Writes the values, if the list has room for them (13).
+#[tactic(auto, using(refusal::proofs::Checks::passed_above))]
 pub fn put_numbers(out: &mut [i32], values: &[i32]) -> u32
     ensures value { result ≡ answer_number (room_check (length values.now) (length out.old)) }
     ensures out_after { out.new ≡ keeping (room_check (length values.now) (length out.old)) out.old
         (sets out.old 0 values.now) }
 {
-    let checked = check_room(values.len(), out.len());
-    let Checked::Passed = checked else {
-        return checked.refusal().number();
-    };
+    if let Err(refusal) = check_room(values.len(), out.len()) {
+        return refusal.number();
+    }
     put_from(out, 0, values);
     DONE
 }

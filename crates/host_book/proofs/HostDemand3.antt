@@ -12,9 +12,7 @@ use lib.Seq.{sets, sets-eq}
 use lib.Signed.{lt_z}
 use Rattle.signed.specs.Signed.{max_i32}
 use Rattle.signed.proofs.Laws.{int}
-use Rattle.refusal.specs.declared.Checked.{Checked}
-use Rattle.refusal.specs.declared.Checked.TheVariants.{Passed}
-use Rattle.refusal.specs.Refusal.{answer_number, room_check}
+use Rattle.refusal.specs.Refusal.{answer_number, room_check, Checked, passed}
 use Rattle.canvas_size.specs.CanvasSize.{canvas_size_check}
 use Rattle.book.specs.Book.{book_after_all}
 use Rattle.book.specs.Each.{Each}
@@ -137,10 +135,10 @@ over_lent lent (call ∷ calls) (this, rest) = by (over_lent lent calls rest) (g
 
 -- ---- opening
 module _ (W H : ℕ) (width : WithinSide drawing W) (height : WithinSide drawing H) (out : List ℤ) (long : length out ≡ sheet_length) where
-  size_passed : canvas_size_check W H ≡ Passed
+  size_passed : canvas_size_check W H ≡ passed
   size_passed = sides_pass W H width height
 
-  room : room_check sheet_length (length out) ≡ Passed
+  room : room_check sheet_length (length out) ≡ passed
   room = rw long
 
   open_done : told (open_said W H) (length out) ≡ 0

@@ -2,6 +2,7 @@
 -- read. The test holds exactly where the rules do (`keeps_rules_iff`); numbers that are no sheet's are read as too many
 -- layers, which break them.
 -- Assumes nothing.
+use Rattle.std.specs.Prelude.{Ok, Err}
 use mathlib.Core.Path.{◌≡◌, refl, sym, ap, subst, ◌∙◌}
 use mathlib.Core.Logic.{◌↔◌, inl, inr}
 use mathlib.Core.Bool.{Bool, true, false}
@@ -18,9 +19,7 @@ use Rattle.book.proofs.LowestNumber.{paint_refused_broken_sheet, paint_broken_sh
 use Rattle.book.proofs.LowestNumber.{remove_refused_broken_sheet, remove_broken_sheet_only}
 use Rattle.refusal.specs.declared.Refusal.{Refusal}
 use Rattle.refusal.specs.declared.Refusal.TheVariants.{Side, Radius, Position, Asked, Offset, CanvasSide, SheetRule, CanvasLength, SheetFull, NoLayer, NoRowLeft, RowOwed, BufferLength, FileHeader, RasterLength}
-use Rattle.refusal.specs.declared.Checked.{Checked}
-use Rattle.refusal.specs.declared.Checked.TheVariants.{Passed, Refused}
-use Rattle.refusal.specs.Refusal.{number, answer_number, refuse_if, or_else, above, beyond}
+use Rattle.refusal.specs.Refusal.{number, answer_number, refuse_if, or_else, above, beyond, Checked, passed}
 use Rattle.geometry.specs.declared.Point.{Point}
 use Rattle.geometry.specs.declared.Size.{Size}
 use Rattle.geometry.specs.Limits.{max_side, max_position, max_radius, max_stroke_width}
@@ -80,11 +79,11 @@ module _ (numbers : List ℤ) where
       fails (inr broken) = false_unless kept (λ e. broken ((rules_said (kept_records e)).0 (test_iff.0 e)))
 
 -- ---- an answer by its number
-number_seven : (a : Checked) → answer_number a ≡ 7 → a ≡ Refused SheetRule
-number_seven Passed e = absurd (omega arith)
-number_seven (Refused refusal) e = by_refusal refusal e
+number_seven : (a : Checked) → answer_number a ≡ 7 → a ≡ Err SheetRule
+number_seven (Ok _) e = absurd (omega arith)
+number_seven (Err refusal) e = by_refusal refusal e
   where
-    by_refusal : (r : Refusal) → number r ≡ 7 → Refused r ≡ Refused SheetRule
+    by_refusal : (r : Refusal) → number r ≡ 7 → ◌≡◌ {A = Checked} (Err r) (Err SheetRule)
     by_refusal SheetRule e = refl
     by_refusal Side e = absurd (omega arith)
     by_refusal Radius e = absurd (omega arith)
@@ -159,8 +158,8 @@ not_seven_if true refusal other e = other e
 not_seven_if false refusal other e = absurd (omega arith)
 
 not_seven_first : (a b : Checked) → NotSeven a → NotSeven b → NotSeven (or_else a b)
-not_seven_first (Refused refusal) b first next = first
-not_seven_first Passed b first next = next
+not_seven_first (Err refusal) b first next = first
+not_seven_first (Ok _) b first next = next
 
 not_seven_either : (t u : Bool) (refusal : Refusal) → (number refusal ≡ 7 → ⊥)
     → NotSeven (or_else (refuse_if t refusal) (refuse_if u refusal))
@@ -221,15 +220,15 @@ add_told_seven numbers figure style records = (only, always)
     told_is = rw records
 
     -- a figure or a style that is refused gets its own number, and that is not 7
-    passes : (k : Checked) → check ≡ k → add_told numbers figure style ≡ 7 → check ≡ Passed
-    passes Passed is seven = is
-    passes (Refused refusal) is seven =
+    passes : (k : Checked) → check ≡ k → add_told numbers figure style ≡ 7 → check ≡ passed
+    passes (Ok _) is seven = is
+    passes (Err refusal) is seven =
         let own : sheet_answer (sheet_of numbers) [] (add_of figure style) ≡ check =
         add_refused_item drawing (sheet_of numbers).width (sheet_of numbers).height state item is
         ∙ sym is in
         absurd (styled_not_seven (figure_of figure) (style_of style) (sym (told_is ∙ ap answer_number own) ∙ seven))
 
-    only : add_told numbers figure style ≡ 7 → (check ≡ Passed) × NoSheetOrBroken numbers
+    only : add_told numbers figure style ≡ 7 → (check ≡ passed) × NoSheetOrBroken numbers
     only seven =
         let passed = passes check refl seven in
         let answered_seven = number_seven (sheet_answer (sheet_of numbers) [] (add_of figure style)) (sym told_is ∙ seven) in (
@@ -238,7 +237,7 @@ add_told_seven numbers figure style records = (only, always)
               (add_broken_sheet_only drawing (sheet_of numbers).width (sheet_of numbers).height state item passed answered_seven),
         )
 
-    always : (check ≡ Passed) × NoSheetOrBroken numbers → add_told numbers figure style ≡ 7
+    always : (check ≡ passed) × NoSheetOrBroken numbers → add_told numbers figure style ≡ 7
     always (passed, broken) =
         let fails = (fails_iff numbers).1 broken in
         told_is

@@ -3,9 +3,7 @@
 -- (`host_sheet`). That it holds is `host_demand3` (proofs/HostDemand3.antt).
 -- Assumes nothing.
 use Rattle.std.specs.Prelude.{◌≡◌, Bool, true, cond, ◌&&◌, List, [], ◌∷◌, ℕ, ◌*◌, ℤ, length, drop, get_or}
-use Rattle.refusal.specs.declared.Checked.{Checked}
-use Rattle.refusal.specs.declared.Checked.TheVariants.{Passed}
-use Rattle.refusal.specs.Refusal.{answer_number}
+use Rattle.refusal.specs.Refusal.{answer_number, Checked, passed}
 use Rattle.book.specs.Book.{Call, book_answers, book_after_all}
 use Rattle.book.specs.Book as book
 use Rattle.book.specs.Each.{Each}
@@ -81,7 +79,7 @@ book_calls (call ∷ calls) = cond (gives_records call) (call_of call ∷ book_c
 unfoldable pub told_by : List HostCall → List Checked → List ℕ
 told_by [] answers = []
 told_by (call ∷ calls) answers =
-    cond (gives_records call) (answer_number (get_or answers 0 Passed) ∷ told_by calls (drop 1 answers)) (no_record ∷ told_by calls answers)
+    cond (gives_records call) (answer_number (get_or answers 0 passed) ∷ told_by calls (drop 1 answers)) (no_record ∷ told_by calls answers)
 
 -- the numbers that `open` leaves in a list that the host lent
 abbrev pub opened : ℕ → ℕ → List ℤ → List ℤ

@@ -3,9 +3,9 @@
 -- `Rules`, over every row y, and not the test by which the code answers. The laws are `paint_told_seven`, `remove_told_seven` and
 -- `add_told_seven` (proofs/HostRules.antt).
 -- Assumes nothing.
+use Rattle.refusal.specs.Refusal.{passed}
 use Rattle.std.specs.Prelude.{◌≡◌, ◌↔◌, ◌⊎◌, true, false, List, ℕ, ℤ}
 use Rattle.signed.specs.Signed.{floor0}
-use Rattle.refusal.specs.declared.Checked.TheVariants.{Passed}
 use Rattle.book.specs.Sheet.{Layers, Rules}
 use Rattle.drawing.specs.Drawing.{styled_check, drawing}
 use Rattle.sheet_layers.specs.Layers.{layers_of}
@@ -45,4 +45,4 @@ RemoveToldSeven =
 abbrev pub AddToldSeven : Type 0
 AddToldSeven =
     (numbers figure style : List ℤ) → are_records numbers figure style ≡ true
-    → (add_told numbers figure style ≡ 7) ↔ ((styled_check (figure_of figure) (style_of style) ≡ Passed) × NoSheetOrBroken numbers)
+    → (add_told numbers figure style ≡ 7) ↔ ((styled_check (figure_of figure) (style_of style) ≡ passed) × NoSheetOrBroken numbers)

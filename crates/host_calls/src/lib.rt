@@ -7,7 +7,7 @@ ghost use Rattle.sheet_calls.specs.SheetCalls.{run_answer};
 ghost use Rattle.host_calls.specs.Calls.{run_number, RunTold};
 
 use host_answers::{DONE, NO_RECORD};
-use sheet_calls::RunAnswer;
+use sheet_calls::RunError;
 
 // A list of sheet calls run from a sheet just opened, with one background for its removals, and the
 // answer of each. Refused by 6, 8 and 13; the background is looked at by a removal alone.
@@ -28,8 +28,8 @@ pub fn run_calls(
     let ran = sheet_calls::run_calls(width, height, calls, canvas, background, answers);
     let answer = ran.answer;
     match answer {
-        RunAnswer::Refused(refusal) => refusal.number(),
-        RunAnswer::NotCalls => NO_RECORD,
-        RunAnswer::Ran => DONE,
+        Err(RunError::Refused(refusal)) => refusal.number(),
+        Err(RunError::NotCalls) => NO_RECORD,
+        Ok(()) => DONE,
     }
 }

@@ -7,8 +7,7 @@ use native.Mathlib.Omega.{arith}
 use native.Mathlib.Nat.{mul-le-mul}
 use lib.IntN.{pos}
 use lib.ListN.{length}
-use Rattle.refusal.specs.declared.Checked.TheVariants.{Passed}
-use Rattle.refusal.specs.Refusal.{or_else, answered, room_check}
+use Rattle.refusal.specs.Refusal.{or_else, answered, room_check, passed}
 use Rattle.refusal.proofs.Checks.{passed_first, passed_next}
 use Rattle.canvas_size.specs.CanvasSize.{canvas_size_check, canvas_length_check}
 use Rattle.canvas_size.proofs.Sides.{canvas_size_passed, canvas_length_passed}
@@ -28,7 +27,7 @@ raster_length_most P4 W H pixels w h p =
     mul-le-mul h row
 raster_length_most P5 W H pixels w h p = p
 
-pub written_length_fits : (format : Format) (W H : ℕ) (canvas file : List ℕ) (room n : ℕ) → write_room W H canvas room ≡ Passed
+pub written_length_fits : (format : Format) (W H : ℕ) (canvas file : List ℕ) (room n : ℕ) → write_room W H canvas room ≡ passed
     → answered (pos n ∷ []) ≡ write_call format W H canvas file → n < 2 ^ 32
 written_length_fits format W H canvas file room n passed same =
     let lent = passed_first (or_else (canvas_size_check W H) (canvas_length_check W H (length canvas))) (room_check 1 room) passed in

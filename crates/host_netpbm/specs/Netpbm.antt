@@ -1,8 +1,7 @@
 -- What writing a canvas as P4 or P5 and reading such a file say to a host, and what they leave.
 -- Assumes nothing.
 use Rattle.std.specs.Prelude.{List, ℕ, length}
-use Rattle.refusal.specs.declared.Checked.{Checked}
-use Rattle.refusal.specs.Refusal.{or_else, Outcome, keeping, room_check}
+use Rattle.refusal.specs.Refusal.{or_else, Outcome, keeping, room_check, Checked}
 use Rattle.canvas_size.specs.CanvasSize.{canvas_size_check, canvas_length_check}
 use Rattle.netpbm_header.specs.declared.Format.{Format}
 use Rattle.netpbm.specs.Netpbm.{write_call, file_after}

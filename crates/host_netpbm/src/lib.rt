@@ -12,12 +12,11 @@ ghost use Rattle.host_netpbm.specs.Netpbm.{write_said, written_after, read_said,
 use canvas_size::CanvasSize;
 use host_answers::{held, put_numbers};
 use host_values::put_count;
-use netpbm::WriteAnswer;
 use netpbm_header::Format;
-use netpbm_read::ReadAnswer;
-use refusal::{Checked, check_room};
+use refusal::check_room;
 
 // The canvas in a format, and the length of the file.
+#[tactic(auto, using(refusal::proofs::Checks::and_or_else, crate::proofs::FileLength::written_length_fits, host_answers::proofs::Telling::tells_as))]
 fn write(
     format: Format,
     width: u32,
@@ -35,14 +34,13 @@ fn write(
         width: width,
         height: height,
     };
-    let lent = size.check().or_else(size.check_length(canvas.len()));
-    let checked = lent.or_else(check_room(1, out.len()));
-    let Checked::Passed = checked else {
-        return checked.refusal().number();
-    };
+    let lent = size.check().and(size.check_length(canvas.len()));
+    if let Err(refusal) = lent.and(check_room(1, out.len())) {
+        return refusal.number();
+    }
     match netpbm::write(format, width, height, canvas, file) {
-        WriteAnswer::Refused(refusal) => refusal.number(),
-        WriteAnswer::Written(n) => put_count(n as u32, out),
+        Err(refusal) => refusal.number(),
+        Ok(n) => put_count(n as u32, out),
     }
 }
 
@@ -79,13 +77,14 @@ fn put_sides(size: CanvasSize, out: &mut [i32]) -> u32
 
 // A P4 or P5 file read into a canvas of its size, and its width and height. Refused by 14, 6, 8, 13 and
 // 15, looked for in this order.
+#[tactic(auto, using(host_answers::proofs::Telling::tells_as))]
 pub fn read(file: &[u8], canvas: &mut [u8], out: &mut [i32]) -> u32
     ensures tells { Tells (read_said file.now canvas.old (length out.old)) out.old result
         out.new }
     ensures canvas_after { canvas.new ≡ read_after file.now canvas.old (length out.old) }
 {
     match netpbm_read::read_beside(file, canvas, check_room(SIDES, out.len())) {
-        ReadAnswer::Refused(refusal) => refusal.number(),
-        ReadAnswer::Read(size) => put_sides(size, out),
+        Err(refusal) => refusal.number(),
+        Ok(size) => put_sides(size, out),
     }
 }

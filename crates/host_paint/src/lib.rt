@@ -8,9 +8,9 @@ ghost use Rattle.host_paint.specs.Paint.{paint_said, painted_after};
 
 use host_answers::{DONE, NO_RECORD};
 use host_records::{figure_of, is_figure, is_style, style_of};
-use paint::PaintAnswer;
 
 // The figure painted on the canvas. Refused by 1, 2, 3, 5, 6 and 8.
+#[tactic(auto, using(host_records::proofs::Records::figure_length_lem, host_records::proofs::Records::style_length_lem))]
 pub fn paint_figure(
     figure: &[i32],
     style: &[i32],
@@ -28,7 +28,7 @@ pub fn paint_figure(
         return NO_RECORD;
     }
     match paint::paint_figure(figure_of(figure), style_of(style), width, height, canvas) {
-        PaintAnswer::Refused(refusal) => refusal.number(),
-        PaintAnswer::Painted => DONE,
+        Err(refusal) => refusal.number(),
+        Ok(()) => DONE,
     }
 }

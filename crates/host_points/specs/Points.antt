@@ -1,8 +1,7 @@
 -- What the call that lists points says to a host that gives numbers, and what it leaves.
 -- Assumes nothing.
 use Rattle.std.specs.Prelude.{List, ℕ, ℤ}
-use Rattle.refusal.specs.declared.Checked.{Checked}
-use Rattle.refusal.specs.Refusal.{or_else, Outcome, keeping, room_check}
+use Rattle.refusal.specs.Refusal.{or_else, Outcome, keeping, room_check, Checked}
 use Rattle.figure.specs.Calls.{figure_check}
 use Rattle.figure_points.specs.Points.{points_call, list_after}
 use Rattle.host_records.specs.RecordNumbers.{is_figure, figure_of}

@@ -7,13 +7,13 @@ ghost use Rattle.std.specs.Prelude.{◌≡◌, length};
 ghost use Rattle.host_answers.specs.HostAnswers.{Tells};
 ghost use Rattle.host_points.specs.Points.{points_said, pairs_after};
 
-use figure_points::PointsAnswer;
 use host_answers::NO_RECORD;
 use host_records::{figure_of, is_figure};
 use host_values::put_count;
-use refusal::{Checked, check_room};
+use refusal::check_room;
 
 // The points into a list, and their number. Refused by 1, 2, 3 and 13.
+#[tactic(auto, using(refusal::proofs::Checks::and_or_else, host_records::proofs::Records::figure_length_lem, host_answers::proofs::Telling::tells_as))]
 pub fn points(figure: &[i32], list: &mut [i32], out: &mut [i32]) -> u32
     ensures tells { Tells (points_said figure.now list.old (length out.old)) out.old result
         out.new }
@@ -23,12 +23,11 @@ pub fn points(figure: &[i32], list: &mut [i32], out: &mut [i32]) -> u32
         return NO_RECORD;
     }
     let given = figure_of(figure);
-    let checked = given.check().or_else(check_room(1, out.len()));
-    let Checked::Passed = checked else {
-        return checked.refusal().number();
-    };
+    if let Err(refusal) = given.check().and(check_room(1, out.len())) {
+        return refusal.number();
+    }
     match figure_points::points(given, list) {
-        PointsAnswer::Refused(refusal) => refusal.number(),
-        PointsAnswer::Pairs(n) => put_count(n, out),
+        Err(refusal) => refusal.number(),
+        Ok(n) => put_count(n, out),
     }
 }

@@ -1,7 +1,7 @@
 -- Numbers read from a list, and walks over it: what is left, by what stands there.
 -- Assumes nothing.
-use mathlib.Core.Path.{◌≡◌, ap, ◌∙◌}
-use mathlib.Core.Bool.{Bool, true, ◌&&◌}
+use mathlib.Core.Path.{◌≡◌, sym, ap, ◌∙◌}
+use mathlib.Core.Bool.{Bool, true, false, ◌&&◌}
 use mathlib.Core.List.{List, [], ◌∷◌}
 use Prim.Native.Nat.{ℕ, suc, ◌+◌, ◌-◌, ◌<◌, ◌≤◌, ◌^◌}
 use native.Mathlib.Omega.{arith}
@@ -9,11 +9,12 @@ use native.Mathlib.Numerals.{add-one}
 use lib.IntN.{ℤ, pos}
 use lib.ListN.{length, drop, get_or, drop_of_length-le}
 use lib.Seq.{drop-cons}
-use lib.Signed.{le_z, mag}
+use lib.Signed.{le_z, lt_z, mag}
 use borrow.Author.Rules.{sfits_of}
 use mir.Syntax.{w32}
-use mir.Val.{hbits, to_z, of_z}
+use mir.Val.{SFits, hbits, to_z, of_z}
 use mir.Facts.{to_z-of_z}
+use Rattle.signed.proofs.Laws.{int}
 use Rattle.host_records.specs.RecordNumbers.{number_at, list_from, all_from, none_negative, size_of}
 
 -- a number read from the list is the number that the list holds
@@ -26,12 +27,29 @@ pub size_read : (numbers : List ℤ) (k m : ℕ) → mag (number_at numbers k) <
     ≡ size_of (number_at numbers k) (number_at numbers m)
 size_read numbers k m a b i = size_of (read_back numbers k a i) (read_back numbers m b i)
 
-module _ (numbers : List ℤ) (i : ℕ) where
-  pub none_negative_here : i < length numbers
-      → none_negative (drop i numbers) ≡ (le_z (pos 0) (get_or numbers i (pos 0)) && none_negative (drop (i + 1) numbers))
+module _ (numbers : List ℤ) (i : ℕ) (within : i < length numbers) (fits : SFits w32 (get_or numbers i (pos 0))) where
+  here : none_negative (drop i numbers) ≡ (le_z (pos 0) (get_or numbers i (pos 0)) && none_negative (drop (i + 1) numbers))
   unfolding none_negative
-  none_negative_here within = rw (drop-cons numbers i (pos 0) within, add-one i)
+  here = rw (drop-cons numbers i (pos 0) within, add-one i)
 
+  by_sign : {t : Bool} → lt_z (to_z w32 (of_z w32 (get_or numbers i (pos 0)))) (pos 0) ≡ t
+      → lt_z (get_or numbers i (pos 0)) (pos 0) ≡ t
+  by_sign test = sym (ap (λ (z : ℤ). lt_z z (pos 0)) (to_z-of_z fits)) ∙ test
+
+  pub negative_here : lt_z (to_z w32 (of_z w32 (get_or numbers i (pos 0)))) (pos 0) ≡ true → none_negative (drop i numbers) ≡ false
+  negative_here test =
+      let sign = by_sign test in
+      let negative : le_z (pos 0) (get_or numbers i (pos 0)) ≡ false = omega (arith, int) in
+      here ∙ rw negative
+
+  pub none_negative_here : lt_z (to_z w32 (of_z w32 (get_or numbers i (pos 0)))) (pos 0) ≡ false
+      → none_negative (drop i numbers) ≡ none_negative (drop (i + 1) numbers)
+  none_negative_here test =
+      let sign = by_sign test in
+      let positive : le_z (pos 0) (get_or numbers i (pos 0)) ≡ true = omega (arith, int) in
+      here ∙ rw positive
+
+module _ (numbers : List ℤ) (i : ℕ) where
   pub none_negative_past : length numbers ≤ i → none_negative (drop i numbers) ≡ true
   unfolding none_negative
   none_negative_past past = rw (drop_of_length-le numbers {i = i} past)

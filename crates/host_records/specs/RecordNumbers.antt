@@ -8,7 +8,8 @@
 -- An ellipse's radii are not looked at, but must not be negative. Numbers are i32: sides, radii and stroke widths of 2^31 and more,
 -- which the calls take too and refuse, cannot be written.
 -- Assumes nothing.
-use Rattle.std.specs.Prelude.{Bool, true, cond, ◌&&◌, List, [], ◌∷◌, ℕ, zero, suc, ◌+◌, ◌-◌, ◌%◌, eqb, ℤ, pos, negsuc, length, take, drop, get_or}
+use Rattle.style.specs.Style.{Paint}
+use Rattle.std.specs.Prelude.{Bool, true, cond, ◌&&◌, List, [], ◌∷◌, ℕ, zero, suc, ◌+◌, ◌-◌, ◌%◌, eqb, ℤ, pos, negsuc, length, take, drop, get_or, Some, None}
 use Rattle.std.specs.Int.Signed.{le_z, lt_z}
 use Rattle.signed.specs.Signed.{floor0}
 use Rattle.geometry.specs.declared.Size.{Size}
@@ -17,8 +18,6 @@ use Rattle.corner_radii.specs.declared.CornerRadii.{CornerRadii}
 use Rattle.rounded_rectangle.specs.declared.RoundedRectangle.{RoundedRectangle}
 use Rattle.figure.specs.declared.Figure.{Figure}
 use Rattle.figure.specs.declared.Figure.TheVariants.{Ellipse, CrateBox, W3cBox}
-use Rattle.style.specs.declared.Paint.{Paint}
-use Rattle.style.specs.declared.Paint.TheVariants.{Absent, Colour}
 use Rattle.style.specs.declared.StrokeAlignment.{StrokeAlignment}
 use Rattle.style.specs.declared.StrokeAlignment.TheVariants.{Inside, Center, Outside}
 use Rattle.style.specs.declared.Style.{Style}
@@ -130,7 +129,7 @@ is_style numbers =
 
 -- a paint
 unfoldable pub paint_of : ℤ → Paint
-paint_of v = cond (lt_z v (pos 0)) Absent (Colour (floor0 v % 256))
+paint_of v = cond (lt_z v (pos 0)) None (Some (floor0 v % 256))
 
 -- an alignment
 unfoldable pub alignment_of : ℤ → StrokeAlignment

@@ -10,7 +10,7 @@ use figure::Figure;
 use geometry::{Point, Size};
 use rectangle::Rectangle;
 use rounded_rectangle::RoundedRectangle;
-use style::{Paint, StrokeAlignment, Style};
+use style::{StrokeAlignment, Style};
 
 // How many numbers a figure has, and a style.
 pub const FIGURE_LENGTH: usize = 13;
@@ -85,15 +85,14 @@ pub fn is_within(low: i32, high: i32, v: i32) -> bool
 }
 
 // Whether none of the numbers is negative.
+#[tactic(auto, using(crate::proofs::Walks::negative_here, crate::proofs::Walks::none_negative_here, crate::proofs::Walks::none_negative_past))]
 pub fn none_negative(numbers: &[i32]) -> bool
     ensures { result ≡ none_negative numbers.now }
 {
-    let mut i: usize = 0;
-    while i < numbers.len() {
-        if numbers[i] < 0 {
+    for n in numbers {
+        if *n < 0 {
             return false;
         }
-        i += 1;
     }
     true
 }
@@ -130,13 +129,13 @@ pub fn is_style(numbers: &[i32]) -> bool
     is_within(INSIDE, OUTSIDE, numbers[ALIGNMENT])
 }
 
-fn paint_of(v: i32) -> Paint
+fn paint_of(v: i32) -> Option<u8>
     ensures { result ≡ paint_of v }
 {
     if v < 0 {
-        return Paint::Absent;
+        return None;
     }
-    Paint::Colour((signed::floor0(v) % 256) as u8)
+    Some((signed::floor0(v) % 256) as u8)
 }
 
 fn alignment_of(v: i32) -> StrokeAlignment

@@ -1,6 +1,7 @@
 -- What an accepted call says of the sheet given: an added layer has a place, and a painted or a removed one is in one; and what is
 -- written of a painted one.
 -- Assumes nothing.
+use Rattle.refusal.specs.Refusal.{passed}
 use mathlib.Core.Path.{◌≡◌, sym, ap, ◌∙◌}
 use mathlib.Core.List.{List, []}
 use Prim.Native.Nat.{ℕ, ◌+◌, ◌<◌, ◌≤◌}
@@ -8,7 +9,6 @@ use native.Mathlib.Omega.{arith}
 use lib.IntN.{ℤ}
 use lib.ListN.{set, get_or}
 use lib.Seq.{get_or-set_same}
-use Rattle.refusal.specs.declared.Checked.TheVariants.{Passed}
 use Rattle.signed.specs.Signed.{max_i32}
 use Rattle.geometry.specs.Limits.{max_layers}
 use Rattle.book.specs.Book.{paint, remove}
@@ -26,13 +26,13 @@ use Rattle.host_sheet_record.proofs.Parts.{sixteen}
 use Rattle.host_sheet_record.proofs.ReadBack.{layer_in_place}
 use Rattle.host_sheet.specs.Sheets.{add_of, next_row_of, with_painted}
 
-pub added_place : (numbers figure style : List ℤ) → sheet_answer (sheet_of numbers) [] (add_of figure style) ≡ Passed
+pub added_place : (numbers figure style : List ℤ) → sheet_answer (sheet_of numbers) [] (add_of figure style) ≡ passed
     → (sheet_of numbers).count < max_layers
 added_place numbers figure style e =
     let s = sheet_of numbers in
     added_room s.width s.height s.count s.layers (sixteen numbers) (styled_figure (figure_of figure) (style_of style)) [] e
 
-pub painted_place : (numbers : List ℤ) (i : ℕ) (canvas : List ℕ) → sheet_answer (sheet_of numbers) canvas (paint i) ≡ Passed → i < max_layers
+pub painted_place : (numbers : List ℤ) (i : ℕ) (canvas : List ℕ) → sheet_answer (sheet_of numbers) canvas (paint i) ≡ passed → i < max_layers
 painted_place numbers i canvas e =
     let s = sheet_of numbers in
     let told = painted_accepted s.width s.height s.count s.layers (sixteen numbers) i canvas e in
@@ -40,7 +40,7 @@ painted_place numbers i canvas e =
     let few = kept_few s.width s.height s.count s.layers (sixteen numbers) told.rules in
     omega arith
 
-pub painted_few : (numbers : List ℤ) (i : ℕ) (canvas : List ℕ) → sheet_answer (sheet_of numbers) canvas (paint i) ≡ Passed
+pub painted_few : (numbers : List ℤ) (i : ℕ) (canvas : List ℕ) → sheet_answer (sheet_of numbers) canvas (paint i) ≡ passed
     → (sheet_of numbers).count ≤ max_layers
 painted_few numbers i canvas e =
     let s = sheet_of numbers in
@@ -56,7 +56,7 @@ painted_next numbers i place =
     (get_or-set_same (sheet_of numbers).layers i (painted_layer (get_or (sheet_of numbers).layers i blank_layer)) blank_layer
     (omega (arith, sixteen numbers)))
 
-pub painted_numbers : (numbers : List ℤ) (i : ℕ) (canvas : List ℕ) → sheet_answer (sheet_of numbers) canvas (paint i) ≡ Passed
+pub painted_numbers : (numbers : List ℤ) (i : ℕ) (canvas : List ℕ) → sheet_answer (sheet_of numbers) canvas (paint i) ≡ passed
     → row_painted numbers i ≡ with_painted numbers i (carried_out_sheet (sheet_of numbers) (paint i))
 painted_numbers numbers i canvas e =
     let place = painted_place numbers i canvas e in
@@ -64,7 +64,7 @@ painted_numbers numbers i canvas e =
     (sym (painted_next numbers i place ∙ ap (λ (l : Layer). (painted_layer l).next_row) (layer_in_place numbers i place)))
 
 -- and the new count is small
-pub added_count : (numbers figure style : List ℤ) → sheet_answer (sheet_of numbers) [] (add_of figure style) ≡ Passed
+pub added_count : (numbers figure style : List ℤ) → sheet_answer (sheet_of numbers) [] (add_of figure style) ≡ passed
     → (sheet_after (sheet_of numbers) [] (add_of figure style)).count ≤ max_i32
 unfolding carried_out_sheet
 added_count numbers figure style e =
@@ -75,13 +75,13 @@ added_count numbers figure style e =
 
 -- a removed layer is one of those that the sheet says, and these have places
 pub removed_within : (numbers : List ℤ) (i : ℕ) (canvas background : List ℕ)
-    → sheet_answer (sheet_of numbers) canvas (remove i background) ≡ Passed → i < (sheet_of numbers).count
+    → sheet_answer (sheet_of numbers) canvas (remove i background) ≡ passed → i < (sheet_of numbers).count
 removed_within numbers i canvas background e =
     let s = sheet_of numbers in
     (removed_accepted s.width s.height s.count s.layers (sixteen numbers) i background canvas e).within
 
 pub removed_few : (numbers : List ℤ) (i : ℕ) (canvas background : List ℕ)
-    → sheet_answer (sheet_of numbers) canvas (remove i background) ≡ Passed → (sheet_of numbers).count ≤ max_layers
+    → sheet_answer (sheet_of numbers) canvas (remove i background) ≡ passed → (sheet_of numbers).count ≤ max_layers
 removed_few numbers i canvas background e =
     let s = sheet_of numbers in
     kept_few s.width s.height s.count s.layers (sixteen numbers)

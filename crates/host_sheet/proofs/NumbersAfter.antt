@@ -1,5 +1,7 @@
 -- The numbers after a call are a sheet's again, and of the sheet after it.
 -- Assumes nothing.
+use Rattle.refusal.specs.Refusal.{Checked}
+use Rattle.std.specs.Prelude.{Ok, Err}
 use mathlib.Core.Path.{◌≡◌, refl, sym, ap, ◌∙◌}
 use mathlib.Core.Bool.{true, ◌&&◌}
 use mathlib.Core.List.{[]}
@@ -12,8 +14,6 @@ use lib.Seq.{sets, get_or-set_same, length-sets}
 use lib.Signed.{le_z}
 use Rattle.signed.specs.Signed.{floor0}
 use Rattle.signed.proofs.Laws.{int}
-use Rattle.refusal.specs.declared.Checked.{Checked}
-use Rattle.refusal.specs.declared.Checked.TheVariants.{Passed, Refused}
 use Rattle.geometry.specs.Limits.{max_layers}
 use Rattle.book.specs.Book.{paint, remove}
 use Rattle.book.proofs.Tests.{and_true_parts}
@@ -38,8 +38,8 @@ paint_reads_back numbers i canvas is = by (sheet_answer (sheet_of numbers) canva
     by : (a : Checked) → sheet_answer (sheet_of numbers) canvas (paint i) ≡ a
         → (is_sheet (paint_numbers numbers i canvas) ≡ true) ×
         (sheet_of (paint_numbers numbers i canvas) ≡ sheet_after (sheet_of numbers) canvas (paint i))
-    by (Refused refusal) e = rw (is, e) (is, refl)
-    by Passed e =
+    by (Err refusal) e = rw (is, e) (is, refl)
+    by (Ok _) e =
         let place = painted_place numbers i canvas e in
         let few = painted_few numbers i canvas e in
         let long = sheet_length_lem numbers is in
@@ -64,8 +64,8 @@ remove_reads_back numbers i canvas background is = by (sheet_answer (sheet_of nu
     by : (a : Checked) → sheet_answer (sheet_of numbers) canvas (remove i background) ≡ a
         → (is_sheet (remove_numbers numbers i canvas background) ≡ true) ×
         (sheet_of (remove_numbers numbers i canvas background) ≡ sheet_after (sheet_of numbers) canvas (remove i background))
-    by (Refused refusal) e = rw (is, e) (is, refl)
-    by Passed e =
+    by (Err refusal) e = rw (is, e) (is, refl)
+    by (Ok _) e =
         let within = removed_within numbers i canvas background e in
         let few = removed_few numbers i canvas background e in
         let long = sheet_length_lem numbers is in
@@ -96,8 +96,8 @@ add_reads_back numbers figure style all = by (sheet_answer (sheet_of numbers) []
     by : (a : Checked) → sheet_answer (sheet_of numbers) [] (add_of figure style) ≡ a
         → (is_sheet (add_numbers numbers figure style) ≡ true) ×
         (sheet_of (add_numbers numbers figure style) ≡ sheet_after (sheet_of numbers) [] (add_of figure style))
-    by (Refused refusal) e = rw (is, is_figure_lem, is_style_lem, e) (is, refl)
-    by Passed e =
+    by (Err refusal) e = rw (is, is_figure_lem, is_style_lem, e) (is, refl)
+    by (Ok _) e =
         let place = added_place numbers figure style e in
         let long = sheet_length_lem numbers is in
         let records = records_of_few numbers (omega (arith, place)) in

@@ -2,8 +2,7 @@
 -- Assumes nothing.
 use Rattle.std.specs.Prelude.{◌≡◌, Bool, true, cond, ◌&&◌, List, [], ◌∷◌, ◌++◌, ℕ, zero, suc, ◌+◌, ℤ, pos, set, get_or}
 use Rattle.geometry.specs.Limits.{max_layers}
-use Rattle.refusal.specs.declared.Checked.{Checked}
-use Rattle.refusal.specs.Refusal.{answer_number, Outcome, unless, keeping}
+use Rattle.refusal.specs.Refusal.{answer_number, Outcome, unless, keeping, Checked}
 use Rattle.canvas_size.specs.CanvasSize.{canvas_size_check}
 use Rattle.book.specs.Book.{Call, add, paint, remove}
 use Rattle.drawing.specs.Drawing.{StyledFigure, styled_figure}

@@ -16,9 +16,6 @@ use host_sheet_record::{
     CANVAS_HEIGHT, CANVAS_WIDTH, COUNT, FIRST_PLACE, LAYER_LENGTH, SHEET_LENGTH, STYLE, is_sheet,
     put_layer, remove_place, sheet_of,
 };
-use refusal::Checked;
-use sheet::SheetAnswer;
-use sheet_calls::number_of;
 use sheet_layers::Layer;
 
 // The numbers of a sheet without layers, its width and height left 0: unused places, without paint.
@@ -26,12 +23,10 @@ fn unused_places() -> [i32; SHEET_LENGTH]
     ensures { result ≡ opened_numbers 0 0 }
 {
     let mut numbers = [0i32; SHEET_LENGTH];
-    let mut j: usize = 0;
-    while j < Layer::PLACES {
+    for j in 0..Layer::PLACES {
         let style = FIRST_PLACE + LAYER_LENGTH * j + STYLE;
         numbers[style] = ABSENT;
         numbers[style + 1] = ABSENT;
-        j += 1;
     }
     numbers
 }
@@ -44,10 +39,9 @@ pub fn open(width: u32, height: u32, sheet: &mut [i32]) -> u32
         width: width,
         height: height,
     };
-    let checked = size.check();
-    let Checked::Passed = checked else {
-        return checked.refusal().number();
-    };
+    if let Err(refusal) = size.check() {
+        return refusal.number();
+    }
     let mut numbers = unused_places();
     numbers[CANVAS_WIDTH] = held(width);
     numbers[CANVAS_HEIGHT] = held(height);
@@ -70,10 +64,9 @@ pub fn add(sheet: &mut [i32], figure: &[i32], style: &[i32]) -> u32
     }
     let before = sheet_of(sheet);
     let made = before.add(figure_of(figure), style_of(style));
-    let answer = made.answer;
-    let SheetAnswer::Accepted = answer else {
-        return number_of(answer);
-    };
+    if let Err(refusal) = made.answer {
+        return refusal.number();
+    }
     let after = made.sheet;
     let places = after.layers;
     let place = before.count as usize;
@@ -92,10 +85,9 @@ pub fn paint(sheet: &mut [i32], layer: u32, canvas: &mut [u8]) -> u32
     if !is_sheet(sheet) {
         return NO_RECORD;
     }
-    let checked = check_paint(sheet, layer, canvas.len());
-    let Checked::Passed = checked else {
-        return checked.refusal().number();
-    };
+    if let Err(refusal) = check_paint(sheet, layer, canvas.len()) {
+        return refusal.number();
+    }
     paint_next(sheet, layer, canvas);
     DONE
 }
@@ -113,10 +105,9 @@ pub fn remove(sheet: &mut [i32], layer: u32, canvas: &mut [u8], background: &[u8
     }
     let before = sheet_of(sheet);
     let made = before.remove(layer, canvas, background);
-    let answer = made.answer;
-    let SheetAnswer::Accepted = answer else {
-        return number_of(answer);
-    };
+    if let Err(refusal) = made.answer {
+        return refusal.number();
+    }
     let left = made.sheet;
     remove_place(sheet, layer as usize);
     sheet[COUNT] = signed::from_u32(left.count);

@@ -1,5 +1,7 @@
 -- The answers to a paint call on a sheet's numbers that keep the rules, by what is asked of the layers.
 -- Assumes nothing.
+use Rattle.std.specs.Prelude.{Some, None}
+use Rattle.std.specs.Prelude.{Ok, Err}
 use mathlib.Core.Path.{◌≡◌, refl, sym, ap, ap₂, ◌∙◌}
 use mathlib.Core.Bool.{Bool, true, false, cond, ◌&&◌, ◌||◌}
 use mathlib.Core.List.{List, map}
@@ -13,9 +15,7 @@ use lib.Signed.{le_z, lt_z}
 use Rattle.geometry.specs.Limits.{max_layers}
 use Rattle.signed.proofs.Laws.{int}
 use Rattle.refusal.specs.declared.Refusal.TheVariants.{RowOwed}
-use Rattle.refusal.specs.declared.Checked.{Checked}
-use Rattle.refusal.specs.declared.Checked.TheVariants.{Passed, Refused}
-use Rattle.refusal.specs.Refusal.{refuse_if}
+use Rattle.refusal.specs.Refusal.{refuse_if, Checked, passed}
 use Rattle.canvas_size.specs.CanvasSize.{canvas_length_check}
 use Rattle.sheet_layers.specs.declared.rows.LayerRows.{LayerRows}
 use Rattle.sheet_layers.specs.LayerRows.{rows_owe, some_rows_owe, rows_in_order}
@@ -29,7 +29,6 @@ use Rattle.host_sheet_record.specs.SheetRecord.{sheet_length, place_numbers, lay
 use Rattle.host_sheet_record.proofs.Parts.{sixteen}
 use Rattle.host_sheet_record.proofs.ReadBack.{layer_in_place}
 use Rattle.host_sheet_rules.specs.declared.Asked.{Asked}
-use Rattle.host_sheet_rules.specs.declared.PlacesTested.TheVariants as places_tested_cases
 use Rattle.host_sheet_rules.specs.RecordRules.{rows_at, rows_from, places_kept, asked_from, places_tested}
 use Rattle.host_sheet_paint.specs.RecordPaint.{next_of, asked_check}
 use Rattle.host_sheet_paint.proofs.Rules.{rules_kept, take_list_from, map_list_from, places_are}
@@ -77,22 +76,22 @@ module _ (n : List ℤ) (count layer : ℕ) (y : ℤ) where
   abbrev keeps : Bool
   keeps = places_kept n 0 count && rows_in_order (rows_from n 0 count)
 
-  pub tested_broken : places_tested_cases.Broken ≡ places_tested n count layer y → keeps ≡ false
+  pub tested_broken : None ≡ places_tested n count layer y → keeps ≡ false
   unfolding places_tested
   tested_broken e = by_test keeps e
     where
       by_test : (t : Bool)
-          → places_tested_cases.Broken ≡ cond t (places_tested_cases.Kept (asked_from n layer y 0 count)) places_tested_cases.Broken → t ≡ false
+          → None ≡ cond t (Some (asked_from n layer y 0 count)) None → t ≡ false
       by_test true e = let z : ◌≡◌ {A = ℕ} 0 1 = cc in absurd (omega arith)
       by_test false e = refl
 
-  pub tested_kept : (a : Asked) → places_tested_cases.Kept a ≡ places_tested n count layer y
+  pub tested_kept : (a : Asked) → Some a ≡ places_tested n count layer y
       → (keeps ≡ true) × (a ≡ asked_from n layer y 0 count)
   unfolding places_tested
   tested_kept a e = by_test keeps e
     where
       by_test : (t : Bool)
-          → places_tested_cases.Kept a ≡ cond t (places_tested_cases.Kept (asked_from n layer y 0 count)) places_tested_cases.Broken
+          → Some a ≡ cond t (Some (asked_from n layer y 0 count)) None
           → (t ≡ true) × (a ≡ asked_from n layer y 0 count)
       by_test true e = (refl, cc)
       by_test false e = let z : ◌≡◌ {A = ℕ} 0 1 = cc in absurd (omega arith)
@@ -128,7 +127,7 @@ module _ (n : List ℤ) (long : length n ≡ sheet_length) (count layer : ℕ) (
       row : layer < count → next_of n layer ≡ (rows_at n layer).next
       row within = rw (lt-ltb layer max_layers (omega arith))
 
-      by_owed : canvas_length_check W H (length canvas) ≡ Passed → (within : layer < count) → found.left ≡ true → (t : Bool)
+      by_owed : canvas_length_check W H (length canvas) ≡ passed → (within : layer < count) → found.left ≡ true → (t : Bool)
           → found.owed ≡ t
           → asked_check W H (length canvas) count layer found ≡ answered
       by_owed size within is_left_lem t e =
@@ -152,7 +151,7 @@ module _ (n : List ℤ) (long : length n ≡ sheet_length) (count layer : ℕ) (
           by_test false owed going here =
               sym (paint_free W H (sheet_of n).count (sheet_of n).layers (sixteen n) layer canvas rules size here going owed)
 
-      by_left : canvas_length_check W H (length canvas) ≡ Passed → (within : layer < count) → (t : Bool) → found.left ≡ t
+      by_left : canvas_length_check W H (length canvas) ≡ passed → (within : layer < count) → (t : Bool) → found.left ≡ t
           → asked_check W H (length canvas) count layer found ≡ answered
       by_left size within true e = by_owed size within e found.owed refl
       by_left size within false e =
@@ -164,7 +163,7 @@ module _ (n : List ℤ) (long : length n ≡ sheet_length) (count layer : ℕ) (
           (sym (paint_finished W H (sheet_of n).count (sheet_of n).layers (sixteen n) layer canvas rules size here
           (sym (ap (λ (r : LayerRows). le_z r.end r.next) (own within)) ∙ finished)))
 
-      by_count : canvas_length_check W H (length canvas) ≡ Passed → (t : Bool) → leb count layer ≡ t
+      by_count : canvas_length_check W H (length canvas) ≡ passed → (t : Bool) → leb count layer ≡ t
           → asked_check W H (length canvas) count layer found ≡ answered
       by_count size true e =
           rw (size, e)
@@ -174,6 +173,6 @@ module _ (n : List ℤ) (long : length n ≡ sheet_length) (count layer : ℕ) (
 
       by_length : (check : Checked) → canvas_length_check W H (length canvas) ≡ check
           → asked_check W H (length canvas) count layer found ≡ answered
-      by_length (Refused refusal) e =
+      by_length (Err refusal) e =
           rw e (sym (paint_length W H (sheet_of n).count (sheet_of n).layers (sixteen n) layer canvas rules refusal e))
-      by_length Passed e = by_count e (leb count layer) refl
+      by_length (Ok _) e = by_count e (leb count layer) refl

@@ -1,6 +1,7 @@
 -- The rules of a sheet's numbers by its places: where the size and the count are within limits, the rules are kept if each
 -- place holds a layer that keeps its own and the layers are in order.
 -- Assumes nothing.
+use Rattle.refusal.specs.Refusal.{passed}
 use mathlib.Core.Path.{◌≡◌, refl, sym, ap, ap₂, ◌∙◌}
 use mathlib.Core.Bool.{Bool, true, false, cond, ◌&&◌, true≢false}
 use mathlib.Core.List.{List, [], ◌∷◌, map}
@@ -11,7 +12,6 @@ use lib.ListN.{length, take}
 use lib.Signed.{le_z}
 use Rattle.signed.specs.Signed.{floor0}
 use Rattle.signed.proofs.Laws.{int}
-use Rattle.refusal.specs.declared.Checked.TheVariants.{Passed}
 use Rattle.geometry.specs.Limits.{max_layers}
 use Rattle.canvas_size.specs.CanvasSize.{canvas_size_check}
 use Rattle.canvas_size.proofs.Sides.{canvas_size_passed}
@@ -119,7 +119,7 @@ module _ (n : List ℤ) (long : length n ≡ sheet_length) where
           omega (arith, int, count_of_records n holds)
       by_records false lacking = omega (arith, count_of_none lacking)
 
-  module _ (size : canvas_size_check W H ≡ Passed) (few : within (pos 0) (pos max_layers) (number_at n count_at) ≡ true) where
+  module _ (size : canvas_size_check W H ≡ passed) (few : within (pos 0) (pos max_layers) (number_at n count_at) ≡ true) where
     pub count_few : count ≤ max_layers
     count_few =
         let parts = and_true_parts (le_z (pos 0) (number_at n count_at)) (le_z (number_at n count_at) (pos max_layers)) few in

@@ -3,8 +3,7 @@
 -- Assumes nothing.
 use Rattle.std.specs.Prelude.{not, cond, List, ℕ, leb, ltb, ℤ, pos}
 use Rattle.refusal.specs.declared.Refusal.TheVariants.{NoLayer, NoRowLeft, RowOwed}
-use Rattle.refusal.specs.declared.Checked.{Checked}
-use Rattle.refusal.specs.Refusal.{refuse_if, or_else}
+use Rattle.refusal.specs.Refusal.{refuse_if, or_else, Checked}
 use Rattle.geometry.specs.Limits.{max_layers}
 use Rattle.canvas_size.specs.CanvasSize.{canvas_length_check}
 use Rattle.host_sheet_rules.specs.declared.Asked.{Asked}

@@ -2,9 +2,9 @@
 // sheet is made and handed on.
 #![tactic(auto)]
 
+ghost use Rattle.refusal.specs.Refusal.{passed};
 ghost use Rattle.std.specs.Prelude.{◌≡◌, List, ℕ, length};
 ghost use Rattle.signed.specs.Signed.{Is};
-ghost use Rattle.refusal.specs.declared.Checked.TheVariants.{Passed as checked_passed};
 ghost use Rattle.book.specs.Book.{paint as call_paint};
 ghost use Rattle.sheet.specs.Sheet.{sheet_answer, canvas_after};
 ghost use Rattle.host_sheet_record.specs.SheetRecord.{sheet_length, sheet_of, row_painted};
@@ -14,7 +14,7 @@ use canvas_size::CanvasSize;
 use drawing::paint_row_on;
 use host_records::is_within;
 use host_sheet_record::{COUNT, FIRST_PLACE, LAYER_LENGTH, NEXT_ROW, layer_at, size_of};
-use host_sheet_rules::{Asked, PlacesTested, test_places};
+use host_sheet_rules::{Asked, test_places};
 use refusal::{Checked, Refusal};
 use sheet::Sheet;
 
@@ -33,23 +33,21 @@ fn next_of(numbers: &[i32], layer: u32) -> i32
 }
 
 // Refusals 8, 10, 11 and 12, where the rules are kept.
+#[tactic(auto, unfolding(crate::specs::RecordPaint::asked_check))]
 fn check_asked(size: CanvasSize, bytes: usize, count: u32, layer: u32, asked: Asked) -> Checked
     ensures { result ≡ asked_check size.width size.height bytes count layer asked }
 {
-    let sized = size.check_length(bytes);
-    let Checked::Passed = sized else {
-        return sized;
-    };
+    size.check_length(bytes)?;
     if count <= layer {
-        return Checked::Refused(Refusal::NoLayer);
+        return Err(Refusal::NoLayer);
     }
     if !asked.left {
-        return Checked::Refused(Refusal::NoRowLeft);
+        return Err(Refusal::NoRowLeft);
     }
     if asked.owed {
-        return Checked::Refused(Refusal::RowOwed);
+        return Err(Refusal::RowOwed);
     }
-    Checked::Passed
+    Ok(())
 }
 
 // Refusals 7, 8, 10, 11 and 12 of painting on a canvas that is so many bytes long.
@@ -59,17 +57,15 @@ pub fn check_paint(numbers: &[i32], layer: u32, bytes: usize) -> Checked
         ≡ sheet_answer (sheet_of numbers.now) canvas (call_paint layer) }
 {
     let size = size_of(numbers);
-    let Checked::Passed = size.check() else {
-        return Checked::Refused(Refusal::SheetRule);
+    let Ok(()) = size.check() else {
+        return Err(Refusal::SheetRule);
     };
     if !is_within(0, MAX_COUNT, numbers[COUNT]) {
-        return Checked::Refused(Refusal::SheetRule);
+        return Err(Refusal::SheetRule);
     }
     let count = signed::floor0(numbers[COUNT]);
     let y = next_of(numbers, layer);
-    let PlacesTested::Kept(asked) = test_places(numbers, count as usize, layer as usize, y) else {
-        return Checked::Refused(Refusal::SheetRule);
-    };
+    let asked = test_places(numbers, count as usize, layer as usize, y).ok_or(Refusal::SheetRule)?;
     check_asked(size, bytes, count, layer, asked)
 }
 
@@ -77,7 +73,7 @@ pub fn check_paint(numbers: &[i32], layer: u32, bytes: usize) -> Checked
 // what `drawing::paint_row` does, and is quicker than a call of it, which hands the figure over once more.
 pub fn paint_next(numbers: &mut [i32], layer: u32, canvas: &mut [u8])
     requires numbers_len { length numbers.old ≡ sheet_length }
-    requires layer_value { sheet_answer (sheet_of numbers.old) canvas.old (call_paint layer) ≡ checked_passed }
+    requires layer_value { sheet_answer (sheet_of numbers.old) canvas.old (call_paint layer) ≡ passed }
     ensures numbers_after { numbers.new ≡ row_painted numbers.old layer }
     ensures canvas_after { canvas.new ≡ canvas_after (sheet_of numbers.old) canvas.old (call_paint layer) }
 {

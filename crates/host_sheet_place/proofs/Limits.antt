@@ -1,6 +1,7 @@
 -- The numbers of a place within limits: by the tests of the numbers, and by `is_layer` and the check of the figure and the style
 -- that they are. The two are equal.
 -- Assumes nothing.
+use Rattle.refusal.specs.Refusal.{passed}
 use mathlib.Core.Path.{◌≡◌, refl, sym, ap, subst, ◌∙◌}
 use mathlib.Core.Bool.{Bool, true, false, ◌&&◌, ◌||◌}
 use mathlib.Core.List.{List, [], ◌∷◌}
@@ -14,7 +15,6 @@ use mir.Syntax.{w32}
 use mir.Val.{hbits}
 use Rattle.signed.specs.Signed.{floor0, max_i32, Near}
 use Rattle.signed.proofs.Laws.{int, magnitude_law}
-use Rattle.refusal.specs.declared.Checked.TheVariants.{Passed}
 use Rattle.refusal.proofs.Checks.{passed_first, passed_next}
 use Rattle.geometry.specs.Limits.{max_side, max_radius, max_position, max_stroke_width}
 use Rattle.geometry.specs.Checks.{size_check, position_check}
@@ -214,7 +214,7 @@ module _ (f : ℕ → ℤ) where
       )
 
   -- ---- and their figure and style pass their checks
-  size_passes : PlaceLimits f → size_check (size_of (f width_at) (f height_at)) ≡ Passed
+  size_passes : PlaceLimits f → size_check (size_of (f width_at) (f height_at)) ≡ passed
   unfolding size_check
   size_passes l =
       let width = l.width in
@@ -223,7 +223,7 @@ module _ (f : ℕ → ℤ) where
       let high : floor0 (f height_at) ≤ max_side = omega (arith, int) in
       rw (le-ltb max_side (floor0 (f width_at)) wide, le-ltb max_side (floor0 (f height_at)) high)
 
-  position_passes : PlaceLimits f → position_check (record { x = f x_at; y = f y_at }) ≡ Passed
+  position_passes : PlaceLimits f → position_check (record { x = f x_at; y = f y_at }) ≡ passed
   unfolding position_check
   position_passes l =
       let at_x = l.x in
@@ -238,7 +238,7 @@ module _ (f : ℕ → ℤ) where
       let small : le_z (f k) (pos max_radius) ≡ true = sym (ap (λ (t : Bool). t || le_z (f k) (pos max_radius)) box) ∙ parts.1 in
       omega (arith, int)
 
-  radii_pass : PlaceLimits f → any ≡ false → radii_check (corners_of (take figure_length numbers)) ≡ Passed
+  radii_pass : PlaceLimits f → any ≡ false → radii_check (corners_of (take figure_length numbers)) ≡ passed
   unfolding radii_check radius_check list_from
   radii_pass l box =
       rw (
@@ -252,19 +252,19 @@ module _ (f : ℕ → ℤ) where
         le-ltb max_radius (floor0 (f (radii_at + 7))) (radius_small l box (radii_at + 7) (omega arith) (omega arith)),
       )
 
-  style_passes : PlaceLimits f → style_check (layer_of numbers).style ≡ Passed
+  style_passes : PlaceLimits f → style_check (layer_of numbers).style ≡ passed
   unfolding style_check style_of list_from
   style_passes l =
       let width = l.stroke_width in
       let thin : floor0 (f (style_at + stroke_width_at)) ≤ max_stroke_width = omega (arith, int) in
       rw (le-ltb max_stroke_width (floor0 (f (style_at + stroke_width_at))) thin)
 
-  checks_of_limits : PlaceLimits f → styled_check (layer_of numbers).figure (layer_of numbers).style ≡ Passed
+  checks_of_limits : PlaceLimits f → styled_check (layer_of numbers).figure (layer_of numbers).style ≡ passed
   unfolding styled_check figure_of list_from
   checks_of_limits l = by_kind any refl (lt_z (f kind_at) w3c_box_kind) refl
     where
       by_kind : (t : Bool) → any ≡ t → (s : Bool) → lt_z (f kind_at) w3c_box_kind ≡ s
-          → styled_check (layer_of numbers).figure (layer_of numbers).style ≡ Passed
+          → styled_check (layer_of numbers).figure (layer_of numbers).style ≡ passed
       by_kind true e s d = rw (e, size_passes l, position_passes l) (style_passes l)
       by_kind false e true d = rw (e, d, size_passes l, radii_pass l e, position_passes l) (style_passes l)
       by_kind false e false d = rw (e, d, size_passes l, radii_pass l e, position_passes l) (style_passes l)
@@ -338,10 +338,10 @@ module _ (f : ℕ → ℤ) where
       let same : radii_at + (k - radii_at) ≡ k = omega arith in
       subst (λ (j : ℕ). floor0 (f j) ≤ max_radius) same (corner_radius (k - radii_at) (omega arith) r)
 
-  limits_of_layer : is_layer numbers ≡ true → styled_check (layer_of numbers).figure (layer_of numbers).style ≡ Passed
+  limits_of_layer : is_layer numbers ≡ true → styled_check (layer_of numbers).figure (layer_of numbers).style ≡ passed
       → PlaceLimits f
   unfolding styled_check
-  limits_of_layer layer passed =
+  limits_of_layer layer within_limits =
       let both = and_true_parts (within ellipse_kind w3c_box_kind (f kind_at) && signs width_at (figure_length - width_at))
       (stroke_within && (fill_within && (le_z (pos 0) (f (style_at + stroke_width_at)) && alignment_within)))
       (sym is_layer_by ∙ layer) in
@@ -351,7 +351,7 @@ module _ (f : ℕ → ℤ) where
       let c = and_true_parts (le_z (pos 0) (f (style_at + stroke_width_at))) alignment_within b.1 in
       let fig = figure_check (layer_of numbers).figure in
       let sty = style_check (layer_of numbers).style in
-      let checked = figure_checked (layer_of numbers).figure (passed_first fig sty passed) in
+      let checked = figure_checked (layer_of numbers).figure (passed_first fig sty within_limits) in
       let place = sym (ap (λ (r : Rectangle). position_check r.top_left) figure_rectangle) ∙ checked.place in
       let size = sym (ap (λ (r : Rectangle). size_check r.size) figure_rectangle) ∙ checked.sides in
       let sign : (k : ℕ) → width_at ≤ k → k < figure_length → le_z (pos 0) (f k) ≡ true = λ k from to. sign_of
@@ -366,7 +366,7 @@ module _ (f : ℕ → ℤ) where
         radii = λ k from to. radius_kept_lem k from to (sign k (omega arith) to) (λ box. sym (figure_corners box) ∙ checked.corners);
         stroke = between absent_paint max_colour (f (style_at + stroke_at)) a.0;
         fill = between absent_paint max_colour (f (style_at + fill_at)) b.0;
-        stroke_width = (c.0, thin_stroke (style_passed (layer_of numbers).style (passed_next fig sty passed)));
+        stroke_width = (c.0, thin_stroke (style_passed (layer_of numbers).style (passed_next fig sty within_limits)));
         alignment = between inside_alignment outside_alignment (f (style_at + alignment_at)) c.1;
       }
     where
@@ -377,7 +377,7 @@ module _ (f : ℕ → ℤ) where
       below_limit n v small = omega (arith, int)
 
       radius_kept_lem : (k : ℕ) → radii_at ≤ k → k < figure_length → le_z (pos 0) (f k) ≡ true
-          → (any ≡ false → radii_check (corners_of (take figure_length numbers)) ≡ Passed) → radius_kept any (f k) ≡ true
+          → (any ≡ false → radii_check (corners_of (take figure_length numbers)) ≡ passed) → radius_kept any (f k) ≡ true
       radius_kept_lem k from to sign checked = by_kind any refl
         where
           by_kind : (t : Bool) → any ≡ t → radius_kept any (f k) ≡ true

@@ -2,14 +2,13 @@
 // and that layer's rows. The tests are made on the numbers themselves, and no layer is made of them.
 #![tactic(auto)]
 
-ghost use Rattle.std.specs.Prelude.{◌≡◌, true, cond, ◌&&◌, ◌+◌, ◌*◌, ◌≤◌, leb, ltb, pos, ◌-ℤ◌, length};
+ghost use Rattle.std.specs.Prelude.{◌≡◌, true, cond, ◌&&◌, ◌+◌, ◌*◌, ◌≤◌, leb, ltb, pos, ◌-ℤ◌, length, Some, None};
 ghost use Rattle.signed.specs.Signed.{Near, Is, floor0 as signed_floor0};
 ghost use Rattle.corner.specs.Bounds.{wide_stroke_side};
 ghost use Rattle.figure.specs.Bounds.{wide_offset, wide_own_side, wide_position, wide_area_position};
 ghost use Rattle.style.specs.Style.{outside_width};
 ghost use Rattle.host_records.specs.RecordNumbers.{alignment_of};
 ghost use Rattle.sheet_layers.proofs.RowTests.{RowsFit};
-ghost use Rattle.sheet_layers.specs.declared.RowsFound.TheVariants as rows-found;
 ghost use Rattle.sheet_layers.specs.Layers.{layer_rows};
 ghost use Rattle.host_sheet_record.specs.SheetRecord.{layer_length, layer_of};
 ghost use Rattle.host_sheet_place.specs.PlaceRules.{highest_radius, radii_kept, rectangle_kept, figure_kept, style_kept, rows_above, stroke_count, first_row_of, place_kept};
@@ -23,7 +22,6 @@ use host_records::{
     RADII, W3C_BOX, WIDTH, X, Y, is_within,
 };
 use host_sheet_record::{NEXT_ROW, STYLE};
-use sheet_layers::RowsFound;
 use sheet_layers::rows::LayerRows;
 use style::Style;
 
@@ -63,10 +61,8 @@ fn radii_kept(numbers: &[i32], any: bool) -> bool
 {
     let limit = highest_radius(any);
     let mut kept = true;
-    let mut k: usize = RADII;
-    while k < FIGURE_LENGTH {
+    for k in RADII..FIGURE_LENGTH {
         kept = kept & is_within(0, limit, numbers[k]);
-        k += 1;
     }
     kept
 }
@@ -211,23 +207,23 @@ fn rows_within(numbers: &[i32]) -> LayerRows
 }
 
 // The rows of the layer in a place, if the numbers are a layer's that keeps its own rules.
-pub fn place_rows(numbers: &[i32]) -> RowsFound
+pub fn place_rows(numbers: &[i32]) -> Option<LayerRows>
     requires { length numbers.now ≡ layer_length }
     ensures { result ≡ cond (place_kept numbers.now)
-        (rows-found.Kept (layer_rows (layer_of numbers.now))) rows-found.Broken }
+        (Some (layer_rows (layer_of numbers.now))) None }
 {
     if !figure_kept(numbers) {
-        return RowsFound::Broken;
+        return None;
     }
     if !style_kept(numbers) {
-        return RowsFound::Broken;
+        return None;
     }
     let rows = rows_within(numbers);
     if rows.next < rows.first {
-        return RowsFound::Broken;
+        return None;
     }
     if rows.end < rows.next {
-        return RowsFound::Broken;
+        return None;
     }
-    RowsFound::Kept(rows)
+    Some(rows)
 }

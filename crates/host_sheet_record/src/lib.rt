@@ -68,14 +68,12 @@ fn holds_records(numbers: &[i32]) -> bool
         return false;
     }
     let used = signed::least(signed::floor0(numbers[COUNT]), Sheet::MAX_LAYERS) as usize;
-    let mut j: usize = 0;
-    while j < used {
+    for j in 0..used {
         let at = FIRST_PLACE + LAYER_LENGTH * j;
         let end = at + LAYER_LENGTH;
         if !is_layer(&numbers[at..end]) {
             return false;
         }
-        j += 1;
     }
     true
 }
@@ -131,10 +129,8 @@ fn places_of(numbers: &[i32]) -> [Layer; Layer::PLACES]
 {
     let blank = Layer::blank();
     let mut places = [blank; Layer::PLACES];
-    let mut j: usize = 0;
-    while j < Layer::PLACES {
+    for j in 0..Layer::PLACES {
         places[j] = layer_at(numbers, j);
-        j += 1;
     }
     places
 }
@@ -180,10 +176,8 @@ fn move_down(numbers: &mut [i32], place: usize)
     requires { (length numbers.old ≡ sheet_length) × (place < max_layers) }
     ensures { numbers.new ≡ moved_down numbers.old place }
 {
-    let mut k = FIRST_PLACE + LAYER_LENGTH * place;
-    while k < LAST_PLACE {
+    for k in FIRST_PLACE + LAYER_LENGTH * place..LAST_PLACE {
         numbers[k] = numbers[k + LAYER_LENGTH];
-        k += 1;
     }
 }
 

@@ -1,5 +1,6 @@
 -- The walk over the places from the last to the first: what is known of the places behind, one place more, and the end.
 -- Assumes nothing.
+use Rattle.std.specs.Prelude.{Some, None}
 use mathlib.Core.Path.{◌≡◌, refl, sym, ap, subst, ◌∙◌}
 use mathlib.Core.Bool.{true, false, cond, false≢true}
 use mathlib.Core.List.{List, ◌∷◌}
@@ -10,7 +11,6 @@ use Rattle.sheet_layers.specs.declared.rows.LayerRows.{LayerRows}
 use Rattle.sheet_layers.specs.LayerRows.{no_rows_overtake, rows_in_order}
 use Rattle.sheet_layers.proofs.RowTests.{and-false}
 use Rattle.book.proofs.Tests.{and_true_parts, and_true_of, false_unless}
-use Rattle.sheet_layers.specs.declared.RowsFound.TheVariants as rows_found_cases
 use Rattle.host_records.specs.RecordNumbers.{list_from, all_from}
 use Rattle.sheet_layers.proofs.LayerRules.{found_broken}
 use Rattle.host_records.proofs.Walks.{list_from_here, all_from_here}
@@ -19,7 +19,6 @@ use Rattle.host_sheet_place.specs.PlaceRules.{place_kept}
 use Rattle.host_sheet_record.proofs.ReadBack.{each_of_all}
 use Rattle.host_sheet_rules.specs.declared.PaintedRows.{PaintedRows}
 use Rattle.host_sheet_rules.specs.declared.Asked.{Asked}
-use Rattle.host_sheet_rules.specs.declared.PlacesTested.TheVariants as places_tested_cases
 use Rattle.host_sheet_rules.specs.RecordRules.{rows_at, rows_from, places_kept, also_painted, KeepTo, asked_of, asked_from, places_tested}
 use Rattle.host_sheet_rules.proofs.Painted.{keep_more}
 
@@ -67,19 +66,19 @@ module _ (n : List ℤ) (count layer : ℕ) (y : ℤ) where
 
   -- all places are walked over
   pub walked_all : (painted : PaintedRows) (asked : Asked) → WalkedTo painted asked 0
-      → places_tested_cases.Kept asked ≡ places_tested n count layer y
+      → Some asked ≡ places_tested n count layer y
   unfolding places_tested
   walked_all painted asked w =
       let all : left 0 ≡ count = omega arith in
       let kept = subst (λ (m : ℕ). places_kept n 0 m ≡ true) all w.kept in
       let order = subst (λ (m : ℕ). rows_in_order (rows_from n 0 m) ≡ true) all w.order in
-      rw (kept, order) (ap places_tested_cases.Kept (w.asked_is ∙ ap (asked_from n layer y 0) all))
+      rw (kept, order) (ap Some (w.asked_is ∙ ap (asked_from n layer y 0) all))
 
   module _ (i next : ℕ) (step : i + 1 ≡ next) (here : i < count) where
     -- a place that breaks a rule of its own
     pub broken_here : (r : LayerRows)
-        → rows_found_cases.Broken ≡ cond (place_kept (place_numbers n i)) (rows_found_cases.Kept r) rows_found_cases.Broken
-        → places_tested_cases.Broken ≡ places_tested n count layer y
+        → None ≡ cond (place_kept (place_numbers n i)) (Some r) None
+        → None ≡ places_tested n count layer y
     unfolding places_tested
     broken_here r found =
         let broken = found_broken (place_kept (place_numbers n i)) r found in
@@ -94,7 +93,7 @@ module _ (n : List ℤ) (count layer : ℕ) (y : ℤ) where
 
     -- one that is overtaken
     pub overtaken_here : no_rows_overtake (rows_at n i) (rows_from n next (left next)) ≡ false
-        → places_tested_cases.Broken ≡ places_tested n count layer y
+        → None ≡ places_tested n count layer y
     unfolding places_tested rows_in_order
     overtaken_here overtaken =
         let none : rows_in_order (rows_from n 0 count) ≡ false = false_unless (rows_in_order (rows_from n 0 count))

@@ -1,7 +1,7 @@
 -- The rules of the layers of a sheet's numbers, place by place, and what a paint call asks of them: by the places and their
 -- rows. The laws of `host_sheet_paint` (proofs/{Rules,Answers}.antt) equate them with the rules and the answers of a sheet.
 -- Assumes nothing.
-use Rattle.std.specs.Prelude.{◌≡◌, Bool, true, false, cond, ◌&&◌, ◌||◌, List, [], ◌∷◌, ℕ, zero, suc, eqb, ltb, ℤ, pos, negsuc}
+use Rattle.std.specs.Prelude.{◌≡◌, Bool, true, false, cond, ◌&&◌, ◌||◌, List, [], ◌∷◌, ℕ, zero, suc, eqb, ltb, ℤ, pos, negsuc, Some, None, Option}
 use Rattle.std.specs.Int.Signed.{le_z, lt_z}
 use Rattle.signed.specs.Signed.{larger, smaller, max_i32}
 use Rattle.sheet_layers.specs.declared.rows.LayerRows.{LayerRows}
@@ -12,8 +12,6 @@ use Rattle.host_sheet_record.specs.SheetRecord.{place_numbers, layer_of}
 use Rattle.host_sheet_place.specs.PlaceRules.{place_kept}
 use Rattle.host_sheet_rules.specs.declared.PaintedRows.{PaintedRows}
 use Rattle.host_sheet_rules.specs.declared.Asked.{Asked}
-use Rattle.host_sheet_rules.specs.declared.PlacesTested.{PlacesTested}
-use Rattle.host_sheet_rules.specs.declared.PlacesTested.TheVariants.{Broken, Kept}
 
 -- the rows of the layer in place j
 abbrev pub rows_at : List ℤ → ℕ → LayerRows
@@ -60,7 +58,7 @@ asked_from numbers layer y j zero = record { left = false; owed = false }
 asked_from numbers layer y j (suc n) = asked_of (asked_from numbers layer y (suc j) n) (rows_at numbers j) j layer y
 
 -- ---- All of it, of the layers in the first places.
-unfoldable pub places_tested : List ℤ → ℕ → ℕ → ℤ → PlacesTested
+unfoldable pub places_tested : List ℤ → ℕ → ℕ → ℤ → Option Asked
 places_tested numbers count layer y =
     cond (places_kept numbers 0 count && rows_in_order (rows_from numbers 0 count))
-    (Kept (asked_from numbers layer y 0 count)) Broken
+    (Some (asked_from numbers layer y 0 count)) None

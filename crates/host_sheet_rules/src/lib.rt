@@ -11,7 +11,6 @@ ghost use Rattle.host_sheet_rules.specs.RecordRules.{rows_at, rows_from, places_
 
 use host_sheet_place::{first_row, place_rows};
 use host_sheet_record::{FIRST_PLACE, LAYER_LENGTH, NEXT_ROW};
-use sheet_layers::RowsFound;
 use sheet_layers::rows::LayerRows;
 
 // The rows that some layers have painted: they lie from the first up to the end.
@@ -75,12 +74,6 @@ impl Asked {
     }
 }
 
-#[derive(Clone, Copy)]
-pub enum PlacesTested {
-    Broken,
-    Kept(Asked),
-}
-
 // The first and the next row of the layer in place j, which keeps its own rules; its end is left out.
 fn painted_at(numbers: &[i32], j: usize) -> LayerRows
     requires numbers_len { (length numbers.now ≡ sheet_length) × (j < max_layers) }
@@ -103,13 +96,10 @@ fn none_overtakes(numbers: &[i32], earlier: LayerRows, from: usize, count: usize
     requires from_value { places_kept numbers.now from (count - from) ≡ true }
     ensures { result ≡ no_rows_overtake earlier (rows_from numbers.now from (count - from)) }
 {
-    let mut j = from;
-    while j < count {
-        let later = painted_at(numbers, j);
-        if earlier.is_overtaken(later) {
+    for j in from..count {
+        if earlier.is_overtaken(painted_at(numbers, j)) {
             return false;
         }
-        j += 1;
     }
     true
 }
@@ -143,7 +133,7 @@ fn in_order(
 
 // Tests the rules of the layers in the first places, one by one and two by two, and finds what a paint
 // call of the row y of a layer asks of them.
-pub fn test_places(numbers: &[i32], count: usize, layer: usize, y: i32) -> PlacesTested
+pub fn test_places(numbers: &[i32], count: usize, layer: usize, y: i32) -> Option<Asked>
     requires numbers_len { length numbers.now ≡ sheet_length }
     requires count_le_max_layers { count ≤ max_layers }
     ensures { result ≡ places_tested numbers.now count layer y }
@@ -153,20 +143,15 @@ pub fn test_places(numbers: &[i32], count: usize, layer: usize, y: i32) -> Place
         left: false,
         owed: false,
     };
-    let mut i = count;
-    while 0 < i {
-        let place = i - 1;
+    for place in (0..count).rev() {
         let at = FIRST_PLACE + LAYER_LENGTH * place;
         let end = at + LAYER_LENGTH;
-        let RowsFound::Kept(rows) = place_rows(&numbers[at..end]) else {
-            return PlacesTested::Broken;
-        };
-        if !in_order(numbers, rows, painted, i, count) {
-            return PlacesTested::Broken;
+        let rows = place_rows(&numbers[at..end])?;
+        if !in_order(numbers, rows, painted, place + 1, count) {
+            return None;
         }
         painted = painted.and(rows);
         asked = asked.and(rows, place, layer, y);
-        i = place;
     }
-    PlacesTested::Kept(asked)
+    Some(asked)
 }

@@ -8,10 +8,9 @@ ghost use Rattle.host_styled.specs.Styled.{styled_row_said, styled_bounding_box_
 use host_answers::{NO_RECORD, NOTHING};
 use host_records::{figure_of, is_figure, is_style, style_of};
 use host_values::{put_rectangle, put_styled_row};
-use rectangle::RectangleAnswer;
-use styled::StyledRowAnswer;
 
 // A styled row's y and its three runs. Refused by 1, 2, 3, 4, 5 and 13.
+#[tactic(auto, using(host_records::proofs::Records::figure_length_lem, host_records::proofs::Records::style_length_lem, host_answers::proofs::Telling::tells_as))]
 pub fn styled_row(figure: &[i32], style: &[i32], y: i32, out: &mut [i32]) -> u32
     ensures { Tells (styled_row_said figure.now style.now y) out.old result out.new }
 {
@@ -22,13 +21,14 @@ pub fn styled_row(figure: &[i32], style: &[i32], y: i32, out: &mut [i32]) -> u32
         return NO_RECORD;
     }
     match styled::styled_row(figure_of(figure), style_of(style), y) {
-        StyledRowAnswer::Refused(refusal) => refusal.number(),
-        StyledRowAnswer::NoRow => NOTHING,
-        StyledRowAnswer::Row(row) => put_styled_row(row, out),
+        Err(refusal) => refusal.number(),
+        Ok(None) => NOTHING,
+        Ok(Some(row)) => put_styled_row(row, out),
     }
 }
 
 // The rectangle that a styled figure keeps to. Refused by 1, 2, 3, 5 and 13.
+#[tactic(auto, using(host_records::proofs::Records::figure_length_lem, host_records::proofs::Records::style_length_lem, host_answers::proofs::Telling::tells_as))]
 pub fn styled_bounding_box(figure: &[i32], style: &[i32], out: &mut [i32]) -> u32
     ensures { Tells (styled_bounding_box_said figure.now style.now) out.old result out.new }
 {
@@ -39,7 +39,7 @@ pub fn styled_bounding_box(figure: &[i32], style: &[i32], out: &mut [i32]) -> u3
         return NO_RECORD;
     }
     match styled::styled_bounding_box(figure_of(figure), style_of(style)) {
-        RectangleAnswer::Refused(refusal) => refusal.number(),
-        RectangleAnswer::Answered(rectangle) => put_rectangle(rectangle, out),
+        Err(refusal) => refusal.number(),
+        Ok(rectangle) => put_rectangle(rectangle, out),
     }
 }

@@ -1,5 +1,6 @@
 -- How long a file is; what a passed check says of the file buffer; and what is left in it.
 -- Assumes nothing.
+use Rattle.std.specs.Prelude.{Ok, Err}
 use mathlib.Core.Path.{◌≡◌, refl, ap, ◌∙◌}
 use mathlib.Core.List.{List, [], ◌∷◌, ◌++◌}
 use Prim.Native.Nat.{ℕ, ◌+◌, ◌*◌, ◌≤◌}
@@ -7,9 +8,7 @@ use native.Mathlib.Omega.{arith}
 use lib.IntN.{pos, nat_abs}
 use lib.ListN.{length, drop, length-append}
 use Rattle.refusal.specs.declared.Refusal.TheVariants.{BufferLength}
-use Rattle.refusal.specs.declared.Checked.{Checked}
-use Rattle.refusal.specs.declared.Checked.TheVariants.{Passed, Refused}
-use Rattle.refusal.specs.Refusal.{or_else, Outcome, refused, answered, unless}
+use Rattle.refusal.specs.Refusal.{or_else, Outcome, refused, answered, unless, Checked, passed}
 use Rattle.refusal.proofs.Checks.{passed_first, passed_next, passed_above}
 use Rattle.canvas_size.specs.CanvasSize.{canvas_size_check, canvas_length_check}
 use Rattle.canvas_size.proofs.Sides.{canvas_length_passed}
@@ -38,13 +37,13 @@ value_of (refused n) = 0
 value_of (answered []) = 0
 value_of (answered (v ∷ rest)) = nat_abs v
 
-pub accepted : (check : Checked) (m n : ℕ) → unless check (pos m ∷ []) ≡ answered (pos n ∷ []) → (check ≡ Passed) × (m ≡ n)
+pub accepted : (check : Checked) (m n : ℕ) → unless check (pos m ∷ []) ≡ answered (pos n ∷ []) → (check ≡ passed) × (m ≡ n)
 unfolding value_of
-accepted Passed m n e = (refl, ap value_of e)
-accepted (Refused refusal) m n e = let z : ◌≡◌ {A = ℕ} 0 1 = cc in absurd (omega arith)
+accepted (Ok _) m n e = (refl, ap value_of e)
+accepted (Err refusal) m n e = let z : ◌≡◌ {A = ℕ} 0 1 = cc in absurd (omega arith)
 
 -- a canvas that may be written has W × H bytes
-pub write_passed_length : (format : Format) (W H : ℕ) (canvas file : List ℕ) → write_check format W H canvas file ≡ Passed
+pub write_passed_length : (format : Format) (W H : ℕ) (canvas file : List ℕ) → write_check format W H canvas file ≡ passed
     → length canvas ≡ W * H
 unfolding write_check
 write_passed_length format W H canvas file e =
@@ -52,7 +51,7 @@ write_passed_length format W H canvas file e =
     (passed_next (canvas_size_check W H) _ (passed_first (or_else (canvas_size_check W H) (canvas_length_check W H (length canvas))) _ e))
 
 -- a file that may be written fits its buffer
-pub write_passed_room : (format : Format) (W H : ℕ) (canvas file : List ℕ) → write_check format W H canvas file ≡ Passed
+pub write_passed_room : (format : Format) (W H : ℕ) (canvas file : List ℕ) → write_check format W H canvas file ≡ passed
     → length (picture format W H canvas) ≤ length file
 unfolding write_check
 write_passed_room format W H canvas file e =
@@ -60,7 +59,7 @@ write_passed_room format W H canvas file e =
     (passed_next (or_else (canvas_size_check W H) (canvas_length_check W H (length canvas))) _ e)
 
 -- it then stands first, and the bytes past it stay
-pub file_after_passed : (format : Format) (W H : ℕ) (canvas file : List ℕ) → write_check format W H canvas file ≡ Passed
+pub file_after_passed : (format : Format) (W H : ℕ) (canvas file : List ℕ) → write_check format W H canvas file ≡ passed
     → file_after format W H canvas file ≡ picture format W H canvas ++ drop (length (picture format W H canvas)) file
 file_after_passed format W H canvas file e =
     rw e (sets_start file (picture format W H canvas) (write_passed_room format W H canvas file e))

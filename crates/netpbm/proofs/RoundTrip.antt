@@ -8,8 +8,7 @@ use native.Mathlib.Omega.{arith}
 use borrow.Author.Tests.{le-ltb, eq-eqb}
 use lib.ListN.{length, take, drop, length-append}
 use lib.Seq.{take_at, take-append-add}
-use Rattle.refusal.specs.declared.Checked.TheVariants.{Passed}
-use Rattle.refusal.specs.Refusal.{or_else}
+use Rattle.refusal.specs.Refusal.{or_else, passed}
 use Rattle.refusal.proofs.Checks.{passed_first}
 use Rattle.canvas_size.specs.CanvasSize.{canvas_size_check, canvas_length_check}
 use Rattle.netpbm_header.specs.declared.Format.{Format}
@@ -31,11 +30,11 @@ raster_holds P4 W H canvas behind long = rows_unpack W H canvas behind (long ∙
 raster_holds P5 W H canvas behind long = take_at canvas behind (W * H) long
 
 -- a length that is right passes
-length_passes : (W H n : ℕ) → n ≡ W * H → canvas_length_check W H n ≡ Passed
+length_passes : (W H n : ℕ) → n ≡ W * H → canvas_length_check W H n ≡ passed
 unfolding canvas_length_check
 length_passes W H n e = rw (eq-eqb n (W * H) e)
 
-module _ (format : Format) (W H : ℕ) (canvas behind : List ℕ) (sides : canvas_size_check W H ≡ Passed) (long : length canvas ≡ W * H) where
+module _ (format : Format) (W H : ℕ) (canvas behind : List ℕ) (sides : canvas_size_check W H ≡ passed) (long : length canvas ≡ W * H) where
   seen : file_header (picture format W H canvas ++ behind) ≡ headed format W H (raster format W H canvas ++ behind)
   seen =
       ap file_header (append_assoc (header format W H) (raster format W H canvas) behind)
@@ -46,7 +45,7 @@ module _ (format : Format) (W H : ℕ) (canvas behind : List ℕ) (sides : canva
       let known = length_raster format W H canvas ∙ ap (λ (n : ℕ). raster_length format W H n) long in
       rw length-append (omega arith)
 
-  passes : (n : ℕ) → n ≡ W * H → read_check (headed format W H (raster format W H canvas ++ behind)) n Passed ≡ Passed
+  passes : (n : ℕ) → n ≡ W * H → read_check (headed format W H (raster format W H canvas ++ behind)) n passed ≡ passed
   passes n e = rw (
     sides,
     length_passes W H n e,

@@ -1,12 +1,10 @@
 -- Document 01, end of 'Sheet', and document 02, 'One': the bytes of a canvas that is written as Netpbm P5 or P4, and what the calls that
 -- write one promise.
 -- Assumes nothing.
-use Rattle.std.specs.Prelude.{List, [], ◌∷◌, ◌++◌, ℕ, pos, length}
+use Rattle.refusal.specs.declared.Refusal.{Refusal}
+use Rattle.std.specs.Prelude.{List, [], ◌∷◌, ◌++◌, ℕ, pos, length, Result}
 use Rattle.std.proofs.lemmas.List.Edits.{sets}
-use Rattle.refusal.specs.declared.Checked.{Checked}
-use Rattle.refusal.specs.Refusal.{number, or_else, Outcome, refused, answered, unless, keeping, room_check}
-use Rattle.netpbm.specs.declared.WriteAnswer.{WriteAnswer}
-use Rattle.netpbm.specs.declared.WriteAnswer.TheVariants as write_answer_cases
+use Rattle.refusal.specs.Refusal.{or_else, Outcome, unless, keeping, room_check, Checked, outcome}
 use Rattle.canvas_size.specs.CanvasSize.{canvas_size_check, canvas_length_check}
 use Rattle.netpbm_header.specs.declared.Format.{Format}
 use Rattle.netpbm_header.specs.declared.Format.TheVariants.{P4, P5}
@@ -29,9 +27,8 @@ write_check format W H canvas file =
     (room_check (length (picture format W H canvas)) (length file))
 
 -- what an answer says: a refusal its number, else the length of the file
-abbrev pub write_outcome : WriteAnswer → Outcome
-write_outcome (write_answer_cases.Refused refusal) = refused (number refusal)
-write_outcome (write_answer_cases.Written n) = answered (pos n ∷ [])
+abbrev pub write_outcome : Result ℕ Refusal → Outcome
+write_outcome = outcome (λ n. pos n ∷ [])
 
 -- `write_p4` and `write_p5`: the answer, and the file buffer afterwards, in which the bytes past the file stay
 abbrev pub write_call : Format → ℕ → ℕ → List ℕ → List ℕ → Outcome

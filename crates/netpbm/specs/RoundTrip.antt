@@ -1,8 +1,7 @@
 -- Document 02, 'One': a picture that we wrote reads back.
 -- Assumes nothing.
 use Rattle.std.specs.Prelude.{◌≡◌, List, [], ◌∷◌, ◌++◌, map, ℕ, ◌*◌, ◌≤◌, pos, length, take}
-use Rattle.refusal.specs.declared.Checked.TheVariants.{Passed}
-use Rattle.refusal.specs.Refusal.{answered}
+use Rattle.refusal.specs.Refusal.{answered, passed}
 use Rattle.canvas_size.specs.CanvasSize.{canvas_size_check}
 use Rattle.netpbm_header.specs.declared.Format.{Format}
 use Rattle.netpbm_header.specs.declared.Format.TheVariants.{P4, P5}
@@ -23,7 +22,7 @@ pub record ReadsAs (file : List ℕ) (W H : ℕ) (canvas : List ℕ) : Type 0 wh
 -- the picture of every canvas within limits, whatever stands behind it
 abbrev pub PictureReadsBack : Type 0
 PictureReadsBack =
-    (format : Format) (W H : ℕ) (canvas behind : List ℕ) → canvas_size_check W H ≡ Passed → length canvas ≡ W * H
+    (format : Format) (W H : ℕ) (canvas behind : List ℕ) → canvas_size_check W H ≡ passed → length canvas ≡ W * H
     → ReadsAs (picture format W H canvas ++ behind) W H (read_back format canvas)
 
 -- over the calls: once `write_p4` or `write_p5` has answered n, `read` reads back from the first n bytes of the buffer, or from more of it

@@ -15,16 +15,9 @@ ghost use Rattle.netpbm.specs.Netpbm.{raster, picture, write_outcome, write_call
 use canvas_size::CanvasSize;
 use netpbm_header::{Format, header_length, put_header};
 use netpbm_raster::{put_rows, raster_length};
-use netpbm_read::{ReadAnswer, read_beside};
+use netpbm_read::read_beside;
 use netpbm_text::put;
-use refusal::{Checked, Refusal, check_room};
-
-#[derive(Clone, Copy)]
-pub enum WriteAnswer {
-    Refused(Refusal),
-    // The length of the file, from the buffer's start.
-    Written(usize),
-}
+use refusal::{Refusal, check_room};
 
 // Puts the raster from the place at on.
 fn put_raster(file: &mut [u8], at: usize, format: Format, size: CanvasSize, canvas: &[u8]) -> usize
@@ -50,8 +43,15 @@ fn put_picture(file: &mut [u8], format: Format, size: CanvasSize, canvas: &[u8])
     put_raster(file, raster_at, format, size, canvas)
 }
 
-// Writes the canvas in a format to the start of file.
-pub fn write(format: Format, width: u32, height: u32, canvas: &[u8], file: &mut [u8]) -> WriteAnswer
+// Writes the canvas in a format to the start of file, and answers how many bytes the file has.
+#[tactic(auto, using(crate::proofs::File::length_picture), unfolding(crate::specs::Netpbm::write_check))]
+pub fn write(
+    format: Format,
+    width: u32,
+    height: u32,
+    canvas: &[u8],
+    file: &mut [u8],
+) -> Result<usize, Refusal>
     ensures result_value { write_outcome result ≡ write_call format width height canvas.now file.old }
     ensures file_after { file.new ≡ file_after format width height canvas.now file.old }
 {
@@ -59,19 +59,15 @@ pub fn write(format: Format, width: u32, height: u32, canvas: &[u8], file: &mut 
         width: width,
         height: height,
     };
-    let sides = size.check();
-    let pixels = size.check_length(canvas.len());
+    size.check()?;
+    size.check_length(canvas.len())?;
     let raster = raster_length(format, size, canvas.len());
-    let room = check_room(header_length(format, size) + raster, file.len());
-    let checked = sides.or_else(pixels).or_else(room);
-    let Checked::Passed = checked else {
-        return WriteAnswer::Refused(checked.refusal());
-    };
-    WriteAnswer::Written(put_picture(file, format, size, canvas))
+    check_room(header_length(format, size) + raster, file.len())?;
+    Ok(put_picture(file, format, size, canvas))
 }
 
 // Writes the canvas, width by height pixels, as P5 to the start of file. Refused by 6, 8 and 13.
-pub fn write_p5(width: u32, height: u32, canvas: &[u8], file: &mut [u8]) -> WriteAnswer
+pub fn write_p5(width: u32, height: u32, canvas: &[u8], file: &mut [u8]) -> Result<usize, Refusal>
     ensures result_value { write_outcome result ≡ write_call P5 width height canvas.now file.old }
     ensures file_after { file.new ≡ file_after P5 width height canvas.now file.old }
 {
@@ -79,18 +75,19 @@ pub fn write_p5(width: u32, height: u32, canvas: &[u8], file: &mut [u8]) -> Writ
 }
 
 // Writes the canvas as P4: a nonzero byte is a 1 bit. Refused by 6, 8 and 13.
-pub fn write_p4(width: u32, height: u32, canvas: &[u8], file: &mut [u8]) -> WriteAnswer
+pub fn write_p4(width: u32, height: u32, canvas: &[u8], file: &mut [u8]) -> Result<usize, Refusal>
     ensures result_value { write_outcome result ≡ write_call P4 width height canvas.now file.old }
     ensures file_after { file.new ≡ file_after P4 width height canvas.now file.old }
 {
     write(Format::P4, width, height, canvas, file)
 }
 
-// Reads a picture, P4 or P5, into a canvas of its size: a byte, or a bit as 0 or 1, for each pixel.
+// Reads a picture, P4 or P5, into a canvas of its size, which it answers: a byte, or a bit as 0 or 1, for
+// each pixel.
 // Refused by 14, 6, 8 and 15, looked for in this order.
-pub fn read(file: &[u8], canvas: &mut [u8]) -> ReadAnswer
+pub fn read(file: &[u8], canvas: &mut [u8]) -> Result<CanvasSize, Refusal>
     ensures result_value { read_outcome result ≡ read_call file.now canvas.old }
     ensures canvas_after { canvas.new ≡ canvas_after file.now canvas.old }
 {
-    read_beside(file, canvas, Checked::Passed)
+    read_beside(file, canvas, Ok(()))
 }

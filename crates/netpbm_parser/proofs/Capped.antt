@@ -1,7 +1,7 @@
 -- Numbers and headers as far as they are kept: digits read one by one, the maximum, and the sides.
 -- Assumes nothing.
 use mathlib.Core.Path.{◌≡◌, refl, sym, ap, ◌∙◌}
-use mathlib.Core.Bool.{Bool, true, false, cond}
+use mathlib.Core.Bool.{Bool, true, false, cond, ◌&&◌}
 use mathlib.Core.List.{List, [], ◌∷◌}
 use Prim.Native.Nat.{ℕ, suc, ◌+◌, ◌*◌, ◌≤◌, ◌<◌, min}
 use native.Mathlib.Numerals.{add-one}
@@ -9,7 +9,8 @@ use native.Mathlib.Nat.{min-eq_left}
 use native.Mathlib.Omega.{arith}
 use borrow.Author.Tests.{eqb-true, eqb-false, eq-eqb, ne_eqb}
 use lib.Dec.{eqb}
-use lib.ListN.{length, drop, get_or, drop_of_length-le}
+use lib.ListN.{length, take, drop, get_or, drop_of_length-le}
+use lib.Pointwise.{pointwise}
 use lib.Seq.{drop-cons}
 use Rattle.netpbm_header.specs.declared.Format.{Format}
 use Rattle.netpbm_text.specs.Bytes.{is_digit, digit_value}
@@ -128,26 +129,16 @@ module _ (format : Format) (p : Parsed) where
       ∙ ap (λ (q : Parsed). of_height_kept format W q) (sym height)
       ∙ ap (λ (q : Rest). of_rest format W H q) (sym closed))
 
--- a magic, byte by byte
-pub starts_all : (magic file : List ℕ) (i : ℕ) → length magic ≤ i → starts_with (drop i magic) (drop i file) ≡ true
+-- a magic: std's test is the definition
+pub begins : (magic file : List ℕ) → pointwise eqb magic (take (length magic) file) ≡ starts_with magic file
 unfolding starts_with
-starts_all magic file i end = rw (drop_of_length-le magic {i = i} end)
-
-pub starts_short : (magic file : List ℕ) (i : ℕ) → i < length magic → length file ≤ i → starts_with (drop i magic) (drop i file) ≡ false
-unfolding starts_with
-starts_short magic file i within end = rw (drop-cons magic i 0 within, drop_of_length-le file {i = i} end)
-
-pub starts_differs : (magic file : List ℕ) (i : ℕ) → i < length magic → i < length file → (get_or magic i 0 ≡ get_or file i 0 → ⊥)
-    → starts_with (drop i magic) (drop i file) ≡ false
-unfolding starts_with
-starts_differs magic file i within inside other =
-    rw (drop-cons magic i 0 within, drop-cons file i 0 inside, ne_eqb (get_or magic i 0) (get_or file i 0) other)
-
-pub starts_same : (magic file : List ℕ) (i : ℕ) → i < length magic → i < length file → get_or magic i 0 ≡ get_or file i 0
-    → starts_with (drop i magic) (drop i file) ≡ starts_with (drop (i + 1) magic) (drop (i + 1) file)
-unfolding starts_with
-starts_same magic file i within inside same =
-    rw (add-one, drop-cons magic i 0 within, drop-cons file i 0 inside, eq-eqb (get_or magic i 0) (get_or file i 0) same)
+begins [] file = refl
+begins (first ∷ others) [] = refl
+begins (first ∷ others) (byte ∷ bytes) = rw (begins others bytes) (and_is (eqb first byte) (starts_with others bytes))
+  where
+    and_is : (a b : Bool) → (a && b) ≡ cond a b false
+    and_is true b = refl
+    and_is false b = refl
 
 pub starts_long : (magic file : List ℕ) → starts_with magic file ≡ true → length magic ≤ length file
 unfolding starts_with

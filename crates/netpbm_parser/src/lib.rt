@@ -5,7 +5,7 @@
 
 ghost use Rattle.std.specs.Prelude.{◌≡◌, true, false, ◌+◌, ◌*◌, ◌-◌, ◌≤◌, min, length, drop};
 ghost use Rattle.netpbm_text.specs.Bytes.{digit_value};
-ghost use Rattle.netpbm_parser.specs.Parser.{digits, after_gap, after_white, closing, starts_with, of_width, file_header};
+ghost use Rattle.netpbm_parser.specs.Parser.{digits, after_gap, after_white, closing, of_width, file_header};
 ghost use Rattle.netpbm_parser.specs.Parser.{number as parser_number};
 ghost use Rattle.netpbm_parser.specs.Capped.{most_kept, capped, capped_header, number_in, place_in, header_in, NumberWithin, PlaceWithin, HeaderWithin, Piece};
 
@@ -14,20 +14,6 @@ use netpbm_text::{ends_comment, is_digit, is_white};
 
 // The largest number that is kept.
 const MOST_KEPT: u32 = 65536;
-
-// A number of a header and the place behind it.
-#[derive(Clone, Copy)]
-pub enum Number {
-    Malformed,
-    Read(u32, usize),
-}
-
-// Where the raster begins.
-#[derive(Clone, Copy)]
-pub enum Place {
-    None,
-    At(usize),
-}
 
 #[derive(Clone, Copy)]
 pub struct Header {
@@ -38,26 +24,19 @@ pub struct Header {
     pub raster: usize,
 }
 
-#[derive(Clone, Copy)]
-pub enum HeaderAnswer {
-    NoHeader,
-    Headed(Header),
-}
-
 // The place behind the CR or LF that ends a comment, or the file's end, where no number follows.
+#[tactic(auto, using(crate::proofs::Gaps::gap_at_end, crate::proofs::Gaps::comment_ends, crate::proofs::Gaps::comment_goes_on))]
 fn comment_end(file: &[u8], at: usize) -> usize
     requires { at ≤ length file.now }
     ensures { (at ≤ result) × (result ≤ length file.now)
         × (after_gap true (drop at file.now) ≡ after_gap false (drop result file.now)) }
 {
-    let mut i = at;
-    while i < file.len() {
+    for i in at..file.len() {
         if ends_comment(file[i]) {
             return i + 1;
         }
-        i += 1;
     }
-    i
+    file.len()
 }
 
 // The place behind a whitespace byte or a comment at a place; that place where there is none.
@@ -84,6 +63,7 @@ fn gap_end(file: &[u8], at: usize) -> usize
         × (after_gap false (drop at file.now) ≡ digits (drop result file.now)) }
 {
     let mut i = at;
+    // A while: the steps are not of one, each goes past a whole piece.
     while i < file.len() {
         let next = piece_end(file, i);
         if next <= i {
@@ -107,76 +87,74 @@ fn with_digit(n: u32, byte: u8) -> u32
     longer
 }
 
-// One or more digits.
-fn read_digits(file: &[u8], at: usize) -> Number
+// One or more digits: the number and the place behind it.
+#[tactic(auto, using(crate::proofs::Gaps::digits_at_end, crate::proofs::Gaps::no_digits, crate::proofs::Gaps::some_digits, netpbm_text::proofs::Bytes::digit_least))]
+fn read_digits(file: &[u8], at: usize) -> Option<(u32, usize)>
     requires { at ≤ length file.now }
     ensures result_value { number_in file.now result ≡ capped (digits (drop at file.now)) }
     ensures number_within { NumberWithin file.now result }
 {
     if file.len() <= at {
-        return Number::Malformed;
+        return None;
     }
     if !is_digit(file[at]) {
-        return Number::Malformed;
+        return None;
     }
     let mut n: u32 = 0;
-    let mut i = at;
-    while i < file.len() {
+    for i in at..file.len() {
         let byte = file[i];
         if !is_digit(byte) {
-            return Number::Read(n, i);
+            return Some((n, i));
         }
         n = with_digit(n, byte);
-        i += 1;
     }
-    Number::Read(n, i)
+    Some((n, file.len()))
 }
 
 // A number that follows whitespace or comments.
-fn read_number(file: &[u8], at: usize) -> Number
+fn read_number(file: &[u8], at: usize) -> Option<(u32, usize)>
     requires { at ≤ length file.now }
     ensures result_value { number_in file.now result ≡ capped (parser_number (drop at file.now)) }
     ensures number_within { NumberWithin file.now result }
 {
     let behind = piece_end(file, at);
     if behind <= at {
-        return Number::Malformed;
+        return None;
     }
     read_digits(file, gap_end(file, behind))
 }
 
 // The place behind one whitespace byte.
-fn after_white(file: &[u8], at: usize) -> Place
+fn after_white(file: &[u8], at: usize) -> Option<usize>
     requires { at ≤ length file.now }
     ensures result_value { place_in file.now result ≡ after_white (drop at file.now) }
     ensures place_within { PlaceWithin file.now result }
 {
     if file.len() <= at {
-        return Place::None;
+        return None;
     }
     if is_white(file[at]) {
-        return Place::At(at + 1);
+        return Some(at + 1);
     }
-    Place::None
+    None
 }
 
 // The place of the raster behind the maximum, which is 255.
-fn after_maximum(file: &[u8], at: usize) -> Place
+#[tactic(auto, using(crate::proofs::Capped::no_maximum, crate::proofs::Capped::other_maximum))]
+fn after_maximum(file: &[u8], at: usize) -> Option<usize>
     requires { at ≤ length file.now }
     ensures result_value { place_in file.now result ≡ closing Format.P5 (drop at file.now) }
     ensures place_within { PlaceWithin file.now result }
 {
-    let Number::Read(maximum, behind) = read_number(file, at) else {
-        return Place::None;
-    };
+    let (maximum, behind) = read_number(file, at)?;
     if maximum == 255 {
         return after_white(file, behind);
     }
-    Place::None
+    None
 }
 
 // The place of the raster behind the height.
-fn raster_place(file: &[u8], format: Format, at: usize) -> Place
+fn raster_place(file: &[u8], format: Format, at: usize) -> Option<usize>
     requires { at ≤ length file.now }
     ensures result_value { place_in file.now result ≡ closing format (drop at file.now) }
     ensures place_within { PlaceWithin file.now result }
@@ -188,21 +166,16 @@ fn raster_place(file: &[u8], format: Format, at: usize) -> Place
 }
 
 // Width, height and raster behind the magic.
-fn read_sides(file: &[u8], format: Format) -> HeaderAnswer
+#[tactic(auto, using(crate::proofs::Capped::no_width, crate::proofs::Capped::no_height, crate::proofs::Capped::both_sides))]
+fn read_sides(file: &[u8], format: Format) -> Option<Header>
     requires { 2 ≤ length file.now }
     ensures result_value { header_in file.now result ≡ capped_header (of_width format (parser_number (drop 2 file.now))) }
     ensures header_within { HeaderWithin file.now result }
 {
-    let Number::Read(width, behind_width) = read_number(file, 2) else {
-        return HeaderAnswer::NoHeader;
-    };
-    let Number::Read(height, behind_height) = read_number(file, behind_width) else {
-        return HeaderAnswer::NoHeader;
-    };
-    let Place::At(raster) = raster_place(file, format, behind_height) else {
-        return HeaderAnswer::NoHeader;
-    };
-    HeaderAnswer::Headed(Header {
+    let (width, behind_width) = read_number(file, 2)?;
+    let (height, behind_height) = read_number(file, behind_width)?;
+    let raster = raster_place(file, format, behind_height)?;
+    Some(Header {
         format: format,
         width: width,
         height: height,
@@ -210,33 +183,16 @@ fn read_sides(file: &[u8], format: Format) -> HeaderAnswer
     })
 }
 
-// Whether a file begins with a magic.
-fn starts_with(magic: &[u8], file: &[u8]) -> bool
-    ensures { result ≡ starts_with magic.now file.now }
-{
-    let mut i: usize = 0;
-    while i < magic.len() {
-        if file.len() <= i {
-            return false;
-        }
-        if magic[i] != file[i] {
-            return false;
-        }
-        i += 1;
-    }
-    true
-}
-
 // The header with which a file begins.
-pub fn read_header(file: &[u8]) -> HeaderAnswer
+pub fn read_header(file: &[u8]) -> Option<Header>
     ensures result_value { header_in file.now result ≡ capped_header (file_header file.now) }
     ensures header_within { HeaderWithin file.now result }
 {
-    if starts_with(b"P4", file) {
+    if file.starts_with(b"P4") {
         return read_sides(file, Format::P4);
     }
-    if starts_with(b"P5", file) {
+    if file.starts_with(b"P5") {
         return read_sides(file, Format::P5);
     }
-    HeaderAnswer::NoHeader
+    None
 }

@@ -43,6 +43,7 @@ fn packed_byte(row: &[u8], at: usize) -> u8
     let mut byte: u8 = 0;
     let mut weight: u8 = 128;
     let mut i = at;
+    // A while: each turn halves the weight, and counts no steps of one.
     while 0 < weight {
         if row.len() <= i {
             return byte;
@@ -60,33 +61,27 @@ fn put_row(out: &mut [u8], at: usize, row: &[u8]) -> usize
     requires row_in_bounds { at + row_bytes (length row.now) ≤ length out.old }
     ensures { Wrote out.old at (packed_row (length row.now) row.now) out.new result }
 {
-    let mut left = row_bytes(row.len());
-    let mut from: usize = 0;
-    let mut next = at;
-    while 0 < left {
-        out[next] = packed_byte(row, from);
-        from += 8;
-        next += 1;
-        left -= 1;
+    let bytes = row_bytes(row.len());
+    for j in 0..bytes {
+        out[at + j] = packed_byte(row, 8 * j);
     }
-    next
+    at + bytes
 }
 
 // Puts the rows of a canvas, height of width pixels, as bits into out from the place at on.
+#[tactic(auto, using(crate::proofs::Rows::turn_within))]
 pub fn put_rows(out: &mut [u8], at: usize, width: usize, height: usize, canvas: &[u8]) -> usize
     requires width_bound { width ≤ 4294967295 }
     requires width_in_bounds { height * width ≤ length canvas.now }
     requires width_in_bounds_2 { at + height * row_bytes width ≤ length out.old }
     ensures { Wrote out.old at (packed_rows width height canvas.now) out.new result }
 {
-    let mut left = height;
     let mut from: usize = 0;
     let mut next = at;
-    while 0 < left {
+    for _ in 0..height {
         let end = from + width;
         next = put_row(out, next, &canvas[from..end]);
         from = end;
-        left -= 1;
     }
     next
 }
@@ -96,11 +91,9 @@ fn unpack_byte(byte: u8, pixels: &mut [u8])
     ensures { pixels.new ≡ shifted_out (length pixels.old) byte }
 {
     let mut rest = byte;
-    let mut i: usize = 0;
-    while i < pixels.len() {
-        pixels[i] = rest / 128;
+    for pixel in pixels.iter_mut() {
+        *pixel = rest / 128;
         rest = rest % 128 * 2;
-        i += 1;
     }
 }
 
@@ -111,6 +104,7 @@ fn unpack_row(bytes: &[u8], row: &mut [u8])
 {
     let mut at: usize = 0;
     let mut j: usize = 0;
+    // A while: the steps are of eight.
     while 8 <= row.len() - at {
         let end = at + 8;
         unpack_byte(bytes[j], &mut row[at..end]);
@@ -123,6 +117,7 @@ fn unpack_row(bytes: &[u8], row: &mut [u8])
 }
 
 // Writes the rows that a raster holds, height of width pixels, over the canvas.
+#[tactic(auto, using(crate::proofs::Rows::turn_within))]
 pub fn unpack_rows(raster: &[u8], width: usize, height: usize, canvas: &mut [u8])
     requires width_bound { width ≤ 4294967295 }
     requires canvas_len { length canvas.old ≡ height * width }
@@ -130,15 +125,13 @@ pub fn unpack_rows(raster: &[u8], width: usize, height: usize, canvas: &mut [u8]
     ensures { canvas.new ≡ unpacked_rows width height raster.now }
 {
     let bytes = row_bytes(width);
-    let mut left = height;
     let mut from: usize = 0;
     let mut at: usize = 0;
-    while 0 < left {
+    for _ in 0..height {
         let from_end = from + bytes;
         let end = at + width;
         unpack_row(&raster[from..from_end], &mut canvas[at..end]);
         from = from_end;
         at = end;
-        left -= 1;
     }
 }

@@ -2,6 +2,7 @@
 -- has
 -- passed.
 -- Assumes nothing.
+use Rattle.std.specs.Prelude.{Ok, Err}
 use mathlib.Core.Path.{◌≡◌, refl, sym, ap, ap₂, ◌∙◌}
 use mathlib.Core.Bool.{Bool, true, false}
 use mathlib.Core.List.{List, append-nil}
@@ -12,9 +13,7 @@ use lib.Dec.{ltb}
 use lib.ListN.{length, take, drop, length-drop, drop_of_length-le}
 use lib.Seq.{sets, take_all, length-take-le}
 use Rattle.refusal.specs.declared.Refusal.TheVariants.{CanvasSide, RasterLength}
-use Rattle.refusal.specs.declared.Checked.{Checked}
-use Rattle.refusal.specs.declared.Checked.TheVariants.{Passed, Refused}
-use Rattle.refusal.specs.Refusal.{refuse_if, or_else, above}
+use Rattle.refusal.specs.Refusal.{refuse_if, or_else, above, Checked, passed}
 use Rattle.refusal.proofs.Checks.{passed_first, passed_next, passed_above}
 use Rattle.geometry.specs.Limits.{max_canvas_side}
 use Rattle.canvas_size.specs.CanvasSize.{side_check, canvas_size_check, canvas_length_check}
@@ -40,9 +39,9 @@ pub lent_from : (l : List ℕ) (at : ℕ) → take (length l - at) (drop at l) �
 lent_from l at = take_all (length l - at) (drop at l) (simp length-drop (omega arith))
 
 -- what stands after a check plays a part only where that has passed
-after_passed : (a b c : Checked) → (a ≡ Passed → b ≡ c) → or_else a b ≡ or_else a c
-after_passed Passed b c same = same refl
-after_passed (Refused refusal) b c same = refl
+after_passed : (a b c : Checked) → (a ≡ passed → b ≡ c) → or_else a b ≡ or_else a c
+after_passed (Ok _) b c same = same refl
+after_passed (Err refusal) b c same = refl
 
 -- the check made of a header's numbers, by the length of the canvas and the bytes left
 pub check_made : (format : Format) (W H n left : ℕ) (bytes : List ℕ) (room : Checked) → left ≡ length bytes
@@ -51,7 +50,7 @@ pub check_made : (format : Format) (W H n left : ℕ) (bytes : List ℕ) (room :
     ≡ read_check (headed format W H bytes) n room
 check_made format W H n left bytes room e =
     after_passed (or_else (or_else (canvas_size_check W H) (canvas_length_check W H n)) room) _ _
-    (λ (passed : or_else (or_else (canvas_size_check W H) (canvas_length_check W H n)) room ≡ Passed).
+    (λ (passed : or_else (or_else (canvas_size_check W H) (canvas_length_check W H n)) room ≡ passed).
     let lent = passed_first (or_else (canvas_size_check W H) (canvas_length_check W H n)) room passed in
     let area = canvas_length_passed W H n (passed_next (canvas_size_check W H) (canvas_length_check W H n) lent) in
     ap₂ (λ (k m : ℕ). refuse_if (above k (raster_length format W H m)) RasterLength) e area)
@@ -74,7 +73,7 @@ unfolding canvas_size_check
 size_capped W H = ap₂ or_else (side_capped W) (side_capped H)
 
 -- sides that pass are kept as they are
-sides_kept : (format : Format) (W H : ℕ) (bytes : List ℕ) → canvas_size_check W H ≡ Passed
+sides_kept : (format : Format) (W H : ℕ) (bytes : List ℕ) → canvas_size_check W H ≡ passed
     → capped_header (headed format W H bytes) ≡ headed format W H bytes
 sides_kept format W H bytes passed =
     let sides = canvas_size_passed W H passed in
@@ -87,10 +86,10 @@ check_capped (headed format W H bytes) n room = by_sides (canvas_size_check W H)
   where
     by_sides : (s : Checked) → canvas_size_check W H ≡ s
         → read_check (capped_header (headed format W H bytes)) n room ≡ read_check (headed format W H bytes) n room
-    by_sides Passed e = ap (λ (h : ReadHeader). read_check h n room) (sides_kept format W H bytes e)
-    by_sides (Refused refusal) e = rw (size_capped W H, e)
+    by_sides (Ok _) e = ap (λ (h : ReadHeader). read_check h n room) (sides_kept format W H bytes e)
+    by_sides (Err refusal) e = rw (size_capped W H, e)
 
-pub header_kept : (header : ReadHeader) (n : ℕ) (room : Checked) → read_check header n room ≡ Passed → capped_header header ≡ header
+pub header_kept : (header : ReadHeader) (n : ℕ) (room : Checked) → read_check header n room ≡ passed → capped_header header ≡ header
 header_kept no_header n room e = refl
 header_kept (headed format W H bytes) n room e =
     sides_kept format W H bytes
@@ -100,7 +99,7 @@ header_kept (headed format W H bytes) n room e =
 
 -- a check that passes says how long the canvas is, and that there are bytes enough
 pub read_passed_length : (format : Format) (W H n : ℕ) (bytes : List ℕ) (room : Checked) → read_check (headed format W H bytes) n room
-    ≡ Passed
+    ≡ passed
     → n ≡ W * H
 read_passed_length format W H n bytes room e =
     canvas_length_passed W H n
@@ -109,7 +108,7 @@ read_passed_length format W H n bytes room e =
     (passed_first (or_else (or_else (canvas_size_check W H) (canvas_length_check W H n)) room) (raster_check format W H bytes) e)))
 
 pub read_passed_bytes : (format : Format) (W H n : ℕ) (bytes : List ℕ) (room : Checked) → read_check (headed format W H bytes) n room
-    ≡ Passed
+    ≡ passed
     → raster_length format W H n ≤ length bytes
 read_passed_bytes format W H n bytes room e =
     let enough = passed_above (length bytes) (raster_length format W H (W * H)) RasterLength

@@ -1,17 +1,15 @@
 -- Document 02, 'One': a picture of format P4 or P5 read into a lent canvas, and what the call promises.
 -- Assumes nothing.
-use Rattle.std.specs.Prelude.{List, [], ◌∷◌, ℕ, ◌*◌, ℤ, pos, length, take}
+use Rattle.refusal.specs.declared.Refusal.{Refusal}
+use Rattle.std.specs.Prelude.{List, [], ◌∷◌, ℕ, ◌*◌, ℤ, pos, length, take, Err, Result}
 use Rattle.refusal.specs.declared.Refusal.TheVariants.{FileHeader, RasterLength}
-use Rattle.refusal.specs.declared.Checked.{Checked}
-use Rattle.refusal.specs.declared.Checked.TheVariants.{Passed, Refused}
-use Rattle.refusal.specs.Refusal.{number, refuse_if, or_else, above, Outcome, refused, answered, unless, keeping}
+use Rattle.refusal.specs.Refusal.{refuse_if, or_else, above, Outcome, unless, keeping, Checked, passed, outcome}
+use Rattle.canvas_size.specs.declared.CanvasSize.{CanvasSize}
 use Rattle.canvas_size.specs.CanvasSize.{canvas_size_check, canvas_length_check}
 use Rattle.netpbm_header.specs.declared.Format.{Format}
 use Rattle.netpbm_header.specs.declared.Format.TheVariants.{P4, P5}
 use Rattle.netpbm_parser.specs.Parser.{ReadHeader, no_header, headed, file_header}
 use Rattle.netpbm_raster.specs.Raster.{raster_length, unpacked_rows}
-use Rattle.netpbm_read.specs.declared.ReadAnswer.{ReadAnswer}
-use Rattle.netpbm_read.specs.declared.ReadAnswer.TheVariants as read_answer
 
 -- the canvas that the bytes behind a header hold: of P4 its rows of bits without their filling, of P5 a pixel for each byte. Bytes after the
 -- raster are not read
@@ -26,7 +24,7 @@ raster_check format W H bytes = refuse_if (above (length bytes) (raster_length f
 -- 14, before all others; 6 and 8 of the header's W and H and the length of the canvas; 15, after all others. Before 15 stands what else is
 -- looked at: nothing, or the room in a host's list for W and H (13)
 abbrev pub read_check : ReadHeader → ℕ → Checked → Checked
-read_check no_header n room = Refused FileHeader
+read_check no_header n room = Err FileHeader
 read_check (headed format W H bytes) n room =
     or_else (or_else (or_else (canvas_size_check W H) (canvas_length_check W H n)) room) (raster_check format W H bytes)
 
@@ -41,9 +39,8 @@ canvas_of no_header = []
 canvas_of (headed format W H bytes) = pixels format W H bytes
 
 -- what an answer says: a refusal its number, else W and H
-abbrev pub read_outcome : ReadAnswer → Outcome
-read_outcome (read_answer.Refused refusal) = refused (number refusal)
-read_outcome (read_answer.Read size) = answered (pos size.width ∷ pos size.height ∷ [])
+abbrev pub read_outcome : Result CanvasSize Refusal → Outcome
+read_outcome = outcome (λ size. pos size.width ∷ pos size.height ∷ [])
 
 -- a read with another check before 15: the answer, and the canvas afterwards
 abbrev pub read_beside : Checked → List ℕ → List ℕ → Outcome
@@ -54,7 +51,7 @@ canvas_beside room file canvas = keeping (read_check (file_header file) (length 
 
 -- `read`: the answer, and the canvas afterwards
 abbrev pub read_call : List ℕ → List ℕ → Outcome
-read_call file canvas = read_beside Passed file canvas
+read_call file canvas = read_beside passed file canvas
 
 abbrev pub canvas_after : List ℕ → List ℕ → List ℕ
-canvas_after file canvas = canvas_beside Passed file canvas
+canvas_after file canvas = canvas_beside passed file canvas

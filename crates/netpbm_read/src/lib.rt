@@ -12,26 +12,19 @@ ghost use Rattle.netpbm_read.specs.Read.{pixels, read_outcome, read_beside, canv
 
 use canvas_size::CanvasSize;
 use netpbm_header::Format;
-use netpbm_parser::{Header, HeaderAnswer, read_header};
+use netpbm_parser::{Header, read_header};
 use netpbm_raster::{raster_length, unpack_rows};
 use netpbm_text::put;
 use refusal::{Checked, Refusal};
-
-#[derive(Clone, Copy)]
-pub enum ReadAnswer {
-    Refused(Refusal),
-    // The width and height that the header says.
-    Read(CanvasSize),
-}
 
 // Refuses a raster with fewer bytes than are needed (refusal 15).
 fn check_raster(needed: usize, bytes: usize) -> Checked
     ensures { result ≡ refuse_if (above bytes needed) RasterLength }
 {
     if bytes < needed {
-        Checked::Refused(Refusal::RasterLength)
+        Err(Refusal::RasterLength)
     } else {
-        Checked::Passed
+        Ok(())
     }
 }
 
@@ -46,10 +39,10 @@ fn check_read(header: Header, pixels: usize, room: Checked, bytes: usize) -> Che
         width: header.width,
         height: header.height,
     };
-    let lent = size.check().or_else(size.check_length(pixels));
-    let format = header.format;
-    let raster = check_raster(raster_length(format, size, pixels), bytes);
-    lent.or_else(room).or_else(raster)
+    size.check()?;
+    size.check_length(pixels)?;
+    room?;
+    check_raster(raster_length(header.format, size, pixels), bytes)
 }
 
 // Writes the pixels that bytes behind a header hold over the canvas.
@@ -67,8 +60,9 @@ fn read_raster(bytes: &[u8], format: Format, size: CanvasSize, canvas: &mut [u8]
     }
 }
 
-// Writes the pixels of a file with that header over the canvas, and answers its size.
-fn read_headed(file: &[u8], header: Header, canvas: &mut [u8]) -> ReadAnswer
+// Writes the pixels of a file with that header over the canvas, and answers its size, which the header says.
+#[tactic(auto, using(crate::proofs::Reading::lent_from))]
+fn read_headed(file: &[u8], header: Header, canvas: &mut [u8]) -> Result<CanvasSize, Refusal>
     requires raster_in_bounds { header.raster ≤ length file.now }
     requires canvas_len { length canvas.old ≡ header.width * header.height }
     requires canvas_in_bounds { raster_length header.format header.width header.height (length canvas.old)
@@ -84,21 +78,16 @@ fn read_headed(file: &[u8], header: Header, canvas: &mut [u8]) -> ReadAnswer
         height: header.height,
     };
     read_raster(&file[at..], format, size, canvas);
-    ReadAnswer::Read(size)
+    Ok(size)
 }
 
 // Reads a picture, P4 or P5, into a canvas of its size, once another check has passed too, which comes
 // before 15.
-pub fn read_beside(file: &[u8], canvas: &mut [u8], room: Checked) -> ReadAnswer
+pub fn read_beside(file: &[u8], canvas: &mut [u8], room: Checked) -> Result<CanvasSize, Refusal>
     ensures result_value { read_outcome result ≡ read_beside room file.now canvas.old }
     ensures canvas_after { canvas.new ≡ canvas_beside room file.now canvas.old }
 {
-    let HeaderAnswer::Headed(header) = read_header(file) else {
-        return ReadAnswer::Refused(Refusal::FileHeader);
-    };
-    let checked = check_read(header, canvas.len(), room, file.len() - header.raster);
-    let Checked::Passed = checked else {
-        return ReadAnswer::Refused(checked.refusal());
-    };
+    let header = read_header(file).ok_or(Refusal::FileHeader)?;
+    check_read(header, canvas.len(), room, file.len() - header.raster)?;
     read_headed(file, header, canvas)
 }

@@ -1,12 +1,12 @@
 -- Laws of bytes put into a buffer: one write after another is one write, and a store more is one byte more.
 -- Assumes nothing.
 use mathlib.Core.Path.{◌≡◌, sym, ap, ◌∙◌}
-use mathlib.Core.List.{List, [], ◌∷◌, ◌++◌}
-use Prim.Native.Nat.{ℕ, suc, ◌+◌, ◌≤◌, ◌<◌}
-use native.Mathlib.Numerals.{add-one}
+use mathlib.Core.List.{List, [], ◌∷◌, ◌++◌, append_assoc}
+use Prim.Native.Nat.{ℕ, suc, ◌+◌, ◌≤◌}
 use native.Mathlib.Omega.{arith}
-use lib.ListN.{length, take, drop, get_or, set, length-append}
-use lib.Seq.{sets, sets-eq, take-suc, length-take-le, length-sets}
+use borrow.Rule.Slice.PartMut.{put_mid}
+use lib.ListN.{length, drop, set, length-append}
+use lib.Seq.{sets, sets-eq, drop-drop, length-sets}
 use Rattle.netpbm_text.specs.Written.{Wrote}
 
 pub sets_append : (l : List ℕ) (i : ℕ) (s t : List ℕ) → sets l i (s ++ t) ≡ sets (sets l i s) (i + length s) t
@@ -14,12 +14,11 @@ sets_append l i [] t = ap (λ (k : ℕ). sets l k t) (omega arith)
 sets_append l i (a ∷ s) t =
     sets_append (set l i a) (suc i) s t ∙ ap (λ (k : ℕ). sets (sets (set l i a) (suc i) s) k t) (omega arith)
 
--- a turn of the loop that copies: its store takes the copy of k bytes to the copy of k + 1
-pub sets_next : (l : List ℕ) (i : ℕ) (s : List ℕ) (k : ℕ) → k < length s
-    → set (sets l i (take k s)) (i + k) (get_or s k 0) ≡ sets l i (take (k + 1) s)
-sets_next l i s k h =
-    let n : length (take k s) ≡ k = length-take-le k s (omega arith) in
-    rw (add-one, take-suc s k 0 h, sets_append) (rw n)
+-- a part that was written over by s
+pub sets_part : (l s written : List ℕ) (i k : ℕ) → i + length s ≤ length l → k ≡ length s → written ≡ s
+    → put_mid i k l written ≡ sets l i s
+sets_part l s written i k room long same =
+    rw (same, long, drop-drop, ← append_assoc) (sym (sets-eq s l i room))
 
 -- one write, and then another from where it ended
 pub wrote_then : {l m n s t : List ℕ} {i j k : ℕ} → Wrote l i s m j → Wrote m j t n k → Wrote l i (s ++ t) n k

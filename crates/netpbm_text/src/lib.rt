@@ -13,12 +13,9 @@ pub fn put(out: &mut [u8], at: usize, source: &[u8]) -> usize
     requires { at + length source.now ≤ length out.old }
     ensures { Wrote out.old at source.now out.new result }
 {
-    let mut i: usize = 0;
-    while i < source.len() {
-        out[at + i] = source[i];
-        i += 1;
-    }
-    at + i
+    let end = at + source.len();
+    out[at..end].copy_from_slice(source);
+    end
 }
 
 // Puts one decimal digit.
@@ -49,6 +46,7 @@ pub fn number_length(n: u32) -> usize
 {
     let mut rest = n;
     let mut digits: usize = 1;
+    // A while: each turn divides by ten, and counts no steps of one.
     while 10 <= rest {
         rest /= 10;
         digits += 1;

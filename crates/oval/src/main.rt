@@ -4,11 +4,9 @@
 
 use figure::Figure;
 use geometry::{Point, Size};
-use netpbm::WriteAnswer;
-use paint::PaintAnswer;
 use rectangle::Rectangle;
 use std::io::{self, Write};
-use style::{Paint, Style};
+use style::Style;
 
 fn main(rt: HostRuntime) -> io::Result<()> {
     let oval = Figure::Ellipse(Rectangle {
@@ -18,13 +16,13 @@ fn main(rt: HostRuntime) -> io::Result<()> {
             height: 4,
         },
     });
-    let style = Style::new(Paint::Absent, Paint::Colour(9), 0);
+    let style = Style::new(None, Some(9), 0);
     let mut canvas = [0u8; 16];
-    let PaintAnswer::Painted = paint::paint_figure(oval, style, 4, 4, &mut canvas) else {
+    let Ok(()) = paint::paint_figure(oval, style, 4, 4, &mut canvas) else {
         return Ok(());
     };
     let mut file = [0u8; 27];
-    let WriteAnswer::Written(_) = netpbm::write_p5(4, 4, &canvas, &mut file) else {
+    let Ok(_) = netpbm::write_p5(4, 4, &canvas, &mut file) else {
         return Ok(());
     };
     io::writer(&rt).write_all(&file)

@@ -1,5 +1,6 @@
 -- The oval of document 01 computed, with its 16 bytes; the same off the canvas; and the lowest number that applies.
 -- Assumes nothing.
+use Rattle.std.specs.Prelude.{Some, None}
 use mathlib.Core.Path.{◌≡◌, refl}
 use mathlib.Core.List.{[], ◌∷◌}
 use Prim.Native.Nat.{ℕ}
@@ -14,7 +15,6 @@ use Rattle.ellipse_rows.specs.EllipsePoints.{row, scanline, has_rows}
 use Rattle.ellipse_styled.specs.EllipseStyled.{ellipse_styled_row}
 use Rattle.figure.specs.declared.Figure.{Figure}
 use Rattle.figure.specs.declared.Figure.TheVariants.{Ellipse}
-use Rattle.style.specs.declared.Paint.TheVariants.{Absent, Colour}
 use Rattle.style.specs.declared.Style.{Style}
 use Rattle.style.specs.Style.{default_alignment, styled_by_default, style_check, outside_stroke_width, inside_stroke_width}
 use Rattle.styled_row.specs.StyledRow.{styled_row_of_shapes}
@@ -30,7 +30,7 @@ abbrev oval : ℤ → ℤ → ℕ → ℕ → Figure
 oval x y w h = Ellipse (record { top_left = record { x = x; y = y }; size = record { width = w; height = h } })
 
 abbrev filled : ℕ → Style
-filled width = styled_by_default Absent (Colour 9) width
+filled width = styled_by_default None (Some 9) width
 
 oval_bytes : canvas_after (oval (pos 0) (pos 0) 4 4) (filled 0) 4 4 (replicate 16 0)
     ≡ 0 ∷ 9 ∷ 9 ∷ 0 ∷ 9 ∷ 9 ∷ 9 ∷ 9 ∷ 9 ∷ 9 ∷ 9 ∷ 9 ∷ 0 ∷ 9 ∷ 9 ∷ 0 ∷ []

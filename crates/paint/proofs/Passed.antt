@@ -4,9 +4,8 @@ use mathlib.Core.Path.{◌≡◌}
 use mathlib.Core.List.{List}
 use Prim.Native.Nat.{ℕ, ◌*◌, ◌≤◌}
 use lib.ListN.{length}
-use Rattle.refusal.specs.declared.Checked.TheVariants.{Passed}
 use Rattle.geometry.specs.Limits.{max_stroke_width}
-use Rattle.refusal.specs.Refusal.{or_else}
+use Rattle.refusal.specs.Refusal.{or_else, passed}
 use Rattle.refusal.proofs.Checks.{passed_first, passed_next}
 use Rattle.figure.specs.declared.Figure.{Figure}
 use Rattle.figure.specs.Bounds.{OwnFigure}
@@ -26,7 +25,7 @@ pub record PaintPassed (f : Figure) (style : Style) (W H : ℕ) (canvas : List �
   pub sides : CanvasSides W H
   pub size : length canvas ≡ W * H
 
-pub paint_passed : (f : Figure) (style : Style) (W H : ℕ) (canvas : List ℕ) → paint_check f style W H canvas ≡ Passed
+pub paint_passed : (f : Figure) (style : Style) (W H : ℕ) (canvas : List ℕ) → paint_check f style W H canvas ≡ passed
     → PaintPassed f style W H canvas
 unfolding paint_check styled_check
 paint_passed f style W H canvas e =

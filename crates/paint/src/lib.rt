@@ -9,23 +9,18 @@ ghost use Rattle.paint.specs.Paint.{paint_outcome, paint_call, canvas_after};
 use canvas_size::CanvasSize;
 use figure::Figure;
 use paint_figures::paint_whole;
-use refusal::{Checked, Refusal};
+use refusal::Checked;
 use style::Style;
 
-#[derive(Clone, Copy)]
-pub enum PaintAnswer {
-    Refused(Refusal),
-    Painted,
-}
-
 // Paints the figure on the canvas, width by height pixels. Refused by 1, 2, 3, 5, 6 and 8.
+#[tactic(auto, unfolding(crate::specs::Paint::paint_check))]
 pub fn paint_figure(
     figure: Figure,
     style: Style,
     width: u32,
     height: u32,
     canvas: &mut [u8],
-) -> PaintAnswer
+) -> Checked
     ensures result_value { paint_outcome result ≡ paint_call figure style width height canvas.old }
     ensures canvas_after { canvas.new ≡ canvas_after figure style width height canvas.old }
 {
@@ -33,13 +28,9 @@ pub fn paint_figure(
         width: width,
         height: height,
     };
-    let given = drawing::check(figure, style);
-    let sides = size.check();
-    let pixels = size.check_length(canvas.len());
-    let checked = given.or_else(sides).or_else(pixels);
-    let Checked::Passed = checked else {
-        return PaintAnswer::Refused(checked.refusal());
-    };
+    drawing::check(figure, style)?;
+    size.check()?;
+    size.check_length(canvas.len())?;
     paint_whole(canvas, size, figure, style);
-    PaintAnswer::Painted
+    Ok(())
 }

@@ -1,12 +1,12 @@
 -- One styled row on rows at equal distances, and what a turn of the loop over a symmetric box's rows comes to.
 -- Assumes nothing.
+use Rattle.scanline.specs.Rows.{StyledRow}
 use mathlib.Core.Path.{◌≡◌, refl, sym, ap, subst, ◌∙◌}
 use mathlib.Core.Bool.{Bool}
 use mathlib.Core.List.{List}
 use Prim.Native.Nat.{ℕ, zero, suc, ◌+◌, ◌-◌, ◌*◌, ◌<◌, ◌≤◌, min}
 use native.Mathlib.Omega.{arith}
 use borrow.Author.Tests.{lt-ltb}
-use lib.Dec.{ltb}
 use lib.IntN.{ℤ, pos, ◌+ℤ◌}
 use lib.ListN.{length}
 use mir.Syntax.{w32}
@@ -15,7 +15,6 @@ use Rattle.signed.proofs.Laws.{int, add_law, fits_by_parts}
 use Rattle.corner.specs.Bounds.{wide_stroke_side}
 use Rattle.figure.specs.Bounds.{wide_area_position}
 use Rattle.box_columns.proofs.Searches.{by_order}
-use Rattle.scanline.specs.declared.StyledRow.{StyledRow}
 use Rattle.style.specs.declared.Style.{Style}
 use Rattle.drawing.specs.Drawing.{paint_by}
 use Rattle.paint_rows.specs.Rows.{wide_painted, twice_by, rows_by}
@@ -25,7 +24,7 @@ use Rattle.paint_boxes.specs.declared.Turn.{Turn}
 use Rattle.paint_boxes.specs.Spaced.{spaced_by, SpacedNear, TurnAt}
 
 -- ---- rows of a figure are near
-pub row_near : (first : ℤ) (dy : ℕ) → Near wide_area_position first → dy ≤ wide_stroke_side → Near wide_painted (first +ℤ pos dy)
+row_near : (first : ℤ) (dy : ℕ) → Near wide_area_position first → dy ≤ wide_stroke_side → Near wide_painted (first +ℤ pos dy)
 row_near first dy near few =
     let high = near.above in
     let low = near.below in
@@ -50,7 +49,7 @@ spaced_one_by_one (suc n) first dy near few = (
 module _ (first : ℤ) (height pairs dy : ℕ) (near : Near wide_area_position first) (low : height ≤ wide_stroke_side)
     (half : 2 * pairs ≤ height)
     (more : dy < height - pairs) (t : Turn) (at : TurnAt height pairs dy t) where
-  pub step_small : t.step ≤ wide_stroke_side
+  step_small : t.step ≤ wide_stroke_side
   step_small =
       by_order dy pairs (λ pair. let is = at.pair_step pair in omega (arith, is))
       (λ past. let is = at.rest_step past in omega (arith, is))
@@ -79,8 +78,9 @@ module _ (first : ℤ) (height pairs dy : ℕ) (near : Near wide_area_position f
       subst (λ (s : ℕ). SpacedNear (first +ℤ pos dy) s t.count) (sym (at.rest_step past))
       (spaced_one_by_one t.count first dy near (omega (arith, count)))
 
-  pub rows_near : SpacedNear (first +ℤ pos dy) t.step t.count
-  rows_near = by_order dy pairs pair_near rest_near
+  pub rows_near : (y : ℤ) → y ≡ first +ℤ pos dy
+      → Near wide_painted y × (t.step ≤ wide_stroke_side) × SpacedNear y t.step t.count
+  rows_near y is = rw is (row_near first dy near (omega arith), step_small, by_order dy pairs pair_near rest_near)
 
 -- ---- what is painted
 module _ (row : StyledRow) (style : Style) (W H : ℕ) where
@@ -96,32 +96,45 @@ module _ (row : StyledRow) (style : Style) (W H : ℕ) where
 
 -- ---- the loop that paints them: the rows that are left, painted on the canvas as it is now, make the whole
 module _ (row : StyledRow) (style : Style) (W H : ℕ) (first : ℤ) (step count : ℕ) (lent : List ℕ) where
-  pub record SpacedLeft (y : ℤ) (left : ℕ) (canvas : List ℕ) : Type 0 where
+  pub record SpacedLeft (y : ℤ) (done : ℕ) (canvas : List ℕ) : Type 0 where
     pub size : length canvas ≡ W * H
-    pub near : SpacedNear y step left
-    pub rest : spaced_by row style W H y step left canvas ≡ spaced_by row style W H first step count lent
+    pub near : SpacedNear y step (count - done)
+    pub rest : spaced_by row style W H y step (count - done) canvas ≡ spaced_by row style W H first step count lent
 
-  pub first_near : (y : ℤ) (left : ℕ) (canvas : List ℕ) → 0 < left → SpacedLeft y left canvas → Near wide_painted y
-  first_near y zero canvas some l = absurd (omega arith)
-  first_near y (suc n) canvas some l = l.near.0
+  more_near : (y : ℤ) (done : ℕ) (canvas : List ℕ) → done < count → SpacedLeft y done canvas
+      → Near wide_painted y × SpacedNear (y +ℤ pos step) step (count - (done + 1))
+  more_near y done canvas more l =
+      let fewer : count - done ≡ suc (count - (done + 1)) = omega arith in
+      subst (SpacedNear y step) fewer l.near
 
-  pub spaced_turn : (y : ℤ) (left : ℕ) (canvas next : List ℕ) → 0 < left → length next ≡ length canvas
-      → next ≡ paint_by (λ _. row) style W H y canvas → SpacedLeft y left canvas → SpacedLeft (y +ℤ pos step) (left - 1) next
+  one_spaced : (y : ℤ) (n m : ℕ) (canvas : List ℕ) → n ≡ suc m
+      → spaced_by row style W H y step n canvas
+      ≡ spaced_by row style W H (y +ℤ pos step) step m (paint_by (λ _. row) style W H y canvas)
   unfolding spaced_by
-  spaced_turn y zero canvas next some same is l = absurd (omega arith)
-  spaced_turn y (suc n) canvas next some same is l =
-      let fewer : n ≡ suc n - 1 = omega arith in
+  one_spaced y n m canvas is = rw is
+
+  pub spaced_turn : (y z : ℤ) (done : ℕ) (canvas next : List ℕ) → done < count → z ≡ y +ℤ pos step → length next ≡ length canvas
+      → next ≡ paint_by (λ _. row) style W H y canvas → SpacedLeft y done canvas → SpacedLeft z (done + 1) next
+  spaced_turn y z done canvas next more z_is same is l =
+      let fewer : count - done ≡ suc (count - (done + 1)) = omega arith in
       record {
         size = same ∙ l.size;
-        near = subst (λ (k : ℕ). SpacedNear (y +ℤ pos step) step k) fewer l.near.1;
-        rest = (λ i. spaced_by row style W H (y +ℤ pos step) step (sym fewer i) (is i)) ∙ l.rest;
+        near = rw z_is (more_near y done canvas more l).1;
+        rest =
+            (λ i. spaced_by row style W H (z_is i) step (count - (done + 1)) (is i))
+            ∙ sym (one_spaced y (count - done) (count - (done + 1)) canvas fewer)
+            ∙ l.rest;
       }
 
-  pub spaced_end : (y : ℤ) (left : ℕ) (canvas : List ℕ) → left ≤ 0 → SpacedLeft y left canvas
-      → canvas ≡ spaced_by row style W H first step count lent
+  no_spaced : (y : ℤ) (n : ℕ) (canvas : List ℕ) → n ≡ 0 → canvas ≡ spaced_by row style W H y step n canvas
   unfolding spaced_by
-  spaced_end y zero canvas done l = l.rest
-  spaced_end y (suc n) canvas done l = absurd (omega arith)
+  no_spaced y n canvas none = rw none
+
+  pub spaced_end : (y z : ℤ) (done : ℕ) (canvas : List ℕ) → count ≤ done → first ≡ z → SpacedLeft y done canvas
+      → canvas ≡ spaced_by row style W H z step count lent
+  spaced_end y z done canvas all z_is l =
+      no_spaced y (count - done) canvas (omega arith) ∙ l.rest
+      ∙ ap (λ (x : ℤ). spaced_by row style W H x step count lent) z_is
 
 -- ---- a turn over a symmetric box's rows
 rest_number : (count pairs dy : ℕ) → pairs ≤ dy → count - pairs - dy ≡ count - dy - min dy pairs
@@ -134,27 +147,29 @@ module _ (row_at : ℤ → StyledRow) (style : Style) (W H : ℕ) (first : ℤ) 
     (dy : ℕ) (canvas : List ℕ) (more : dy < count - pairs) (half : 2 * pairs ≤ count)
     (left : RowsBetween row_at style W H first count pairs lent dy canvas)
     (t : Turn) (at : TurnAt count pairs dy t) (row : StyledRow) (next : List ℕ) (same : length next ≡ length canvas)
-    (row_is : row ≡ row_at (first +ℤ pos dy)) (is : next ≡ spaced_by row style W H (first +ℤ pos dy) t.step
-    t.count canvas) where
-  pub turn_pair : dy < pairs → row_at (first +ℤ pos (count - 1 - dy)) ≡ row_at (first +ℤ pos dy)
+    (row_is : row ≡ row_at (first +ℤ pos dy)) (y : ℤ) (y_is : y ≡ first +ℤ pos dy)
+    (painted : next ≡ spaced_by row style W H y t.step t.count canvas) where
+  is : next ≡ spaced_by row style W H (first +ℤ pos dy) t.step t.count canvas
+  is = painted ∙ ap (λ (z : ℤ). spaced_by row style W H z t.step t.count canvas) y_is
+
+  turn_pair : dy < pairs → row_at (first +ℤ pos (count - 1 - dy)) ≡ row_at (first +ℤ pos dy)
       → RowsBetween row_at style W H first count pairs lent t.next next
   turn_pair pair alike =
       let far : first +ℤ pos dy +ℤ pos (count - 1 - 2 * dy) ≡ first +ℤ pos (count - 1 - dy) =
       further first dy (count - 1 - 2 * dy) ∙ ap (λ (n : ℕ). first +ℤ pos n) (omega arith) in
       subst (λ (n : ℕ). RowsBetween row_at style W H first count pairs lent n next) (sym (at.pair_next pair))
-      (between_turn row_at style W H first count pairs lent dy canvas more half left row next same row_is (λ _. alike)
+      (between_turn row_at style W H first count pairs lent dy canvas more half left _ _ row next same refl far row_is (λ _. ap row_at far ∙ alike)
       (is
       ∙ (λ i. spaced_by row style W H (first +ℤ pos dy) (at.pair_step pair i) (at.pair_count pair i) canvas)
       ∙ spaced_two row style W H (first +ℤ pos dy) (count - 1 - 2 * dy) canvas
-      ∙ ap (λ (z : ℤ). twice_by row style W H (first +ℤ pos dy) z (ltb 0 1) canvas) far
-      ∙ ap (λ (b : Bool). twice_by row style W H (first +ℤ pos dy) (first +ℤ pos (count - 1 - dy)) b canvas)
+      ∙ ap (λ (b : Bool). twice_by row style W H (first +ℤ pos dy) (first +ℤ pos dy +ℤ pos (count - 1 - 2 * dy)) b canvas)
       (sym (lt-ltb dy pairs pair))))
 
   none_left : (y : ℤ) (n : ℕ) → n ≡ 0 → rows_by row_at style W H y n next ≡ next
   unfolding rows_by
   none_left y n none = rw none
 
-  pub turn_rest : pairs ≤ dy → ((k : ℕ) → k < count - pairs - dy → row_at (first +ℤ pos dy +ℤ pos k) ≡ row_at (first +ℤ pos dy))
+  turn_rest : pairs ≤ dy → ((k : ℕ) → k < count - pairs - dy → row_at (first +ℤ pos dy +ℤ pos k) ≡ row_at (first +ℤ pos dy))
       → RowsBetween row_at style W H first count pairs lent t.next next
   turn_rest past alike =
       subst (λ (n : ℕ). RowsBetween row_at style W H first count pairs lent n next) (sym (at.rest_next past))
@@ -171,3 +186,8 @@ module _ (row_at : ℤ → StyledRow) (style : Style) (W H : ℕ) (first : ℤ) 
             ∙ ap (λ (n : ℕ). rows_by row_at style W H (first +ℤ pos dy) n canvas) (rest_number count pairs dy past)
             ∙ left.rest;
       })
+
+  pub turn_kept : row_at (first +ℤ pos (count - 1 - dy)) ≡ row_at (first +ℤ pos dy)
+      → (pairs ≤ dy → (k : ℕ) → k < count - pairs - dy → row_at (first +ℤ pos dy +ℤ pos k) ≡ row_at (first +ℤ pos dy))
+      → RowsBetween row_at style W H first count pairs lent t.next next
+  turn_kept mirrored alike = by_order dy pairs (λ pair. turn_pair pair mirrored) (λ past. turn_rest past (alike past))

@@ -1,8 +1,8 @@
 -- One styled row painted on rows of a canvas at equal distances, and which rows a turn of the loop paints.
 -- Assumes nothing.
+use Rattle.scanline.specs.Rows.{StyledRow}
 use Rattle.std.specs.Prelude.{◌≡◌, List, ℕ, zero, suc, ◌+◌, ◌-◌, ◌*◌, ◌<◌, ◌≤◌, ℤ, pos, ◌+ℤ◌}
 use Rattle.signed.specs.Signed.{Near}
-use Rattle.scanline.specs.declared.StyledRow.{StyledRow}
 use Rattle.style.specs.declared.Style.{Style}
 use Rattle.drawing.specs.Drawing.{paint_by}
 use Rattle.paint_rows.specs.Rows.{wide_painted}

@@ -18,10 +18,10 @@ ghost use Rattle.paint_boxes.specs.Whole.{WholeSymmetric};
 use canvas_size::CanvasSize;
 use ellipse_search::ANYWHERE;
 use ellipse_styled::EllipseHints;
-use scanline::StyledRow;
+use scanline::StyledRuns;
 use style::Style;
 use styled_box::StyledBox;
-use styled_symmetric::{SymmetricBox, Symmetry};
+use styled_symmetric::SymmetricBox;
 
 // The rows that a turn paints: how far from one to the next, how many, and the row of the next turn.
 #[derive(Clone, Copy)]
@@ -55,7 +55,7 @@ fn turn_at(height: u32, pairs: u32, dy: u32) -> Turn
 fn paint_spaced_rows(
     canvas: &mut [u8],
     size: CanvasSize,
-    row: StyledRow,
+    row: Option<StyledRuns>,
     style: Style,
     y: i32,
     step: u32,
@@ -67,11 +67,9 @@ fn paint_spaced_rows(
     ensures { canvas.new ≡ spaced_by row style size.width size.height y step count canvas.old }
 {
     let mut row_y = y;
-    let mut left = count;
-    while 0 < left {
+    for _ in 0..count {
         drawing::paint_row_on(canvas, size, row, style, row_y);
         row_y = signed::add(row_y, signed::from_u32(step));
-        left -= 1;
     }
 }
 
@@ -92,6 +90,7 @@ fn paint_symmetric_box(canvas: &mut [u8], size: CanvasSize, b: SymmetricBox, sty
     };
     let turns = sides.height - b.corner_rows;
     let mut dy: u32 = 0;
+    // A while: the turn says which row is next.
     while dy < turns {
         let row_y = signed::add(top_left.y, signed::from_u32(dy));
         let found = b.row(dy, hints);
@@ -104,7 +103,7 @@ fn paint_symmetric_box(canvas: &mut [u8], size: CanvasSize, b: SymmetricBox, sty
 }
 
 // The symmetric box, if it is one and the rows are all of its rows.
-fn whole_symmetric_box(b: StyledBox, y: i32, count: u32) -> Symmetry
+fn whole_symmetric_box(b: StyledBox, y: i32, count: u32) -> Option<SymmetricBox>
     requires { ReadyStyledBox b }
     ensures { WholeSymmetric b y count result }
 {
@@ -112,18 +111,15 @@ fn whole_symmetric_box(b: StyledBox, y: i32, count: u32) -> Symmetry
     let top_left = area.top_left;
     let sides = area.size;
     if y < top_left.y {
-        return Symmetry::Asymmetric;
+        return None;
     }
     if top_left.y < y {
-        return Symmetry::Asymmetric;
+        return None;
     }
     if count != sides.height {
-        return Symmetry::Asymmetric;
+        return None;
     }
-    let Symmetry::Symmetric(symmetric) = SymmetricBox::new(b) else {
-        return Symmetry::Asymmetric;
-    };
-    Symmetry::Symmetric(symmetric)
+    SymmetricBox::new(b)
 }
 
 // Paints so many rows of a box made ready, from row y on.
@@ -142,7 +138,7 @@ pub fn paint_box(
     ensures { canvas.new ≡ rows_by (box_styled_row (stroke_box b) (fill_box b)) style size.width size.height y count
         canvas.old }
 {
-    let Symmetry::Symmetric(symmetric) = whole_symmetric_box(b, y, count) else {
+    let Some(symmetric) = whole_symmetric_box(b, y, count) else {
         paint_rows::paint_box_rows(canvas, size, b, style, y, count);
         return;
     };

@@ -1,6 +1,8 @@
 -- Rows that the canvas lacks paint nothing: those above it can be left out at the start, those below it at the end. And a figure
 -- without rows paints nothing.
 -- Assumes nothing.
+use Rattle.scanline.specs.Rows.{StyledRow}
+use Rattle.std.specs.Prelude.{None, Option}
 use mathlib.Core.Path.{◌≡◌, refl, sym, ap, ◌∙◌}
 use mathlib.Core.Bool.{Bool, true, false}
 use mathlib.Core.List.{List}
@@ -12,8 +14,6 @@ use lib.IntN.{ℤ, pos, ◌+ℤ◌, ◌-ℤ◌}
 use lib.Signed.{le_z, lt_z}
 use Rattle.signed.specs.Signed.{floor0}
 use Rattle.signed.proofs.Laws.{int, add_law, sub_law}
-use Rattle.scanline.specs.declared.StyledRow.{StyledRow}
-use Rattle.scanline.specs.declared.StyledRow.TheVariants.{NoRow}
 use Rattle.style.specs.declared.Style.{Style}
 use Rattle.drawing.specs.declared.StrokeRows.{StrokeRows}
 use Rattle.drawing.specs.Drawing.{styled_figure, paint_by, drawing}
@@ -21,8 +21,12 @@ use Rattle.drawing.proofs.PaintRow.{paint_by_figure, paint_by_above, paint_by_be
 use Rattle.book.specs.Sheet.{paint_row}
 use Rattle.book.specs.Whole.{paint_rows, paint_whole}
 use Rattle.figure.specs.declared.Figure.{Figure}
-use Rattle.styled.specs.Styled.{styled_row}
-use Rattle.drawing.specs.Rows.{stroke_rows}
+use Rattle.shape.specs.declared.Shape.{Shape}
+use Rattle.styled.specs.Styled.{stroke_area, fill_area, styled_row}
+use Rattle.styled_row.specs.StyledRow.{styled_row_of_shapes}
+use Rattle.styled_scan.specs.declared.StyledShape.{StyledShape}
+use Rattle.styled_scan.specs.Ready.{row_of}
+use Rattle.drawing.specs.Rows.{rows_of_shape, stroke_rows}
 use Rattle.paint_rows.specs.Rows.{rows_by}
 use Rattle.paint_figures.specs.Rows.{rows_above, visible_rows}
 
@@ -97,27 +101,35 @@ module _ (row_at : ℤ → StyledRow) (style : Style) (W H : ℕ) where
       ∙ cut_to_room (rows.count - rows_above rows) (rows.first +ℤ pos (rows_above rows)) canvas)
 
   -- ---- a figure without rows
-  pub rows_lacking : ((y : ℤ) → row_at y ≡ NoRow) → (n : ℕ) (y : ℤ) (canvas : List ℕ) → canvas ≡ rows_by row_at style W H y n canvas
+  pub rows_lacking : ((y : ℤ) → row_at y ≡ None) → (n : ℕ) (y : ℤ) (canvas : List ℕ) → canvas ≡ rows_by row_at style W H y n canvas
   unfolding rows_by
   rows_lacking none zero y canvas = refl
   rows_lacking none (suc n) y canvas =
       rows_lacking none n (y +ℤ pos 1) canvas
       ∙ ap (rows_by row_at style W H (y +ℤ pos 1) n) (sym (paint_by_lacking row_at style W H canvas y (none y)))
 
--- ---- the visible rows of a figure make the whole of it
-module _ (row_at : ℤ → StyledRow) (f : Figure) (style : Style) (W H : ℕ) (is : (y : ℤ) → row_at y ≡ styled_row f style y) (rows : StrokeRows)
-    (rows_are : rows ≡ stroke_rows f style) (canvas : List ℕ) where
-  all_rows_whole : rows_by row_at style W H rows.first rows.count canvas ≡ paint_whole drawing W H (styled_figure f style) canvas
+-- ---- the visible rows of a figure made ready make the whole of it
+module _ (f : Figure) (style : Style) (W H : ℕ) (stroke fill : Shape) (stroke_is : stroke ≡ stroke_area f style)
+    (fill_is : fill ≡ fill_area f style) (made : Option StyledShape)
+    (made_is : (y : ℤ) → row_of made y ≡ styled_row_of_shapes stroke fill y)
+    (rows : StrokeRows) (rows_are : rows ≡ rows_of_shape stroke) (canvas : List ℕ) where
+  all_rows_whole : rows_by (row_of made) style W H rows.first rows.count canvas ≡ paint_whole drawing W H (styled_figure f style) canvas
+  unfolding stroke_rows
   all_rows_whole =
-      rows_by_figure row_at f style W H is rows.count rows.first canvas
-      ∙ ap (λ (r : StrokeRows). paint_rows drawing W H (styled_figure f style) r.first r.count canvas) rows_are
+      rows_by_figure (row_of made) f style W H (λ y. made_is y ∙ (λ i. styled_row_of_shapes (stroke_is i) (fill_is i) y))
+      rows.count rows.first canvas
+      ∙ ap (λ (r : StrokeRows). paint_rows drawing W H (styled_figure f style) r.first r.count canvas)
+      (rows_are ∙ ap rows_of_shape stroke_is)
 
-  pub visible_rows_whole : (seen : StrokeRows) → seen ≡ visible_rows rows H
-      → rows_by row_at style W H seen.first seen.count canvas ≡ paint_whole drawing W H (styled_figure f style) canvas
-  visible_rows_whole seen seen_are =
-      ap (λ (r : StrokeRows). rows_by row_at style W H r.first r.count canvas) seen_are
-      ∙ visible_rows_lem row_at style W H rows canvas
+  pub visible_rows_whole : (shape : Option StyledShape) (seen : StrokeRows) (y : ℤ) → made ≡ shape → seen ≡ visible_rows rows H
+      → y ≡ seen.first → rows_by (row_of shape) style W H y seen.count canvas ≡ paint_whole drawing W H (styled_figure f style) canvas
+  visible_rows_whole shape seen y shape_is seen_are y_is =
+      (λ i. rows_by (row_of (sym shape_is i)) style W H (y_is i) seen.count canvas)
+      ∙ ap (λ (r : StrokeRows). rows_by (row_of made) style W H r.first r.count canvas) seen_are
+      ∙ visible_rows_lem (row_of made) style W H rows canvas
       ∙ all_rows_whole
 
-  pub lacking_whole : ((y : ℤ) → row_at y ≡ NoRow) → canvas ≡ paint_whole drawing W H (styled_figure f style) canvas
-  lacking_whole none = rows_lacking row_at style W H none rows.count rows.first canvas ∙ all_rows_whole
+  pub lacking_whole : made ≡ None → canvas ≡ paint_whole drawing W H (styled_figure f style) canvas
+  lacking_whole none =
+      rows_lacking (row_of made) style W H (λ y. ap (λ (s : Option StyledShape). row_of s y) none) rows.count rows.first canvas
+      ∙ all_rows_whole

@@ -74,12 +74,12 @@ pub fn paint_whole(canvas: &mut [u8], size: CanvasSize, figure: Figure, style: S
     let fill = styled_areas::fill_shape(figure, style);
     let seen = visible(shape_rows(stroke), size.height);
     match StyledShape::new(stroke, fill) {
-        StyledShape::Ellipse(ellipse) => {
+        Some(StyledShape::Ellipse(ellipse)) => {
             paint_rows::paint_ellipse(canvas, size, ellipse, style, seen.first, seen.count)
         }
-        StyledShape::RoundedBox(b) => {
+        Some(StyledShape::RoundedBox(b)) => {
             paint_boxes::paint_box(canvas, size, b, style, seen.first, seen.count)
         }
-        StyledShape::Neither => {}
+        None => {}
     }
 }

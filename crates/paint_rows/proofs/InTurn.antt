@@ -1,26 +1,17 @@
 -- Rows painted one after another: in parts, alike, and the loop that does it.
 -- Assumes nothing.
+use Rattle.scanline.specs.Rows.{StyledRow}
 use mathlib.Core.Path.{◌≡◌, refl, sym, ap, ◌∙◌}
 use mathlib.Core.List.{List}
 use Prim.Native.Nat.{ℕ, zero, suc, ◌+◌, ◌-◌, ◌*◌, ◌<◌, ◌≤◌}
 use native.Mathlib.Omega.{arith}
 use lib.IntN.{ℤ, pos, ◌+ℤ◌}
 use lib.ListN.{length}
-use Rattle.signed.specs.Signed.{Near}
 use Rattle.signed.proofs.Laws.{int, add_law}
-use Rattle.geometry.specs.Bounds.{wide_point}
-use Rattle.scanline.specs.declared.StyledRow.{StyledRow}
 use Rattle.style.specs.declared.Style.{Style}
 use Rattle.drawing.specs.Drawing.{paint_by}
 use Rattle.drawing.proofs.PaintRow.{paint_by_row}
-use Rattle.paint_rows.specs.Rows.{wide_painted, rows_by}
-
--- a row painted is near enough to be asked for
-pub painted_near : {y : ℤ} → Near wide_painted y → Near wide_point y
-painted_near near =
-    let high = near.above in
-    let low = near.below in
-    record { above = omega arith; below = omega arith; fits = near.fits }
+use Rattle.paint_rows.specs.Rows.{rows_by}
 
 -- ---- rows in two parts, and rows that are alike
 module _ (row_at : ℤ → StyledRow) (style : Style) (W H : ℕ) where
@@ -59,12 +50,6 @@ module _ (row_at : ℤ → StyledRow) (style : Style) (W H : ℕ) (first : ℤ) 
     pub size : length canvas ≡ W * H
     pub rest : rows_by row_at style W H (first +ℤ pos dy) (count - dy) canvas ≡ rows_by row_at style W H first count lent
 
-  pub rows_start : length lent ≡ W * H → RowsLeft 0 lent
-  rows_start size =
-      let top : first +ℤ pos 0 ≡ first = omega (arith, int, add_law first (pos 0)) in
-      let all : count - 0 ≡ count = omega arith in
-      record { within = omega arith; size = size; rest = λ i. rows_by row_at style W H (top i) (all i) lent }
-
   next_row : (dy : ℕ) → first +ℤ pos (dy + 1) ≡ first +ℤ pos dy +ℤ pos 1
   next_row dy =
       omega (arith, int, add_law first (pos (dy + 1)), add_law first (pos dy), add_law (first +ℤ pos dy) (pos 1))
@@ -74,30 +59,34 @@ module _ (row_at : ℤ → StyledRow) (style : Style) (W H : ℕ) (first : ℤ) 
   unfolding rows_by
   one_row y n m canvas is = rw is
 
-  pub rows_turn : (dy : ℕ) (canvas next : List ℕ) → dy < count → length next ≡ length canvas
-      → next ≡ paint_by row_at style W H (first +ℤ pos dy) canvas → RowsLeft dy canvas → RowsLeft (dy + 1) next
-  rows_turn dy canvas next more same is left =
+  pub rows_turn : (dy : ℕ) (y : ℤ) (canvas next : List ℕ) → dy < count → y ≡ first +ℤ pos dy → length next ≡ length canvas
+      → next ≡ paint_by row_at style W H y canvas → RowsLeft dy canvas → RowsLeft (dy + 1) next
+  rows_turn dy y canvas next more y_is same is left =
       let fewer : count - dy ≡ suc (count - (dy + 1)) = omega arith in
       record {
         within = omega arith;
         size = same ∙ left.size;
         rest =
             (λ i. rows_by row_at style W H (next_row dy i) (count - (dy + 1)) (is i))
+            ∙ ap (λ (z : ℤ). rows_by row_at style W H (first +ℤ pos dy +ℤ pos 1) (count - (dy + 1)) (paint_by row_at style W H z canvas)) y_is
             ∙ sym (one_row (first +ℤ pos dy) (count - dy) (count - (dy + 1)) canvas fewer)
             ∙ left.rest;
       }
 
-  -- several rows in one turn
-  pub rows_turns : (dy n : ℕ) (canvas next : List ℕ) → dy < count → n ≤ count - dy → length next ≡ length canvas
-      → next ≡ rows_by row_at style W H (first +ℤ pos dy) n canvas → RowsLeft dy canvas → RowsLeft (dy + n) next
-  rows_turns dy n canvas next more few same is left =
+  -- several rows in one turn, all of them alike
+  pub rows_turns : (dy n : ℕ) (y : ℤ) (row : StyledRow) (canvas next : List ℕ) → dy < count → n ≤ count - dy
+      → y ≡ first +ℤ pos dy → length next ≡ length canvas → row ≡ row_at y → ((k : ℕ) → k < n → row_at (y +ℤ pos k) ≡ row_at y)
+      → next ≡ rows_by (λ _. row) style W H y n canvas → RowsLeft dy canvas → RowsLeft (dy + n) next
+  rows_turns dy n y row canvas next more few y_is same row_is alike is left =
       let further : first +ℤ pos (dy + n) ≡ first +ℤ pos dy +ℤ pos n =
       omega (arith, int, add_law first (pos (dy + n)), add_law first (pos dy), add_law (first +ℤ pos dy) (pos n)) in
       record {
         within = omega arith;
         size = same ∙ left.size;
         rest =
-            (λ i. rows_by row_at style W H (further i) (count - (dy + n)) (is i))
+            (λ i. rows_by row_at style W H (further i) (count - (dy + n))
+            ((is ∙ rows_by_alike row_at style W H row n y canvas (λ k l. alike k l ∙ sym row_is)
+            ∙ ap (λ (z : ℤ). rows_by row_at style W H z n canvas) y_is) i))
             ∙ rows_by_parts row_at style W H n (count - (dy + n)) (count - dy) (first +ℤ pos dy) canvas (omega arith)
             ∙ left.rest;
       }
@@ -106,6 +95,8 @@ module _ (row_at : ℤ → StyledRow) (style : Style) (W H : ℕ) (first : ℤ) 
   unfolding rows_by
   no_row y n canvas none = rw none
 
-  pub rows_end : (dy : ℕ) (canvas : List ℕ) → count ≤ dy → RowsLeft dy canvas → canvas ≡ rows_by row_at style W H first count lent
-  rows_end dy canvas done left =
+  pub rows_end : (dy : ℕ) (y : ℤ) (canvas : List ℕ) → count ≤ dy → first ≡ y → RowsLeft dy canvas
+      → canvas ≡ rows_by row_at style W H y count lent
+  rows_end dy y canvas done y_is left =
       no_row (first +ℤ pos dy) (count - dy) canvas (omega arith) ∙ left.rest
+      ∙ ap (λ (z : ℤ). rows_by row_at style W H z count lent) y_is

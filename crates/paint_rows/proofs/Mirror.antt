@@ -1,5 +1,8 @@
 -- The lower half of an ellipse's rows mirrors the upper half; and rows may be painted in any order, since each sets bytes of its own.
 -- Assumes nothing.
+use Rattle.refusal.specs.Refusal.{passed}
+use Rattle.scanline.specs.Rows.{StyledRow}
+use Rattle.std.specs.Prelude.{Some, None}
 use mathlib.Core.Path.{◌≡◌, refl, sym, ap, ◌∙◌}
 use mathlib.Core.Bool.{Bool, true, false, cond, ◌&&◌}
 use mathlib.Core.List.{List}
@@ -13,11 +16,7 @@ use lib.Signed.{le_z}
 use Rattle.signed.proofs.Laws.{int, add_law}
 use Rattle.geometry.specs.declared.Size.{Size}
 use Rattle.rectangle.specs.declared.Rectangle.{Rectangle}
-use Rattle.scanline.specs.declared.StyledRow.{StyledRow}
-use Rattle.scanline.specs.declared.StyledRow.TheVariants.{Runs}
-use Rattle.scanline.specs.declared.Place.{Place}
-use Rattle.scanline.specs.declared.Place.TheVariants.{At, Nowhere}
-use Rattle.scanline.specs.Places.{find_from}
+use Rattle.scanline.specs.Places.{find_from, Place}
 use Rattle.ellipse.specs.Relative.{gap, contains_of}
 use Rattle.ellipse_search.specs.Search.{column_inside}
 use Rattle.ellipse_rows.specs.Relative.{first_inside, first_row_inside}
@@ -25,7 +24,6 @@ use Rattle.ellipse_styled.specs.EllipseStyled.{ellipse_styled_row}
 use Rattle.ellipse_styled.specs.Relative.{runs_from}
 use Rattle.ellipse_styled.proofs.Rows.{styled_lacking, styled_none, styled_found}
 use Rattle.style.specs.declared.Style.{Style}
-use Rattle.refusal.specs.declared.Checked.TheVariants.{Passed}
 use Rattle.book.specs.Book.{Drawing}
 use Rattle.book.specs.Canvas.{canvas_row}
 use Rattle.book.proofs.CanvasRows.{canvases_equal_by_rows}
@@ -34,7 +32,7 @@ use Rattle.canvas.specs.Canvas.{overpaint}
 use Rattle.canvas.proofs.Overpaint.{overpaint_length}
 use Rattle.drawing.specs.Drawing.{paint_by}
 use Rattle.drawing.proofs.PaintRow.{paint_by_row}
-use Rattle.paint_rows.specs.Rows.{twice_by, rows_by}
+use Rattle.paint_rows.specs.Rows.{twice_by, rows_by, Mirrored}
 use Rattle.paint_rows.proofs.InTurn.{rows_by_parts}
 
 -- ---- rows that mirror each other
@@ -59,12 +57,12 @@ module _ (area : Rectangle) (sides : Size) where
     where
       found : (p : Place) → first_inside w h dy ≡ p → first_row_inside w h ≡ true
           → ellipse_styled_row area sides (top +ℤ pos dy) ≡ ellipse_styled_row area sides (top +ℤ pos ey)
-      found (At s) is there =
+      found (Some s) is there =
           sym (styled_found area sides (top +ℤ pos dy) dy (refl, dh) there s is)
-          ∙ ap (λ (g : ℕ). Runs (runs_from area.top_left.x w s
+          ∙ ap (λ (g : ℕ). Some (runs_from area.top_left.x w s
           (find_from (column_inside (contains_of sides.width sides.height) w g) (w - 2 * s) s))) same
           ∙ styled_found area sides (top +ℤ pos ey) ey (refl, eh) there s (sym (first_by_gap dy ey same) ∙ is)
-      found Nowhere is there =
+      found None is there =
           sym (styled_none area sides (top +ℤ pos dy) dy (refl, dh) there is)
           ∙ styled_none area sides (top +ℤ pos ey) ey (refl, eh) there (sym (first_by_gap dy ey same) ∙ is)
 
@@ -77,10 +75,14 @@ module _ (area : Rectangle) (sides : Size) where
       → ellipse_styled_row area sides (top +ℤ pos (h - 1 - dy)) ≡ ellipse_styled_row area sides (top +ℤ pos dy)
   row_mirrored dy l = row_by_gap (h - 1 - dy) dy (omega arith) l (omega arith)
 
-  -- the same from the area's top, for all of its rows
-  pub row_mirrored_from : (y : ℤ) (count dy : ℕ) → y ≡ top → count ≡ h → dy < count
-      → ellipse_styled_row area sides (y +ℤ pos (count - 1 - dy)) ≡ ellipse_styled_row area sides (y +ℤ pos dy)
-  row_mirrored_from y count dy at all l = rw (at, all) (row_mirrored dy (omega (arith, all)))
+  -- the same of a pair of rows, where they are all of the area's
+  pub row_mirrored_from : (first y z : ℤ) (count pairs dy : ℕ) → Mirrored area first count pairs → y ≡ first +ℤ pos dy
+      → z ≡ first +ℤ pos (count - 1 - dy) → dy < pairs → ellipse_styled_row area sides z ≡ ellipse_styled_row area sides y
+  row_mirrored_from first y z count pairs dy m y_is z_is pair =
+      let at = m.from_top (omega arith) in
+      let all = m.all_rows (omega arith) in
+      let half = m.half in
+      rw (y_is, z_is, at, all) (row_mirrored dy (omega (arith, all, half)))
 
 -- ---- rows in another order
 module _ (row_at : ℤ → StyledRow) (style : Style) (W H : ℕ) where
@@ -89,7 +91,7 @@ module _ (row_at : ℤ → StyledRow) (style : Style) (W H : ℕ) where
   one =
       record {
         Item = ℕ;
-        refuse = λ _. Passed;
+        refuse = λ _. passed;
         first = λ _. pos 0;
         rows = λ _. 0;
         over = λ _ y row. overpaint style (row_at y) row;
@@ -197,12 +199,6 @@ module _ (row_at : ℤ → StyledRow) (style : Style) (W H : ℕ) (first : ℤ) 
     pub size : length canvas ≡ W * H
     pub rest : rows_by row_at style W H (first +ℤ pos dy) (count - dy - min dy pairs) canvas ≡ rows_by row_at style W H first count lent
 
-  pub between_start : length lent ≡ W * H → RowsBetween 0 lent
-  between_start size =
-      let top : first +ℤ pos 0 ≡ first = omega (arith, int, add_law first (pos 0)) in
-      let all : count - 0 - min 0 pairs ≡ count = omega arith in
-      record { within = omega arith; size = size; rest = λ i. rows_by row_at style W H (top i) (all i) lent }
-
   further : (dy : ℕ) → first +ℤ pos (dy + 1) ≡ first +ℤ pos dy +ℤ pos 1
   further dy = omega (arith, int, add_law first (pos (dy + 1)), add_law first (pos dy), add_law (first +ℤ pos dy) (pos 1))
 
@@ -232,31 +228,34 @@ module _ (row_at : ℤ → StyledRow) (style : Style) (W H : ℕ) (first : ℤ) 
         ∙ rows_by_parts row_at style W H 1 n (count - dy - min dy pairs) (first +ℤ pos dy) canvas (fewer_by_one count pairs dy past more)
         ∙ left.rest
 
-    pub between_turn : (row : StyledRow) (next : List ℕ) → length next ≡ length canvas → row ≡ row_at (first +ℤ pos dy)
-        → (dy < pairs → row_at (first +ℤ pos (count - 1 - dy)) ≡ row_at (first +ℤ pos dy))
-        → next ≡ twice_by row style W H (first +ℤ pos dy) (first +ℤ pos (count - 1 - dy)) (ltb dy pairs) canvas → RowsBetween (dy + 1) next
-    between_turn row next same row_is alike is =
+    pub between_turn : (y z : ℤ) (row : StyledRow) (next : List ℕ) → length next ≡ length canvas → y ≡ first +ℤ pos dy
+        → z ≡ first +ℤ pos (count - 1 - dy) → row ≡ row_at y → (dy < pairs → row_at z ≡ row_at y)
+        → next ≡ twice_by row style W H y z (ltb dy pairs) canvas → RowsBetween (dy + 1) next
+    between_turn y z row next same y_is z_is row_is alike is =
         record { within = omega arith; size = same ∙ left.size; rest = by_test (ltb dy pairs) refl is }
       where
-        by_test : (t : Bool) → ltb dy pairs ≡ t → next ≡ twice_by row style W H (first +ℤ pos dy) (first +ℤ pos (count - 1 - dy)) t canvas
+        by_test : (t : Bool) → ltb dy pairs ≡ t → next ≡ twice_by row style W H y z t canvas
             → rows_by row_at style W H (first +ℤ pos (dy + 1)) n next ≡ rows_by row_at style W H first count lent
         by_test true e two =
             let pair = ltb-true dy pairs e in
             ap (rows_by row_at style W H (first +ℤ pos (dy + 1)) n)
             (two
             ∙ paint_by_row row_at style W H _ row _ (row_is ∙ sym (alike pair))
-            ∙ ap (paint_by row_at style W H (first +ℤ pos (count - 1 - dy))) (paint_by_row row_at style W H canvas row _ row_is))
+            ∙ ap (paint_by row_at style W H z) (paint_by_row row_at style W H canvas row _ row_is)
+            ∙ (λ i. paint_by row_at style W H (z_is i) (paint_by row_at style W H (y_is i) canvas)))
             ∙ rest_by_two pair
         by_test false e one =
-            ap (rows_by row_at style W H (first +ℤ pos (dy + 1)) n) (one ∙ paint_by_row row_at style W H canvas row _ row_is)
+            ap (rows_by row_at style W H (first +ℤ pos (dy + 1)) n)
+            (one ∙ paint_by_row row_at style W H canvas row _ row_is ∙ ap (λ (z : ℤ). paint_by row_at style W H z canvas) y_is)
             ∙ rest_by_one (ltb-false dy pairs e)
 
   no_row : (y : ℤ) (n : ℕ) (canvas : List ℕ) → n ≡ 0 → canvas ≡ rows_by row_at style W H y n canvas
   unfolding rows_by
   no_row y n canvas none = rw none
 
-  pub between_end : (dy : ℕ) (canvas : List ℕ) → count - pairs ≤ dy → 2 * pairs ≤ count → RowsBetween dy canvas → canvas
-      ≡ rows_by row_at style W H first count lent
-  between_end dy canvas done half left =
+  pub between_end : (dy : ℕ) (y : ℤ) (canvas : List ℕ) → count - pairs ≤ dy → 2 * pairs ≤ count → first ≡ y → RowsBetween dy canvas
+      → canvas ≡ rows_by row_at style W H y count lent
+  between_end dy y canvas done half y_is left =
       let within = left.within in
       no_row (first +ℤ pos dy) (count - dy - min dy pairs) canvas (omega (arith, within)) ∙ left.rest
+      ∙ ap (λ (z : ℤ). rows_by row_at style W H z count lent) y_is

@@ -1,8 +1,8 @@
 -- Rows painted one after another, as the code does it: `paint_figures` and `paint` equate it with `painted`.
 -- Assumes nothing.
+use Rattle.scanline.specs.Rows.{StyledRow}
 use Rattle.std.specs.Prelude.{◌≡◌, Bool, cond, List, ℕ, zero, suc, ◌+◌, ◌*◌, ◌≤◌, ◌<◌, ℤ, pos, ◌+ℤ◌}
 use Rattle.rectangle.specs.declared.Rectangle.{Rectangle}
-use Rattle.scanline.specs.declared.StyledRow.{StyledRow}
 use Rattle.corner.specs.Bounds.{wide_stroke_side}
 use Rattle.figure.specs.Bounds.{wide_area_position}
 use Rattle.style.specs.declared.Style.{Style}

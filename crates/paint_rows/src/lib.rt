@@ -17,7 +17,7 @@ ghost use Rattle.paint_rows.specs.Rows.{wide_painted, twice_by, rows_by, Mirrore
 use canvas_size::CanvasSize;
 use ellipse_search::ANYWHERE;
 use ellipse_styled::{EllipseHints, StyledEllipse};
-use scanline::StyledRow;
+use scanline::StyledRuns;
 use style::Style;
 use styled_box::{RowHints, StyledBox};
 
@@ -45,7 +45,7 @@ fn mirrored_pairs(ellipse: StyledEllipse, y: i32, count: u32) -> u32
 fn paint_twice(
     canvas: &mut [u8],
     size: CanvasSize,
-    row: StyledRow,
+    row: Option<StyledRuns>,
     style: Style,
     y: i32,
     other: i32,
@@ -87,8 +87,7 @@ pub fn paint_ellipse(
         fill: ANYWHERE,
     };
     let turns = count - pairs;
-    let mut dy: u32 = 0;
-    while dy < turns {
+    for dy in 0..turns {
         let row_y = signed::add(y, signed::from_u32(dy));
         let mirrored_y = signed::add(y, signed::from_u32(count - 1 - dy));
         let found = ellipse.row(row_y, hints);
@@ -96,7 +95,6 @@ pub fn paint_ellipse(
         let twice = dy < pairs;
         paint_twice(canvas, size, row, style, row_y, mirrored_y, twice);
         hints = found.hints;
-        dy += 1;
     }
 }
 
@@ -104,7 +102,7 @@ pub fn paint_ellipse(
 fn paint_alike_rows(
     canvas: &mut [u8],
     size: CanvasSize,
-    row: StyledRow,
+    row: Option<StyledRuns>,
     style: Style,
     y: i32,
     count: u32,
@@ -114,11 +112,9 @@ fn paint_alike_rows(
     requires near { Near wide_painted y × (count ≤ wide_stroke_side) }
     ensures { canvas.new ≡ rows_by (λ _. row) style size.width size.height y count canvas.old }
 {
-    let mut dy: u32 = 0;
-    while dy < count {
+    for dy in 0..count {
         let row_y = signed::add(y, signed::from_u32(dy));
         drawing::paint_row_on(canvas, size, row, style, row_y);
-        dy += 1;
     }
 }
 
@@ -140,6 +136,7 @@ pub fn paint_box_rows(
 {
     let mut hints = RowHints::none();
     let mut dy: u32 = 0;
+    // A while: a turn paints as many rows as are alike.
     while dy < count {
         let row_y = signed::add(y, signed::from_u32(dy));
         let found = b.row(row_y, hints);

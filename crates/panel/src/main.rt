@@ -6,8 +6,6 @@
 
 ghost use Rattle.std.specs.Prelude.{◌≤◌, length, IfOk};
 
-use netpbm::WriteAnswer;
-use netpbm_read::ReadAnswer;
 use std::io::{self, Read, Write};
 
 const WIDTH: u32 = 232;
@@ -33,6 +31,7 @@ fn read_file<R: Read>(input: &mut R, file: &mut [u8]) -> io::Result<usize>
     ensures { IfOk result (λ n. n ≤ length file.new) }
 {
     let mut count: usize = 0;
+    // A while: the steps are not of one, each goes past the bytes that were read.
     while count < file.len() {
         let read = input.read(&mut file[count..])?;
         if read == 0 {
@@ -46,7 +45,7 @@ fn read_file<R: Read>(input: &mut R, file: &mut [u8]) -> io::Result<usize>
 // Writes the page as P4.
 fn write_page<W: Write>(out: &mut W, canvas: &[u8; 27840]) -> io::Result<()> {
     let mut page = [0u8; 3491];
-    let WriteAnswer::Written(_) = netpbm::write_p4(WIDTH, HEIGHT, canvas, &mut page) else {
+    let Ok(_) = netpbm::write_p4(WIDTH, HEIGHT, canvas, &mut page) else {
         return Ok(());
     };
     out.write_all(&page)
@@ -56,7 +55,7 @@ fn main(rt: HostRuntime) -> io::Result<()> {
     let mut file = [0u8; 33792];
     let mut canvas = [0u8; 27840];
     let count = read_file(&mut rt.reader(), &mut file)?;
-    let ReadAnswer::Read(size) = netpbm::read(&file[..count], &mut canvas) else {
+    let Ok(size) = netpbm::read(&file[..count], &mut canvas) else {
         return Ok(());
     };
     // The canvas has as many pixels as the page, so the width tells the height.

@@ -1,5 +1,6 @@
 -- What a passed check of a rectangle says, and what a refused centre does.
 -- Assumes nothing.
+use Rattle.std.specs.Prelude.{Ok, Err}
 use mathlib.Core.Path.{◌≡◌, refl}
 use mathlib.Core.Bool.{Bool, true, false}
 use Prim.Native.Nat.{ℕ, ◌+◌, ◌≤◌}
@@ -10,8 +11,6 @@ use Rattle.signed.specs.Signed.{Near}
 use Rattle.signed.proofs.Laws.{sub_law, magnitude_law}
 use Rattle.refusal.specs.declared.Refusal.{Refusal}
 use Rattle.refusal.specs.declared.Refusal.TheVariants.{Position}
-use Rattle.refusal.specs.declared.Checked.{Checked}
-use Rattle.refusal.specs.declared.Checked.TheVariants.{Passed, Refused}
 use Rattle.refusal.specs.Refusal.{refuse_if, or_else, beyond}
 use Rattle.refusal.proofs.Checks.{passed_first, passed_next}
 use Rattle.geometry.specs.declared.Point.{Point}
@@ -25,7 +24,7 @@ use Rattle.rectangle.specs.Bounds.{Bounded}
 use Rattle.rectangle.specs.Rectangle.{center_term, with_center}
 use Rattle.rectangle.specs.Calls.{rectangle_check}
 
-pub rectangle_bounded : (r : Rectangle) → rectangle_check r ≡ Passed → Bounded r
+pub rectangle_bounded : {u : Unit {0}} (r : Rectangle) → rectangle_check r ≡ Ok u → Bounded r
 unfolding rectangle_check
 rectangle_bounded r e =
     let size = size_passed r.size (passed_first _ _ e) in
@@ -39,8 +38,8 @@ rectangle_bounded r e =
     wider n = record { above = let h = n.above in omega arith; below = let h = n.below in omega arith; fits = n.fits }
 
 -- about a centre that does not pass, every rectangle within the limit of its sides is out of position
-pub center_refused : (c : Point) (s : Size) (refusal : Refusal) → SizeUpTo max_side s → center_check c ≡ Refused refusal
-    → position_check (with_center c s).top_left ≡ Refused refusal
+pub center_refused : (c : Point) (s : Size) (refusal : Refusal) → SizeUpTo max_side s → center_check c ≡ Err refusal
+    → position_check (with_center c s).top_left ≡ Err refusal
 unfolding center_check position_check with_center
 center_refused c s refusal small e = either_axis _ _ _ _ (far c.x s.width small.width) (far c.y s.height small.height) e
   where
@@ -52,19 +51,9 @@ center_refused c s refusal small e = either_axis _ _ _ _ (far c.x s.width small.
         (omega (arith, ltb-true (max_position + max_side) (nat_abs z) t, magnitude_law z, magnitude_law d, sub_law z (pos (center_term side))))
 
     either_axis : (a b a' b' : Bool) → (a ≡ true → a' ≡ true) → (b ≡ true → b' ≡ true)
-        → or_else (refuse_if a Position) (refuse_if b Position) ≡ Refused refusal
-        → or_else (refuse_if a' Position) (refuse_if b' Position) ≡ Refused refusal
+        → or_else (refuse_if a Position) (refuse_if b Position) ≡ Err refusal
+        → or_else (refuse_if a' Position) (refuse_if b' Position) ≡ Err refusal
     either_axis true b a' b' f g e = rw (f refl) e
     either_axis false true true b' f g e = e
     either_axis false true false b' f g e = rw (g refl) e
     either_axis false false a' b' f g e = let z : ◌≡◌ {A = ℕ} 0 1 = cc in absurd (omega arith)
-
--- so the check of size and centre refuses by the number of the rectangle that would be made
-pub with_center_refused : (c : Point) (s : Size) (refusal : Refusal) → or_else (size_check s) (center_check c) ≡ Refused refusal
-    → or_else (size_check s) (position_check (with_center c s).top_left) ≡ Refused refusal
-with_center_refused c s refusal e = by_size (size_check s) refl e
-  where
-    by_size : (check : Checked) → size_check s ≡ check → or_else check (center_check c) ≡ Refused refusal
-        → or_else check (position_check (with_center c s).top_left) ≡ Refused refusal
-    by_size (Refused other) is e = e
-    by_size Passed is e = center_refused c s refusal (size_passed s is) e

@@ -1,22 +1,14 @@
 -- What the calls on rectangles promise: the lowest of the refusals 1, 3 and 5 that applies, else the values of `Rectangle`.
 -- Assumes nothing.
-use Rattle.std.specs.Prelude.{List, [], ◌∷◌, ℤ, pos}
+use Rattle.std.specs.Prelude.{List, [], ◌∷◌, ℤ, pos, Result}
 use Rattle.geometry.specs.declared.Point.{Point}
 use Rattle.geometry.specs.declared.Size.{Size}
 use Rattle.geometry_range.specs.declared.Range.{Range}
 use Rattle.rectangle.specs.declared.Rectangle.{Rectangle}
-use Rattle.rectangle.specs.declared.PointAnswer.{PointAnswer}
-use Rattle.rectangle.specs.declared.PointAnswer.TheVariants as point_answer_cases
-use Rattle.rectangle.specs.declared.RangeAnswer.{RangeAnswer}
-use Rattle.rectangle.specs.declared.RangeAnswer.TheVariants as range_answer_cases
-use Rattle.rectangle.specs.declared.RectangleAnswer.{RectangleAnswer}
-use Rattle.rectangle.specs.declared.RectangleAnswer.TheVariants as rectangle_answer_cases
-use Rattle.refusal.specs.declared.Checked.{Checked}
 use Rattle.geometry.specs.Checks.{size_check, position_check, offset_check}
 use Rattle.rectangle.specs.Rectangle.{center, with_center, rows, columns, offset}
 use Rattle.refusal.specs.declared.Refusal.{Refusal}
-use Rattle.refusal.specs.declared.Refusal.TheVariants.{Side}
-use Rattle.refusal.specs.Refusal.{number, or_else, Outcome, refused, answered, unless}
+use Rattle.refusal.specs.Refusal.{Checked, or_else, Outcome, outcome, unless}
 
 -- a point's x and y
 abbrev pub point_values : Point → List ℤ
@@ -31,22 +23,14 @@ abbrev pub rectangle_values : Rectangle → List ℤ
 rectangle_values r = r.top_left.x ∷ r.top_left.y ∷ pos r.size.width ∷ pos r.size.height ∷ []
 
 -- what each answer says
-abbrev pub point_outcome : PointAnswer → Outcome
-point_outcome (point_answer_cases.Refused refusal) = refused (number refusal)
-point_outcome (point_answer_cases.Answered p) = answered (point_values p)
+abbrev pub point_outcome : Result Point Refusal → Outcome
+point_outcome = outcome point_values
 
-abbrev pub range_outcome : RangeAnswer → Outcome
-range_outcome (range_answer_cases.Refused refusal) = refused (number refusal)
-range_outcome (range_answer_cases.Answered r) = answered (range_values r)
+abbrev pub range_outcome : Result Range Refusal → Outcome
+range_outcome = outcome range_values
 
-abbrev pub rectangle_outcome : RectangleAnswer → Outcome
-rectangle_outcome (rectangle_answer_cases.Refused refusal) = refused (number refusal)
-rectangle_outcome (rectangle_answer_cases.Answered r) = answered (rectangle_values r)
-
--- the refusal of an answer; of one that has a rectangle nobody asks for it
-abbrev pub rectangle_refusal : RectangleAnswer → Refusal
-rectangle_refusal (rectangle_answer_cases.Refused refusal) = refusal
-rectangle_refusal (rectangle_answer_cases.Answered r) = Side
+abbrev pub rectangle_outcome : Result Rectangle Refusal → Outcome
+rectangle_outcome = outcome rectangle_values
 
 -- 1 and 3 of a rectangle
 unfoldable pub rectangle_check : Rectangle → Checked

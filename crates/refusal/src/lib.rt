@@ -3,7 +3,7 @@
 #![tactic(auto)]
 
 ghost use Rattle.std.specs.Prelude.{◌≡◌};
-ghost use Rattle.refusal.specs.Refusal.{number as refusal_number, refusal_of, refuse_if, or_else, above, beyond, room_check};
+ghost use Rattle.refusal.specs.Refusal.{number as refusal_number, refuse_if, above, beyond, room_check};
 
 #[derive(Clone, Copy)]
 pub enum Refusal {
@@ -64,44 +64,14 @@ impl Refusal {
     }
 }
 
-// What a check finds; and what a call that gives no values answers: `Passed` where it is accepted.
-#[derive(Clone, Copy)]
-pub enum Checked {
-    Passed,
-    Refused(Refusal),
-}
-
-impl Checked {
-    // The refusal found. A call asks for it where its check has not passed, to return it early.
-    pub fn refusal(self) -> Refusal
-        ensures { result ≡ refusal_of self }
-    {
-        match self {
-            Checked::Refused(refusal) => refusal,
-            Checked::Passed => Refusal::Side,
-        }
-    }
-
-    // The first refusal of this check and the next.
-    pub fn or_else(self, next: Checked) -> Checked
-        ensures { result ≡ or_else self next }
-    {
-        match self {
-            Checked::Refused(refusal) => Checked::Refused(refusal),
-            Checked::Passed => next,
-        }
-    }
-}
+// What a check finds; and what a call that gives no values answers: `Ok` where it is accepted.
+pub type Checked = Result<(), Refusal>;
 
 // Refuses a number above a limit.
 pub fn refuse_above(limit: u32, value: u32, refusal: Refusal) -> Checked
     ensures { result ≡ refuse_if (above limit value) refusal }
 {
-    if limit < value {
-        Checked::Refused(refusal)
-    } else {
-        Checked::Passed
-    }
+    if limit < value { Err(refusal) } else { Ok(()) }
 }
 
 // Refuses a number further than a limit from 0.
@@ -116,8 +86,8 @@ pub fn check_room(needed: usize, room: usize) -> Checked
     ensures { result ≡ room_check needed room }
 {
     if room < needed {
-        Checked::Refused(Refusal::BufferLength)
+        Err(Refusal::BufferLength)
     } else {
-        Checked::Passed
+        Ok(())
     }
 }

@@ -3,7 +3,7 @@
 ghost use Rattle.std.specs.Prelude.{◌≤◌, length};
 
 use replay_calls::{TABLE, make};
-use replay_lines::names::{Found, Takes, find};
+use replay_lines::names::{Takes, find};
 use replay_lines::output::{write_list, write_number, write_sum, write_text};
 use replay_lines::words::{byte_at, read_bytes, read_list, read_numbers};
 use std::io::{self, Write};
@@ -159,7 +159,7 @@ fn answer_call<W: Write>(
 // Answers a line that asks for a call of the table.
 fn answer_from<W: Write>(out: &mut W, table: &[u8], line: &[u8]) -> io::Result<()> {
     let end = name_end(line);
-    let Found::Call(call, takes) = find(table, &line[..end]) else {
+    let Some((call, takes)) = find(table, &line[..end]) else {
         return write_text(out, b"error: no such call");
     };
     answer_call(out, call, takes, line, end)

@@ -11,12 +11,6 @@ mod answer;
 
 use std::io::{self, Read, Write};
 
-#[derive(Clone, Copy)]
-pub(crate) enum Byte {
-    Is(u8),
-    End,
-}
-
 // How many bytes of the line buffer hold the next line.
 #[derive(Clone, Copy)]
 pub(crate) enum Line {
@@ -25,20 +19,20 @@ pub(crate) enum Line {
     End,
 }
 
-// A byte of the input.
-fn read_byte<R: Read>(input: &mut R) -> io::Result<Byte> {
+// The next byte of the input, if there is one.
+fn read_byte<R: Read>(input: &mut R) -> io::Result<Option<u8>> {
     let mut part = [0u8; 1];
     if input.read(&mut part)? == 0 {
-        return Ok(Byte::End);
+        return Ok(None);
     }
-    Ok(Byte::Is(part[0]))
+    Ok(Some(part[0]))
 }
 
 // Passes over the rest of a line. A proved loop has to end, so it counts its turns up to a number that
 // no run uses up; the same in main.
 fn skip_line<R: Read>(input: &mut R) -> io::Result<Line> {
     for _ in 0..u64::MAX {
-        let Byte::Is(b) = read_byte(input)? else {
+        let Some(b) = read_byte(input)? else {
             return Ok(Line::TooLong);
         };
         if b == b'\n' {
@@ -58,7 +52,7 @@ fn last_line(used: usize) -> Line {
 
 fn read_line<R: Read>(input: &mut R, line: &mut [u8]) -> io::Result<Line> {
     for used in 0..line.len() {
-        let Byte::Is(b) = read_byte(input)? else {
+        let Some(b) = read_byte(input)? else {
             return Ok(last_line(used));
         };
         if b == b'\n' {

@@ -9,8 +9,9 @@ use geometry::{Point, Size};
 use geometry_range::Range;
 use host_answers::{NO_RECORD, held, put_numbers};
 use host_values::put_rectangle;
-use rectangle::{PointAnswer, RangeAnswer, Rectangle, RectangleAnswer};
-use style::{Paint, StrokeAlignment, Style, WidthsAnswer};
+use rectangle::Rectangle;
+use refusal::Refusal;
+use style::{StrokeAlignment, Style};
 
 // A line for each call: its name, and how many numbers, lists of numbers and lists of bytes it takes.
 // The arms of `make` and `on_rectangle` go by these lines, counted from 0.
@@ -103,18 +104,14 @@ fn bits_at(list: &[i32], i: usize) -> u32 {
 
 // Copies a list into one of unsigned numbers, and back.
 fn copy_bits(list: &[i32], answers: &mut [u32]) {
-    let mut i: usize = 0;
-    while i < answers.len() {
-        answers[i] = bits_at(list, i);
-        i += 1;
+    for (i, answer) in answers.iter_mut().enumerate() {
+        *answer = bits_at(list, i);
     }
 }
 
 fn copy_back(answers: &[u32], list: &mut [i32]) {
-    let mut i: usize = 0;
-    while i < list.len() {
-        list[i] = integer(answers, i);
-        i += 1;
+    for (i, n) in list.iter_mut().enumerate() {
+        *n = integer(answers, i);
     }
 }
 
@@ -201,15 +198,15 @@ fn rectangle(n: &[u32]) -> Rectangle {
     }
 }
 
-fn with_center(n: &[u32]) -> RectangleAnswer {
+fn with_center(n: &[u32]) -> Result<Rectangle, Refusal> {
     let given = rectangle(n);
     Rectangle::with_center(given.top_left, given.size)
 }
 
-fn put_answer(answer: RectangleAnswer, out: &mut [i32]) -> u32 {
+fn put_answer(answer: Result<Rectangle, Refusal>, out: &mut [i32]) -> u32 {
     match answer {
-        RectangleAnswer::Refused(refusal) => refusal.number(),
-        RectangleAnswer::Answered(made) => put_rectangle(made, out),
+        Err(refusal) => refusal.number(),
+        Ok(made) => put_rectangle(made, out),
     }
 }
 
@@ -218,17 +215,17 @@ fn put_pair(first: i32, second: i32, out: &mut [i32]) -> u32 {
     put_numbers(out, &values)
 }
 
-fn put_range(answer: RangeAnswer, out: &mut [i32]) -> u32 {
+fn put_range(answer: Result<Range, Refusal>, out: &mut [i32]) -> u32 {
     match answer {
-        RangeAnswer::Refused(refusal) => refusal.number(),
-        RangeAnswer::Answered(run) => put_pair(run.start, run.end, out),
+        Err(refusal) => refusal.number(),
+        Ok(run) => put_pair(run.start, run.end, out),
     }
 }
 
 fn center(given: Rectangle, out: &mut [i32]) -> u32 {
     match given.center() {
-        PointAnswer::Refused(refusal) => refusal.number(),
-        PointAnswer::Answered(middle) => put_pair(middle.x, middle.y, out),
+        Err(refusal) => refusal.number(),
+        Ok(middle) => put_pair(middle.x, middle.y, out),
     }
 }
 
@@ -250,10 +247,10 @@ fn range(n: &[u32], out: &mut [i32]) -> u32 {
 }
 
 fn widths_of(width: u32, alignment: StrokeAlignment, out: &mut [i32]) -> u32 {
-    let style = Style::new(Paint::Absent, Paint::Absent, width);
+    let style = Style::new(None, None, width);
     match style.with_alignment(alignment).widths() {
-        WidthsAnswer::Refused(refusal) => refusal.number(),
-        WidthsAnswer::Answered(parts) => put_pair(held(parts.outside), held(parts.inside), out),
+        Err(refusal) => refusal.number(),
+        Ok(parts) => put_pair(held(parts.outside), held(parts.inside), out),
     }
 }
 

@@ -11,13 +11,6 @@ pub struct Takes {
     pub byte_lists: usize,
 }
 
-// A call's line in the table, and what it takes.
-#[derive(Clone, Copy)]
-pub enum Found {
-    Call(usize, Takes),
-    Nothing,
-}
-
 // The digit so many places after a place of the table.
 fn digit_after(table: &[u8], from: usize, places: usize) -> usize {
     let at = from.wrapping_add(places);
@@ -62,16 +55,17 @@ fn after_name(table: &[u8], from: usize, name: &[u8]) -> usize {
 }
 
 // Looks a call up by its name.
-pub fn find(table: &[u8], name: &[u8]) -> Found {
+pub fn find(table: &[u8], name: &[u8]) -> Option<(usize, Takes)> {
     let mut call: usize = 0;
     let mut start: usize = 0;
+    // A while: the steps are not of one, each goes past a whole line.
     while start < table.len() {
         let digits = after_name(table, start, name);
         if 0 < digits {
-            return Found::Call(call, takes_at(table, digits));
+            return Some((call, takes_at(table, digits)));
         }
         start = next_line(table, start);
         call += 1;
     }
-    Found::Nothing
+    None
 }

@@ -51,6 +51,7 @@ fn write_entry<W: Write>(out: &mut W, v: i32, start: usize, times: usize) -> io:
 
 fn write_entries<W: Write>(out: &mut W, list: &[i32]) -> io::Result<()> {
     let mut start: usize = 0;
+    // A while: the steps are not of one, each goes past a whole run.
     while start < list.len() {
         let end = run_end(list, start);
         write_entry(out, list[start], start, end - start)?;

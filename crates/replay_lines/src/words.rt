@@ -66,6 +66,7 @@ pub fn digit(b: u8) -> u64 {
 fn decimal(line: &[u8], from: usize) -> Number {
     let mut value: u64 = 0;
     let mut at = from;
+    // A while: the place where it stops is asked for behind it.
     while at < line.len() {
         let d = digit(line[at]);
         if 9 < d {

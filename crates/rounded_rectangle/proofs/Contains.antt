@@ -1,6 +1,7 @@
 -- The test of a point, from the paper's signed columns and rows to those counted from the box's corners, and the code's way through
 -- the corners.
 -- Assumes nothing.
+use Rattle.std.specs.Prelude.{Some, None}
 use mathlib.Core.Path.{◌≡◌, refl, sym, ap, ap₂, ◌∙◌}
 use mathlib.Core.Bool.{Bool, true, false, cond, ◌&&◌, and-false}
 use Prim.Native.Nat.{ℕ, ◌-◌, ◌<◌}
@@ -8,7 +9,6 @@ use native.Mathlib.Omega.{arith}
 use lib.IntN.{ℤ, pos, ◌+ℤ◌}
 use Rattle.geometry_range.specs.Range.{contains as range_contains}
 use Rattle.rectangle.specs.Rectangle.{rows, columns}
-use Rattle.scanline.specs.declared.Place.TheVariants.{At, Nowhere}
 use Rattle.scanline.specs.Places.{Placed}
 use Rattle.scanline.proofs.Placed.{place_among}
 use Rattle.corner_quadrant.proofs.Within.{quadrant_has_rows}
@@ -73,13 +73,13 @@ module _ (b : RoundedRectangle) (x y : ℤ) where
   unfolding contains
   contains_outside e = rw e
 
-  pub contains_no_column : Placed (left b) (width b) x Nowhere → false ≡ contains b x y
+  pub contains_no_column : Placed (left b) (width b) x None → false ≡ contains b x y
   contains_no_column h = sym (contains_outside (rw h (and-false (range_contains (rows b.rectangle) y))))
 
-  pub contains_no_row : Placed (top b) (height b) y Nowhere → false ≡ contains b x y
+  pub contains_no_row : Placed (top b) (height b) y None → false ≡ contains b x y
   contains_no_row h = sym (contains_outside (rw h))
 
-  pub contains_placed : (dx dy : ℕ) → Placed (left b) (width b) x (At dx) → Placed (top b) (height b) y (At dy)
+  pub contains_placed : (dx dy : ℕ) → Placed (left b) (width b) x (Some dx) → Placed (top b) (height b) y (Some dy)
       → contains_at b.corners (width b) (height b) dx dy ≡ contains b x y
   contains_placed dx dy p q = sym (ap₂ (contains b) p.0 q.0 ∙ contains_relative b dx dy p.1 q.1)
 

@@ -1,6 +1,7 @@
 -- The run of a row, from the paper's signed columns to insets counted from the box's sides: the start is the left inset after the
 -- first column, the end the right inset before the last.
 -- Assumes nothing.
+use Rattle.std.specs.Prelude.{Some, None}
 use mathlib.Core.Path.{◌≡◌, refl, sym, ap, ◌∙◌}
 use mathlib.Core.Bool.{Bool, true, false, cond}
 use Prim.Native.Nat.{ℕ, ◌-◌, ◌≤◌, ◌<◌}
@@ -13,11 +14,8 @@ use Rattle.geometry.specs.declared.Size.{Size}
 use Rattle.geometry_range.specs.Range.{contains as range_contains}
 use Rattle.rectangle.specs.Rectangle.{rows}
 use Rattle.geometry_range.proofs.Fields.{range_by_fields}
-use Rattle.scanline.specs.declared.Place.{Place}
-use Rattle.scanline.specs.declared.Place.TheVariants.{At, Nowhere}
-use Rattle.scanline.specs.declared.Row.TheVariants.{Run, NoRow}
 use Rattle.scanline.specs.Columns.{first_column, last_column, column_else, column_after_else}
-use Rattle.scanline.specs.Places.{find_from, place_else0, Placed}
+use Rattle.scanline.specs.Places.{find_from, place_else0, Placed, Place}
 use Rattle.scanline.specs.Points.{EndsWithin}
 use Rattle.scanline.proofs.Find.{found_at}
 use Rattle.scanline.proofs.Columns.{from_left, from_right, first_from_edge, last_from_edge}
@@ -32,15 +30,15 @@ use Rattle.rounded_rectangle.proofs.Corners.{top_left_relative, top_right_relati
 
 -- ---- the column that an inset stands for, on the left and on the right
 start_by_place : (first : ℤ) (p : Place) → column_else first (from_left first p) ≡ first +ℤ pos (place_else0 p)
-start_by_place first (At k) = refl
-start_by_place first Nowhere = omega (arith, int)
+start_by_place first (Some k) = refl
+start_by_place first None = omega (arith, int)
 
 end_by_place : (test : ℕ → Bool) (first : ℤ) (n : ℕ) (p : Place) → find_from test n 0 ≡ p
     → column_after_else (first +ℤ pos n) (from_right first n p) ≡ first +ℤ pos n -ℤ pos (place_else0 p)
-end_by_place test first n (At k) e =
+end_by_place test first n (Some k) e =
     let b = (found_at test n 0 k e).below in
     omega (arith, int, add_law (first +ℤ pos (n - 1 - k)) (pos 1), add_law first (pos (n - 1 - k)), add_law first (pos n))
-end_by_place test first n Nowhere e = omega (arith, int)
+end_by_place test first n None e = omega (arith, int)
 
 -- a side by its corners
 by_corners : (place : ℕ → ℤ) (t u : Bool) (upper lower straight : ℤ) (a b : ℕ)
@@ -124,14 +122,14 @@ between_within left w insets l r =
 
 -- ---- the ways to a row
 module _ (b : RoundedRectangle) (y : ℤ) where
-  pub row_out : Placed (top b) (height b) y Nowhere → NoRow ≡ row b y
+  pub row_out : Placed (top b) (height b) y None → None ≡ row b y
   unfolding row
   row_out h = rw h
 
-  pub row_placed : (dy : ℕ) → Placed (top b) (height b) y (At dy)
-      → Run (run_between (left b) (width b) (row_insets b.corners (width b) (height b) dy)) ≡ row b y
+  pub row_placed : (dy : ℕ) → Placed (top b) (height b) y (Some dy)
+      → Some (run_between (left b) (width b) (row_insets b.corners (width b) (height b) dy)) ≡ row b y
   unfolding row
   row_placed dy p =
       let among : range_contains (rows b.rectangle) y ≡ true =
       ap (range_contains (rows b.rectangle)) p.0 ∙ place_among (top b) (height b) dy p.1 in
-      rw (among, p.0) (ap Run (run_relative b dy p.1))
+      rw (among, p.0) (ap Some (run_relative b dy p.1))

@@ -1,8 +1,8 @@
 -- Document 02, 'Two': the box that has its confined radii with their fraction, its test and its rows. They, and its quadrants, are
 -- those of the radii alone (`RoundedRectangle`, `Quadrants`): the fraction plays no part in them.
 -- Assumes nothing.
+use Rattle.scanline.specs.Rows.{Row}
 use Rattle.std.specs.Prelude.{Bool, ℤ}
-use Rattle.scanline.specs.declared.Row.{Row}
 use Rattle.rounded_rectangle.specs.declared.RoundedRectangle.{RoundedRectangle}
 use Rattle.rounded_rectangle.specs.declared.ConfinedBox.{ConfinedBox}
 use Rattle.rounded_rectangle.specs.RoundedRectangle.{contains as rounded_rectangle_contains, row as rounded_rectangle_row}

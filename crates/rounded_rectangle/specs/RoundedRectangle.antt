@@ -1,13 +1,12 @@
 -- Document 01, 'Box rows and points' (`rounded_rectangle/mod.rs` `RoundedRectangleContains`, `rounded_rectangle/points.rs`
 -- `Scanlines`), for a box whose radii are confined already.
 -- Assumes nothing.
-use Rattle.std.specs.Prelude.{Bool, true, false, cond, ◌&&◌, ℤ}
+use Rattle.scanline.specs.Rows.{Row}
+use Rattle.std.specs.Prelude.{Bool, true, false, cond, ◌&&◌, ℤ, Some, None}
 use Rattle.std.specs.Int.Signed.{lt_z, le_z}
 use Rattle.geometry_range.specs.declared.Range.{Range}
 use Rattle.geometry_range.specs.Range.{contains as range_contains}
 use Rattle.rectangle.specs.Rectangle.{rows, columns}
-use Rattle.scanline.specs.declared.Row.{Row}
-use Rattle.scanline.specs.declared.Row.TheVariants.{Run, NoRow}
 use Rattle.scanline.specs.Columns.{first_column, last_column, column_else, column_after_else}
 use Rattle.rounded_rectangle.specs.declared.RoundedRectangle.{RoundedRectangle}
 use Rattle.rounded_rectangle.specs.Quadrants.{left, width, top_left_quadrant, top_right_quadrant, bottom_right_quadrant, bottom_left_quadrant, inside_top_left, inside_top_right, inside_bottom_right, inside_bottom_left}
@@ -47,4 +46,4 @@ run b y = record { start = run_start b y; end = run_end b y }
 
 -- `Scanlines` gives every row; 'no row' where the box lacks it
 unfoldable pub row : RoundedRectangle → ℤ → Row
-row b y = cond (range_contains (rows b.rectangle) y) (Run (run b y)) NoRow
+row b y = cond (range_contains (rows b.rectangle) y) (Some (run b y)) None

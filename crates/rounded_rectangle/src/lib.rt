@@ -19,7 +19,6 @@ use ellipse_search::ANYWHERE;
 use geometry::{Point, Size};
 use geometry_range::Range;
 use rectangle::Rectangle;
-use scanline::{Place, Row};
 
 #[derive(Clone, Copy)]
 pub struct RoundedRectangle {
@@ -165,10 +164,10 @@ impl ConfinedBox {
         let rectangle = self.rectangle;
         let top_left = rectangle.top_left;
         let size = rectangle.size;
-        let Place::At(dx) = scanline::place_of(top_left.x, size.width, point.x) else {
+        let Some(dx) = scanline::place_of(top_left.x, size.width, point.x) else {
             return false;
         };
-        let Place::At(dy) = scanline::place_of(top_left.y, size.height, point.y) else {
+        let Some(dy) = scanline::place_of(top_left.y, size.height, point.y) else {
             return false;
         };
         let corners = self.corners;
@@ -176,7 +175,7 @@ impl ConfinedBox {
     }
 
     // The row at y.
-    pub fn row(self, y: i32) -> Row
+    pub fn row(self, y: i32) -> Option<Range>
         requires bounded_box { BoundedBox (plain_box self) }
         requires near { Near wide_point y }
         ensures { (result ≡ confined_box_row self y) × RowWithin self.rectangle.top_left.x self.rectangle.size.width result }
@@ -184,11 +183,11 @@ impl ConfinedBox {
         let rectangle = self.rectangle;
         let top_left = rectangle.top_left;
         let size = rectangle.size;
-        let Place::At(dy) = scanline::place_of(top_left.y, size.height, y) else {
-            return Row::NoRow;
+        let Some(dy) = scanline::place_of(top_left.y, size.height, y) else {
+            return None;
         };
         let corners = self.corners;
         let insets = RoundedRectangleContains::new(size, corners).insets(dy, ANYWHERE, ANYWHERE);
-        Row::Run(run_between(top_left.x, size.width, insets))
+        Some(run_between(top_left.x, size.width, insets))
     }
 }

@@ -1,5 +1,6 @@
 -- A search over signed columns is a search over places: from the left edge, or, for the last column, mirrored from the right.
 -- Assumes nothing.
+use Rattle.std.specs.Prelude.{Some, None}
 use mathlib.Core.Path.{◌≡◌, refl, sym, ap, ◌∙◌}
 use mathlib.Core.Bool.{Bool, true, false, cond}
 use Prim.Native.Nat.{ℕ, zero, suc, ◌+◌, ◌-◌, ◌≤◌, ◌<◌}
@@ -7,10 +8,8 @@ use native.Mathlib.Nat.{le_refl}
 use native.Mathlib.Omega.{arith}
 use lib.IntN.{ℤ, pos, ◌+ℤ◌}
 use Rattle.signed.proofs.Laws.{int, add_law}
-use Rattle.scanline.specs.declared.Place.{Place}
-use Rattle.scanline.specs.declared.Place.TheVariants.{At, Nowhere}
 use Rattle.scanline.specs.Columns.{Column, found, none, first_column, last_column}
-use Rattle.scanline.specs.Places.{find_from}
+use Rattle.scanline.specs.Places.{find_from, Place}
 
 -- ---- columns counted from the left edge
 pub column_zero : (left : ℤ) → left ≡ left +ℤ pos 0
@@ -21,12 +20,12 @@ column_next left k = omega (arith, int, add_law left (pos k), add_law (left +ℤ
 
 -- the column of a place counted from the left edge, and of one counted from the last of n columns
 abbrev pub from_left : ℤ → Place → Column
-from_left left (At k) = found (left +ℤ pos k)
-from_left left Nowhere = none
+from_left left (Some k) = found (left +ℤ pos k)
+from_left left None = none
 
 abbrev pub from_right : ℤ → ℕ → Place → Column
-from_right left n (At k) = found (left +ℤ pos (n - 1 - k))
-from_right left n Nowhere = none
+from_right left n (Some k) = found (left +ℤ pos (n - 1 - k))
+from_right left n None = none
 
 module _ (test : ℤ → Bool) (here : ℕ → Bool) (left : ℤ) where
   pub first_from_left : (n k : ℕ) → ((i : ℕ) → k ≤ i → i < k + n → test (left +ℤ pos i) ≡ here i)
@@ -41,7 +40,7 @@ module _ (test : ℤ → Bool) (here : ℕ → Bool) (left : ℤ) where
     where
       by_test : (b : Bool) → first_column test (left +ℤ pos k +ℤ pos 1) n ≡ from_left left (find_from here n (suc k))
           → cond b (found (left +ℤ pos k)) (first_column test (left +ℤ pos k +ℤ pos 1) n)
-          ≡ from_left left (cond b (At k) (find_from here n (suc k)))
+          ≡ from_left left (cond b (Some k) (find_from here n (suc k)))
       by_test true later = refl
       by_test false later = later
 
@@ -65,7 +64,7 @@ module _ (test : ℤ → Bool) (here : ℕ → Bool) (left : ℤ) where
       agree_here = ap (λ (i : ℕ). test (left +ℤ pos i)) (sym place) ∙ agree k (le_refl k) (omega arith)
 
       by_test : (b : Bool) → last_column test left m ≡ from_right left n (find_from here m (suc k))
-          → cond b (found (left +ℤ pos m)) (last_column test left m) ≡ from_right left n (cond b (At k) (find_from here m (suc k)))
+          → cond b (found (left +ℤ pos m)) (last_column test left m) ≡ from_right left n (cond b (Some k) (find_from here m (suc k)))
       by_test true later = ap (λ (i : ℕ). found (left +ℤ pos i)) (sym place)
       by_test false later = later
 

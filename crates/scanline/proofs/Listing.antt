@@ -1,6 +1,8 @@
 -- Points written into a lent list: what is still to be written, and from where, makes the whole. So a loop's invariant needs no
 -- list of what is done.
 -- Assumes nothing.
+use Rattle.scanline.specs.Rows.{Row}
+use Rattle.std.specs.Prelude.{Some, None}
 use mathlib.Core.Path.{◌≡◌, refl, sym, ap, ◌∙◌}
 use mathlib.Core.Bool.{true, false}
 use mathlib.Core.List.{List, [], ◌∷◌, ◌++◌}
@@ -12,8 +14,6 @@ use lib.Seq.{sets, length-sets}
 use Rattle.geometry.specs.declared.Point.{Point}
 use Rattle.geometry_range.specs.declared.Range.{Range}
 use Rattle.geometry_range.specs.Range.{is_empty}
-use Rattle.scanline.specs.declared.Row.{Row}
-use Rattle.scanline.specs.declared.Row.TheVariants.{Run, NoRow}
 use Rattle.scanline.specs.Points.{run_length, run_points, and_below, points_from, entries}
 use Rattle.scanline.proofs.Columns.{column_next, column_zero}
 
@@ -65,12 +65,6 @@ still_column y start k n h e s = rw e (still_pair (rw (run_points_next y start k
 pub run_points_none : (y x : ℤ) (n : ℕ) → n ≡ 0 → entries (run_points y x n) ≡ []
 unfolding entries run_points
 run_points_none y x n e = ap (λ (r : ℕ). entries (run_points y x r)) e
-
-pub run_points_all : (y start : ℤ) (n : ℕ) → run_points y start n ≡ run_points y (start +ℤ pos 0) (n - 0)
-run_points_all y start n = λ i. run_points y (column_zero start i) (all i)
-  where
-    all : n ≡ n - 0
-    all = omega arith
 
 -- ---- whole runs
 entries_append : (ps qs : List Point) → entries (ps ++ qs) ≡ entries ps ++ entries qs
@@ -137,19 +131,19 @@ module _ (row : ℤ → Row) (top : ℤ) (h : ℕ) where
       one : suc dy ≡ dy + 1
       one = omega arith
 
-  pub points_after_run : (dy : ℕ) (r : Range) → dy < h → row (top +ℤ pos dy) ≡ Run r → is_empty r ≡ false
+  pub points_after_run : (dy : ℕ) (r : Range) → dy < h → row (top +ℤ pos dy) ≡ Some r → is_empty r ≡ false
       → points_after dy ≡ run_points (top +ℤ pos dy) r.start (run_length r) ++ points_after (dy + 1)
   points_after_run dy r l e full =
       by_row dy l ∙ ap (λ (q : Row). and_below (top +ℤ pos dy) q (points_after (dy + 1))) e ∙ rw full
 
-  pub points_after_empty : (dy : ℕ) (r : Range) → dy < h → row (top +ℤ pos dy) ≡ Run r → is_empty r ≡ true → points_after dy ≡ []
+  pub points_after_empty : (dy : ℕ) (r : Range) → dy < h → row (top +ℤ pos dy) ≡ Some r → is_empty r ≡ true → points_after dy ≡ []
   points_after_empty dy r l e empty =
       by_row dy l ∙ ap (λ (q : Row). and_below (top +ℤ pos dy) q (points_after (dy + 1))) e ∙ rw empty
 
-  pub points_after_no_row : (dy : ℕ) → dy < h → row (top +ℤ pos dy) ≡ NoRow → points_after dy ≡ []
+  pub points_after_no_row : (dy : ℕ) → dy < h → row (top +ℤ pos dy) ≡ None → points_after dy ≡ []
   points_after_no_row dy l e = by_row dy l ∙ ap (λ (q : Row). and_below (top +ℤ pos dy) q (points_after (dy + 1))) e
 
-  pub length_after_run : (dy : ℕ) (r : Range) → dy < h → row (top +ℤ pos dy) ≡ Run r → is_empty r ≡ false
+  pub length_after_run : (dy : ℕ) (r : Range) → dy < h → row (top +ℤ pos dy) ≡ Some r → is_empty r ≡ false
       → length (points_after dy) ≡ run_length r + length (points_after (dy + 1))
   length_after_run dy r l e full =
       ap length (points_after_run dy r l e full)
@@ -158,14 +152,12 @@ module _ (row : ℤ → Row) (top : ℤ) (h : ℕ) where
 
   -- the loop that writes the rows: those from dy on are left to write, from index `at` on, and there is room for them
   pub record RowsLeft (list₀ list : List ℤ) (at dy : ℕ) : Type 0 where
-    pub dy_le : dy ≤ h
     pub room : at + 2 * length (points_after dy) ≤ length list₀
     pub still : StillTo list₀ 0 (entries (points_from row top h)) list at (entries (points_after dy))
 
   pub rows_left_start : (list : List ℤ) → 2 * length (points_from row top h) ≤ length list → RowsLeft list list 0 0
   rows_left_start list r =
       record {
-        dy_le = omega arith;
         room = omega (arith, ap length points_after_none);
         still = record { whole = ap (λ (ps : List Point). sets list 0 (entries ps)) points_after_none; long = refl };
       }
@@ -176,7 +168,7 @@ module _ (row : ℤ → Row) (top : ℤ) (h : ℕ) where
   rows_left_done {list = list} {at = at} r q = sym (r.still.whole ∙ ap (λ (ps : List Point). sets list at (entries ps)) q)
 
   module _ {list₀ list : List ℤ} {at dy : ℕ} (left : RowsLeft list₀ list at dy) (l : dy < h) (r : Range)
-      (e : row (top +ℤ pos dy) ≡ Run r) (full : is_empty r ≡ false) where
+      (e : row (top +ℤ pos dy) ≡ Some r) (full : is_empty r ≡ false) where
     pub rows_left_room : at + 2 * run_length r ≤ length list
     rows_left_room = let a = left.room in omega (arith, length_after_run dy r l e full, left.still.long)
 
@@ -184,7 +176,6 @@ module _ (row : ℤ → Row) (top : ℤ) (h : ℕ) where
         → at' ≡ at + 2 * run_length r → RowsLeft list₀ list' at' (dy + 1)
     rows_left_next {at' = at'} s a =
         record {
-          dy_le = omega arith;
           room = let b = left.room in omega (arith, length_after_run dy r l e full);
           still =
               still_run (top +ℤ pos dy) r.start (run_length r) (points_after (dy + 1)) at'

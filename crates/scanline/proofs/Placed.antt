@@ -1,5 +1,6 @@
 -- What a place says of a column or a row: among the n from the first on, or none of them.
 -- Assumes nothing.
+use Rattle.std.specs.Prelude.{None}
 use mathlib.Core.Path.{◌≡◌, subst}
 use mathlib.Core.Bool.{true, false, ◌&&◌, and-false}
 use Prim.Native.Nat.{ℕ, ◌<◌}
@@ -10,15 +11,13 @@ use mir.Syntax.{w32}
 use mir.Val.{SFits, to_z, of_z}
 use mir.Facts.{to_z-of_z}
 use Rattle.signed.proofs.Laws.{int, add_law}
-use Rattle.scanline.specs.declared.Place.{Place}
-use Rattle.scanline.specs.declared.Place.TheVariants.{Nowhere}
-use Rattle.scanline.specs.Places.{Placed}
+use Rattle.scanline.specs.Places.{Placed, Place}
 
 module _ (first : ℤ) (n : ℕ) (v : ℤ) where
-  pub placed_before : lt_z v first ≡ true → Placed first n v Nowhere
+  pub placed_before : lt_z v first ≡ true → Placed first n v None
   placed_before h = let k : le_z first v ≡ false = omega (arith, int) in rw k
 
-  pub placed_after : le_z (first +ℤ pos n) v ≡ true → Placed first n v Nowhere
+  pub placed_after : le_z (first +ℤ pos n) v ≡ true → Placed first n v None
   placed_after h = let k : lt_z v (first +ℤ pos n) ≡ false = omega (arith, int) in rw k (and-false (le_z first v))
 
   -- what a caller that reads both numbers from the machine has of the answer, once it is known

@@ -1,3 +1,4 @@
 pub mod Columns
 pub mod Places
 pub mod Points
+pub mod Rows

@@ -1,13 +1,12 @@
 -- Document 01, 'Box rows and points' (`Points` of both `points.rs`, `common/scanline.rs`): a figure's rows as a list of points.
 -- Assumes nothing.
-use Rattle.std.specs.Prelude.{◌≡◌, true, cond, List, [], ◌∷◌, ◌++◌, ℕ, zero, suc, ℤ, pos, ◌+ℤ◌, ◌-ℤ◌}
+use Rattle.scanline.specs.Rows.{Row}
+use Rattle.std.specs.Prelude.{◌≡◌, true, cond, List, [], ◌∷◌, ◌++◌, ℕ, zero, suc, ℤ, pos, ◌+ℤ◌, ◌-ℤ◌, Some, None}
 use Rattle.std.specs.Int.Signed.{le_z}
 use Rattle.signed.specs.Signed.{floor0}
 use Rattle.geometry.specs.declared.Point.{Point}
 use Rattle.geometry_range.specs.declared.Range.{Range}
 use Rattle.geometry_range.specs.Range.{is_empty}
-use Rattle.scanline.specs.declared.Row.{Row}
-use Rattle.scanline.specs.declared.Row.TheVariants.{Run, NoRow}
 
 -- how many columns a run holds
 abbrev pub run_length : Range → ℕ
@@ -21,8 +20,8 @@ pub record EndsWithin (left : ℤ) (w : ℕ) (r : Range) : Type 0 where
   pub end_to : le_z r.end (left +ℤ pos w) ≡ true
 
 abbrev pub RowWithin : ℤ → ℕ → Row → Type 0
-RowWithin left w (Run r) = EndsWithin left w r
-RowWithin left w NoRow = Unit {0}
+RowWithin left w (Some r) = EndsWithin left w r
+RowWithin left w None = Unit {0}
 
 -- the points of the n columns from x on in row y
 unfoldable pub run_points : ℤ → ℤ → ℕ → List Point
@@ -31,8 +30,8 @@ run_points y x (suc n) = record { x = x; y = y } ∷ run_points y (x +ℤ pos 1)
 
 -- a row's points and then those of the rows below it; an empty row, and one that is lacking, ends the list
 abbrev pub and_below : ℤ → Row → List Point → List Point
-and_below y (Run r) below = cond (is_empty r) [] (run_points y r.start (run_length r) ++ below)
-and_below y NoRow below = []
+and_below y (Some r) below = cond (is_empty r) [] (run_points y r.start (run_length r) ++ below)
+and_below y None below = []
 
 -- the points of n rows from y on, row by row, up to the first empty one
 unfoldable pub points_from : (ℤ → Row) → ℤ → ℕ → List Point

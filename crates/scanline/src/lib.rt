@@ -12,18 +12,12 @@ ghost use Rattle.scanline.specs.Points.{run_points, entries};
 
 use geometry_range::Range;
 
-// A row of a figure: its y and its run.
+// A row of a figure: its y and its run. Where the caller has the y, a row is its run alone, or `None` where the
+// figure lacks it; a styled row likewise is its `StyledRuns`.
 #[derive(Clone, Copy)]
 pub struct Scanline {
     pub y: i32,
     pub x: Range,
-}
-
-// The run of a row whose y the caller has, or none where the figure lacks the row.
-#[derive(Clone, Copy)]
-pub enum Row {
-    Run(Range),
-    NoRow,
 }
 
 // A row of a styled figure: its y and three runs, after `common/styled_scanline.rs`, which holds the
@@ -44,35 +38,21 @@ pub struct StyledRuns {
     pub stroke_right: Range,
 }
 
-// The runs of a styled row whose y the caller has, or none where the stroke area lacks the row.
-#[derive(Clone, Copy)]
-pub enum StyledRow {
-    Runs(StyledRuns),
-    NoRow,
-}
-
-// A place counted from a corner: where a search ends, or where a column or row stands.
-#[derive(Clone, Copy)]
-pub enum Place {
-    At(u32),
-    Nowhere,
-}
-
-// The place of v among the n columns or rows from `first` on.
-pub fn place_of(first: i32, n: u32, v: i32) -> Place
+// The place of v among the n columns or rows from `first` on, if it is at one of them.
+pub fn place_of(first: i32, n: u32, v: i32) -> Option<u32>
     requires near { Near wide_point first }
     requires n_le_wide_side { n ≤ wide_side }
     requires near_2 { Near wide_point v }
     ensures { Placed first n v result }
 {
     if v < first {
-        return Place::Nowhere;
+        return None;
     }
     let k = signed::floor0(signed::sub(v, first));
     if n <= k {
-        return Place::Nowhere;
+        return None;
     }
-    Place::At(k)
+    Some(k)
 }
 
 // The column k places after the first.
@@ -102,12 +82,10 @@ pub fn put_run(list: &mut [i32], at: usize, y: i32, start: i32, n: u32) -> usize
     ensures { (result ≡ at + 2 * n) × (list.new ≡ sets list.old at (entries (run_points y start n))) }
 {
     let mut i = at;
-    let mut k: u32 = 0;
-    while k < n {
+    for k in 0..n {
         list[i] = signed::add(start, signed::from_u32(k));
         list[i + 1] = y;
         i += 2;
-        k += 1;
     }
     i
 }

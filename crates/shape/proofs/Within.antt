@@ -1,6 +1,7 @@
 -- Bounds: a box or rectangle that passes its check is within the wide bounds of a figure's own numbers; an offset area of it, and a
 -- confined box, are within those of an area. And radii that the W3C rule has confined stay when they are confined again.
 -- Assumes nothing.
+use Rattle.refusal.specs.Refusal.{passed}
 use mathlib.Core.Path.{◌≡◌, refl}
 use Prim.Native.Nat.{ℕ, ◌+◌, ◌≤◌}
 use native.Mathlib.Omega.{arith}
@@ -9,7 +10,6 @@ use Rattle.signed.specs.Signed.{Near}
 use Rattle.geometry.specs.declared.Point.{Point}
 use Rattle.geometry.specs.declared.Size.{Size}
 use Rattle.rectangle.specs.declared.Rectangle.{Rectangle}
-use Rattle.refusal.specs.declared.Checked.TheVariants.{Passed}
 use Rattle.geometry.specs.Limits.{max_radius}
 use Rattle.geometry.specs.Bounds.{PointNear, SizeUpTo}
 use Rattle.rectangle.specs.Bounds.{Bounded}
@@ -41,15 +41,15 @@ pub size_wider : {m n : ℕ} {s : Size} → m ≤ n → SizeUpTo m s → SizeUpT
 size_wider l a = record { width = let h = a.width in omega arith; height = let h = a.height in omega arith }
 
 -- ---- what passes its check
-pub own_rectangle_passed : (r : Rectangle) → size_check r.size ≡ Passed → position_check r.top_left ≡ Passed → OwnRectangle r
+pub own_rectangle_passed : (r : Rectangle) → size_check r.size ≡ passed → position_check r.top_left ≡ passed → OwnRectangle r
 own_rectangle_passed r size at =
     record {
       at = point_wider (omega arith) (position_passed r.top_left at);
       size = size_wider (omega arith) (size_passed r.size size);
     }
 
-pub own_box_passed : (b : RoundedRectangle) → size_check b.rectangle.size ≡ Passed → radii_check b.corners ≡ Passed
-    → position_check b.rectangle.top_left ≡ Passed → OwnBox b
+pub own_box_passed : (b : RoundedRectangle) → size_check b.rectangle.size ≡ passed → radii_check b.corners ≡ passed
+    → position_check b.rectangle.top_left ≡ passed → OwnBox b
 own_box_passed b size corners at =
     record {
       rectangle = own_rectangle_passed b.rectangle size at;

@@ -1,10 +1,10 @@
 -- Document 01, 'Ellipse' and 'Box rows and points', of the shape that a figure's rows and test go by: its test, rows and points.
 -- Assumes nothing.
+use Rattle.scanline.specs.Rows.{Row}
 use Rattle.std.specs.Prelude.{Bool, List, ℤ}
 use Rattle.geometry.specs.declared.Point.{Point}
 use Rattle.rectangle.specs.declared.Rectangle.{Rectangle}
 use Rattle.rectangle.specs.Rectangle.{rows}
-use Rattle.scanline.specs.declared.Row.{Row}
 use Rattle.scanline.specs.Points.{points_from}
 use Rattle.ellipse.specs.Ellipse.{contains as ellipse_contains}
 use Rattle.ellipse_rows.specs.EllipsePoints.{row as ellipse_row}

@@ -9,6 +9,7 @@ ghost use Rattle.shape.specs.BoxRules.{confined as box_rules_confined, confined_
 use rounded_rectangle::{ConfinedBox, RoundedRectangle};
 
 // A box with its radii confined by the crate rule.
+#[tactic(auto, using(crate::proofs::Fields::confined_box_by_fields), unfolding(crate::specs::BoxRules::confined))]
 pub fn confined(b: RoundedRectangle) -> ConfinedBox
     requires { AreaBox b }
     ensures { result ≡ box_rules_confined b }
@@ -22,6 +23,7 @@ pub fn confined(b: RoundedRectangle) -> ConfinedBox
 }
 
 // The same by the W3C rule.
+#[tactic(auto, using(crate::proofs::Fields::confined_box_by_fields), unfolding(crate::specs::BoxRules::confined_w3c))]
 pub fn confined_w3c(b: RoundedRectangle) -> ConfinedBox
     requires { AreaBox b }
     ensures { result ≡ confined_w3c b }
@@ -35,6 +37,7 @@ pub fn confined_w3c(b: RoundedRectangle) -> ConfinedBox
 }
 
 // A crate box offset about its centre, its radii with it.
+#[tactic(auto, using(corner_radii::proofs::Bounds::radii_up_to_wider, crate::proofs::Fields::box_by_fields, crate::proofs::Within::own_area, crate::proofs::Within::area_bounded), unfolding(crate::specs::BoxRules::offset_box))]
 pub fn offset_box(b: RoundedRectangle, k: i32) -> RoundedRectangle
     requires own_box { OwnBox b }
     requires near { Near wide_offset k }

@@ -5,9 +5,9 @@
 #![tactic(auto)]
 
 use geometry::Point;
+use geometry_range::Range;
 use rectangle::Rectangle;
 use rounded_rectangle::ConfinedBox;
-use scanline::Row;
 
 pub mod box_rules;
 
@@ -35,6 +35,7 @@ impl Shape {
         }
     }
 
+    #[tactic(auto, using(crate::proofs::Within::area_bounded, crate::proofs::Within::area_box_bounded))]
     pub fn contains(self, point: Point) -> bool
         requires bounded_shape { BoundedShape self }
         requires point_near { PointNear wide_point point }
@@ -47,7 +48,8 @@ impl Shape {
     }
 
     // The row at y.
-    pub fn row(self, y: i32) -> Row
+    #[tactic(auto, using(crate::proofs::Within::area_bounded, crate::proofs::Within::area_box_bounded))]
+    pub fn row(self, y: i32) -> Option<Range>
         requires bounded_shape { BoundedShape self }
         requires near { Near wide_point y }
         ensures { (result ≡ row_of_shape self y) × RowWithin (shape_rectangle self).top_left.x (shape_rectangle self).size.width result }

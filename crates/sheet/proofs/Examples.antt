@@ -1,12 +1,12 @@
 -- The examples of document 01's table for a sheet, computed from the definitions: 6 to 12, and the layer that can go on.
 -- Assumes nothing.
+use Rattle.std.specs.Prelude.{Some, None}
 use mathlib.Core.Path.{◌≡◌, refl}
 use mathlib.Core.List.{List, [], ◌∷◌}
 use Prim.Native.Nat.{ℕ}
 use lib.IntN.{pos}
 use lib.ListN.{replicate}
 use Rattle.figure.specs.declared.Figure.TheVariants.{CrateBox}
-use Rattle.style.specs.declared.Paint.TheVariants.{Absent, Colour}
 use Rattle.style.specs.declared.StrokeAlignment.TheVariants.{Center}
 use Rattle.geometry.specs.Checks.{size_check, position_check}
 use Rattle.rectangle.specs.Rectangle.{center, with_center, offset_side, offset}
@@ -47,7 +47,7 @@ box =
           bottom_left = record { width = 0; height = 0 };
         };
       });
-      style = record { stroke = Absent; fill = Colour 9; stroke_width = 0; alignment = Center };
+      style = record { stroke = None; fill = Some 9; stroke_width = 0; alignment = Center };
     }
 
 -- two equal boxes

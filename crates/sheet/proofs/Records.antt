@@ -1,6 +1,7 @@
 -- The record after a call is the sheet of `book`'s definitions after it: a layer put behind the first `count` places is one more
 -- layer, a layer put in place i of them is that layer of the sheet, and places moved down over place i leave that layer out.
 -- Assumes nothing.
+use Rattle.std.specs.Prelude.{Ok, Err}
 use mathlib.Core.Path.{◌≡◌, refl, sym, ap, ap₂, ◌∙◌}
 use mathlib.Core.List.{List, [], ◌∷◌, ◌++◌, map, map-append}
 use mathlib.Core.Option.{some}
@@ -10,9 +11,7 @@ use native.Mathlib.Numerals.{add-one}
 use lib.ListN.{length, take, set, get_or, length-set, length-append}
 use lib.Seq.{take-suc-set, take-set-lt}
 use Rattle.refusal.specs.declared.Refusal.{Refusal}
-use Rattle.refusal.specs.declared.Checked.{Checked}
-use Rattle.refusal.specs.declared.Checked.TheVariants.{Passed, Refused}
-use Rattle.refusal.specs.Refusal.{keeping}
+use Rattle.refusal.specs.Refusal.{keeping, Checked, passed}
 use Rattle.book.specs.Book.{without, Call, add, paint, remove}
 use Rattle.book.specs.Sheet.{Layers, State, answer, carried_out, after, paint_row, restored}
 use Rattle.book.proofs.Lists.{set_map, without_map, take_without, length_without}
@@ -28,12 +27,12 @@ use Rattle.sheet_checks.proofs.Answers.{added_room, PaintAccepted, painted_accep
 
 module _ (s : Sheet) (sixteen : length s.layers ≡ 16) (canvas : List ℕ) where
   -- ---- refused: the record
-  pub refused_record : (call : Call StyledFigure) (refusal : Refusal) → sheet_answer s canvas call ≡ Refused refusal
+  pub refused_record : (call : Call StyledFigure) (refusal : Refusal) → sheet_answer s canvas call ≡ Err refusal
       → sheet_after s canvas call ≡ s
   refused_record call refusal e = rw e
 
   -- ---- added
-  module _ (item : StyledFigure) (e : sheet_answer s canvas (add item) ≡ Passed) where
+  module _ (item : StyledFigure) (e : sheet_answer s canvas (add item) ≡ passed) where
     pub added_record : sheet_after s canvas (add item) ≡ carried_out_sheet s (add item)
     added_record = rw e
 
@@ -53,7 +52,7 @@ module _ (s : Sheet) (sixteen : length s.layers ≡ 16) (canvas : List ℕ) wher
     added_state = ap (λ (l : Layers drawing). record { layers = l; canvas = canvas }) added_layers
 
   -- ---- painted
-  module _ (i : ℕ) (e : sheet_answer s canvas (paint i) ≡ Passed) where
+  module _ (i : ℕ) (e : sheet_answer s canvas (paint i) ≡ passed) where
     told : PaintAccepted s.width s.height s.count s.layers sixteen i canvas
     told = painted_accepted s.width s.height s.count s.layers sixteen i canvas e
 
@@ -96,7 +95,7 @@ module _ (s : Sheet) (sixteen : length s.layers ≡ 16) (canvas : List ℕ) wher
         ∙ sym painted_carried_out
 
   -- ---- removed
-  module _ (i : ℕ) (background : List ℕ) (e : sheet_answer s canvas (remove i background) ≡ Passed) where
+  module _ (i : ℕ) (background : List ℕ) (e : sheet_answer s canvas (remove i background) ≡ passed) where
     accepted : RemoveAccepted s.width s.height s.count s.layers sixteen i background canvas
     accepted = removed_accepted s.width s.height s.count s.layers sixteen i background canvas e
 
@@ -150,7 +149,7 @@ module _ (s : Sheet) (sixteen : length s.layers ≡ 16) (canvas : List ℕ) wher
         ∙ sym removed_carried_out
 
   -- ---- refused: the canvas
-  pub refused_canvas : (call : Call StyledFigure) (refusal : Refusal) → sheet_answer s canvas call ≡ Refused refusal
+  pub refused_canvas : (call : Call StyledFigure) (refusal : Refusal) → sheet_answer s canvas call ≡ Err refusal
       → canvas_after s canvas call ≡ canvas
   refused_canvas call refusal e =
       ap (λ (t : State StyledFigure). t.canvas) (refused_changes_nothing drawing s.width s.height (state_of s canvas) call e)
@@ -162,19 +161,19 @@ module _ (s : Sheet) (sixteen : length s.layers ≡ 16) (canvas : List ℕ) wher
     where
       by_answer : (call : Call StyledFigure) (a : Checked) → sheet_answer s canvas call ≡ a
           → state_of (sheet_after s canvas call) (canvas_after s canvas call) ≡ after drawing s.width s.height (state_of s canvas) call
-      by_answer call (Refused refusal) e =
+      by_answer call (Err refusal) e =
           ap₂ state_of (refused_record call refusal e) (refused_canvas call refusal e)
           ∙ sym (refused_changes_nothing drawing s.width s.height (state_of s canvas) call e)
-      by_answer (add item) Passed e =
+      by_answer (add item) (Ok _) e =
           let out = accepted_is_carried_out drawing s.width s.height (state_of s canvas) (add item) e in
           ap₂ state_of (added_record item e) (ap (λ (t : State StyledFigure). t.canvas) (out ∙ sym (added_state item e)))
           ∙ added_state item e
           ∙ sym out
-      by_answer (paint i) Passed e =
+      by_answer (paint i) (Ok _) e =
           ap (λ (t : Sheet). state_of t (canvas_after s canvas (paint i))) (painted_record i e)
           ∙ painted_state i e
           ∙ sym (accepted_is_carried_out drawing s.width s.height (state_of s canvas) (paint i) e)
-      by_answer (remove i background) Passed e =
+      by_answer (remove i background) (Ok _) e =
           ap (λ (t : Sheet). state_of t (canvas_after s canvas (remove i background))) (removed_record i background e)
           ∙ removed_state i background e
           ∙ sym (accepted_is_carried_out drawing s.width s.height (state_of s canvas) (remove i background) e)
@@ -191,12 +190,12 @@ module _ (s : Sheet) (sixteen : length s.layers ≡ 16) (canvas : List ℕ) wher
     where
       by_answer : (call : Call StyledFigure) (a : Checked) → sheet_answer s canvas call ≡ a
           → SameFrame (keeping a s (carried_out_sheet s call))
-      by_answer call (Refused refusal) e = record { width = refl; height = refl; places = sixteen }
-      by_answer (add item) Passed e =
+      by_answer call (Err refusal) e = record { width = refl; height = refl; places = sixteen }
+      by_answer (add item) (Ok _) e =
           record { width = refl; height = refl; places = length-set s.layers s.count (added_layer item) ∙ sixteen }
-      by_answer (paint i) Passed e =
+      by_answer (paint i) (Ok _) e =
           record { width = refl; height = refl; places = length-set s.layers i (painted_layer (get_or s.layers i blank_layer)) ∙ sixteen }
-      by_answer (remove i background) Passed e =
+      by_answer (remove i background) (Ok _) e =
           record { width = refl; height = refl; places = removed_places i background e }
 
 -- ---- An add call takes no canvas.

@@ -2,11 +2,11 @@
 -- layers and the canvas, call by call, and the record keeps its size and its places. So `book`'s theorem, and its law on
 -- the rules, speak of the record.
 -- Assumes nothing.
+use Rattle.refusal.specs.Refusal.{Checked}
 use mathlib.Core.Path.{◌≡◌, refl, sym, ap, ap₂, subst, subst₂, ◌∙◌}
 use mathlib.Core.List.{List, [], ◌∷◌}
 use Prim.Native.Nat.{ℕ}
 use lib.ListN.{length}
-use Rattle.refusal.specs.declared.Checked.{Checked}
 use Rattle.book.specs.Book.{Call, book_after_all}
 use Rattle.book.specs.Sheet.{State, Rules, answer, answers, after_all}
 use Rattle.book.specs.Demand3.{AfterCalls}

@@ -2,9 +2,7 @@
 -- `book`'s definitions over the drawing of figures with their styles (specs/Sheet.antt of `book`).
 -- Assumes nothing.
 use Rattle.std.specs.Prelude.{List, [], ◌∷◌, ◌++◌, ℕ, ◌+◌, ◌-◌, pos, ◌+ℤ◌, set, get_or, replicate}
-use Rattle.refusal.specs.declared.Checked.{Checked}
-use Rattle.refusal.specs.declared.Checked.TheVariants.{Passed, Refused}
-use Rattle.refusal.specs.Refusal.{keeping}
+use Rattle.refusal.specs.Refusal.{keeping, Checked}
 use Rattle.geometry.specs.Limits.{max_layers}
 use Rattle.canvas_size.specs.CanvasSize.{canvas_size_check}
 use Rattle.book.specs.Book.{without, Call, add, paint, remove}
@@ -14,13 +12,6 @@ use Rattle.drawing.specs.Rows.{stroke_rows}
 use Rattle.sheet_layers.specs.declared.Layer.{Layer}
 use Rattle.sheet_layers.specs.Layers.{blank_layer, state_of as layers_state_of}
 use Rattle.sheet.specs.declared.Sheet.{Sheet}
-use Rattle.sheet.specs.declared.SheetAnswer.{SheetAnswer}
-use Rattle.sheet.specs.declared.SheetAnswer.TheVariants as sheet_answer_cases
-
--- what an answer says: a refusal of the table, or accepted ('The records')
-abbrev pub said : SheetAnswer → Checked
-said (sheet_answer_cases.Refused refusal) = Refused refusal
-said sheet_answer_cases.Accepted = Passed
 
 -- a sheet record with the canvas that its paint calls and removals get: its layers are those in its first places, and 17 if it says
 -- more than 16 ('The records')

@@ -3,10 +3,9 @@
 -- any. The definitions are those by which `Sheet::open`, `Sheet::add`, `Sheet::paint` and `Sheet::remove` make their promises
 -- (specs/Sheet.antt). That it holds is `sheet_demand3` (proofs/SheetDemand3.antt).
 -- Assumes nothing.
+use Rattle.refusal.specs.Refusal.{Checked, passed}
 use Rattle.std.specs.Prelude.{◌≡◌, List, [], ◌∷◌, ℕ, ◌*◌, length}
 use Rattle.geometry.specs.Limits.{max_layers}
-use Rattle.refusal.specs.declared.Checked.{Checked}
-use Rattle.refusal.specs.declared.Checked.TheVariants.{Passed}
 use Rattle.book.specs.Book.{Call, add, book_answers, book_after_all}
 use Rattle.book.specs.Sheet.{WithinSide, Rules, answer}
 use Rattle.book.specs.Each.{Each}
@@ -57,7 +56,7 @@ canvas_reached W H lent calls = canvas_after_all (opened_sheet W H) lent calls
 -- the book says.
 pub record SheetDemand3Of (W H : ℕ) (lent : List ℕ) (calls : List (Call StyledFigure)) : Type 0 where
   -- opening is accepted
-  pub open_accepted : open_answer W H ≡ Passed
+  pub open_accepted : open_answer W H ≡ passed
   -- the answers
   pub answered : sheet_answers (opened_sheet W H) lent calls ≡ book_answers drawing [] calls
   -- the record keeps its size

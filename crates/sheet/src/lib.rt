@@ -7,12 +7,11 @@
 ghost use Rattle.std.specs.Prelude.{◌≡◌, []};
 ghost use Rattle.book.specs.Book.{add as call_add, paint as call_paint, remove as call_remove};
 ghost use Rattle.drawing.specs.Drawing.{styled_figure};
-ghost use Rattle.sheet.specs.Sheet.{said, open_answer, opened_sheet, sheet_answer, sheet_after, canvas_after};
+ghost use Rattle.sheet.specs.Sheet.{open_answer, opened_sheet, sheet_answer, sheet_after, canvas_after};
 
 use canvas_size::CanvasSize;
 use figure::Figure;
-use refusal::{Checked, Refusal};
-use sheet_checks::Asked;
+use refusal::Checked;
 use sheet_layers::Layer;
 use style::Style;
 
@@ -26,15 +25,9 @@ pub struct Sheet {
 }
 
 #[derive(Clone, Copy)]
-pub enum SheetAnswer {
-    Refused(Refusal),
-    Accepted,
-}
-
-#[derive(Clone, Copy)]
 pub struct SheetOutcome {
     pub sheet: Sheet,
-    pub answer: SheetAnswer,
+    pub answer: Checked,
 }
 
 impl Sheet {
@@ -44,7 +37,7 @@ impl Sheet {
     // A sheet without layers for a canvas of this size (refusal 6). After a refusal too: a sheet of such
     // a size breaks the rules, so every later call refuses it.
     pub fn open(width: u32, height: u32) -> SheetOutcome
-        ensures answer_value { said result.answer ≡ open_answer width height }
+        ensures answer_value { result.answer ≡ open_answer width height }
         ensures sheet_value { result.sheet ≡ opened_sheet width height }
     {
         let blank = Layer::blank();
@@ -58,22 +51,15 @@ impl Sheet {
             width: width,
             height: height,
         };
-        let checked = size.check();
-        let Checked::Passed = checked else {
-            return SheetOutcome {
-                sheet: sheet,
-                answer: SheetAnswer::Refused(checked.refusal()),
-            };
-        };
         SheetOutcome {
             sheet: sheet,
-            answer: SheetAnswer::Accepted,
+            answer: size.check(),
         }
     }
 
     // Puts a figure with its style on top (refusals 1, 2, 3, 5, 7 and 9).
     pub fn add(self, figure: Figure, style: Style) -> SheetOutcome
-        ensures answer_value { said result.answer ≡ sheet_answer self [] (call_add (styled_figure figure style)) }
+        ensures answer_value { result.answer ≡ sheet_answer self [] (call_add (styled_figure figure style)) }
         ensures sheet_value { result.sheet ≡ sheet_after self [] (call_add (styled_figure figure style)) }
     {
         let size = CanvasSize {
@@ -82,11 +68,11 @@ impl Sheet {
         };
         let places = self.layers;
         let room = sheet_checks::check_add(size, self.count, places);
-        let checked = drawing::check(figure, style).or_else(room);
-        let Checked::Passed = checked else {
+        let checked = drawing::check(figure, style).and(room);
+        let Ok(()) = checked else {
             return SheetOutcome {
                 sheet: self,
-                answer: SheetAnswer::Refused(checked.refusal()),
+                answer: checked,
             };
         };
         let area = drawing::stroke_rows(figure, style);
@@ -100,13 +86,13 @@ impl Sheet {
         sheet.count = self.count + 1;
         SheetOutcome {
             sheet: sheet,
-            answer: SheetAnswer::Accepted,
+            answer: Ok(()),
         }
     }
 
     // Paints the next row of a layer, counted from 0 (refusals 7, 8, 10, 11 and 12).
     pub fn paint(self, layer: u32, canvas: &mut [u8]) -> SheetOutcome
-        ensures answer_value { said result.answer ≡ sheet_answer self canvas.old (call_paint layer) }
+        ensures answer_value { result.answer ≡ sheet_answer self canvas.old (call_paint layer) }
         ensures sheet_value { result.sheet ≡ sheet_after self canvas.old (call_paint layer) }
         ensures canvas_after { canvas.new ≡ canvas_after self canvas.old (call_paint layer) }
     {
@@ -116,11 +102,14 @@ impl Sheet {
         };
         let places = self.layers;
         let asked = sheet_checks::asked_row(size, self.count, places, layer, canvas.len());
-        let Asked::Row(row) = asked else {
-            return SheetOutcome {
-                sheet: self,
-                answer: SheetAnswer::Refused(asked.refusal()),
-            };
+        let row = match asked {
+            Ok(row) => row,
+            Err(refusal) => {
+                return SheetOutcome {
+                    sheet: self,
+                    answer: Err(refusal),
+                };
+            }
         };
         let place = layer as usize;
         let chosen = places[place];
@@ -135,7 +124,7 @@ impl Sheet {
         };
         SheetOutcome {
             sheet: sheet,
-            answer: SheetAnswer::Accepted,
+            answer: Ok(()),
         }
     }
 
@@ -143,7 +132,7 @@ impl Sheet {
     // painted become the background's, overpainted by the other layers that had painted them (refusals
     // 7, 8 for either buffer, and 10).
     pub fn remove(self, layer: u32, canvas: &mut [u8], background: &[u8]) -> SheetOutcome
-        ensures answer_value { said result.answer ≡ sheet_answer self canvas.old (call_remove layer background.now) }
+        ensures answer_value { result.answer ≡ sheet_answer self canvas.old (call_remove layer background.now) }
         ensures sheet_value { result.sheet ≡ sheet_after self canvas.old (call_remove layer background.now) }
         ensures canvas_after { canvas.new ≡ canvas_after self canvas.old (call_remove layer background.now) }
         ensures background_value { background.exit.now ≡ background.entry.now }
@@ -156,21 +145,21 @@ impl Sheet {
         let count = self.count;
         let tested = sheet_checks::test_rules(size, count, places);
         let checked = sheet_checks::check_remove(
-            tested.kept,
+            tested.is_some(),
             size,
             count,
             layer,
             canvas.len(),
             background.len(),
         );
-        let Checked::Passed = checked else {
+        let Ok(()) = checked else {
             return SheetOutcome {
                 sheet: self,
-                answer: SheetAnswer::Refused(checked.refusal()),
+                answer: checked,
             };
         };
         let place = layer as usize;
-        let rows = tested.rows;
+        let rows = tested.unwrap();
         sheet_remove::restore(
             canvas,
             background,
@@ -187,7 +176,7 @@ impl Sheet {
                 count: count - 1,
                 layers: sheet_remove::without(places, place),
             },
-            answer: SheetAnswer::Accepted,
+            answer: Ok(()),
         }
     }
 }

@@ -53,14 +53,12 @@ pub fn encodes_calls(numbers: &[i32]) -> bool
         return false;
     }
     let count = numbers.len() / CALL_LENGTH;
-    let mut j: usize = 0;
-    while j < count {
+    for j in 0..count {
         let at = CALL_LENGTH * j;
         let end = at + CALL_LENGTH;
         if !is_call(&numbers[at..end]) {
             return false;
         }
-        j += 1;
     }
     true
 }

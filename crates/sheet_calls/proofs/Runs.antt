@@ -1,6 +1,7 @@
 -- A run of a list of calls. What the calls that are left make of the sheet, the canvas and the answers reached is what all calls
 -- make of those at the start; at the end nothing is left. The laws of a list of a sheet's own calls, demand 3 among them, say the rest.
 -- Assumes nothing.
+use Rattle.std.specs.Prelude.{Err}
 use mathlib.Core.Path.{◌≡◌, refl, sym, ap, ap₂, subst, ◌∙◌}
 use mathlib.Core.Bool.{true, false}
 use mathlib.Core.List.{List, [], ◌∷◌, map}
@@ -11,11 +12,9 @@ use lib.IntN.{ℤ}
 use lib.ListN.{length, take, drop, set}
 use lib.Seq.{sets}
 use Rattle.refusal.specs.declared.Refusal.{Refusal}
-use Rattle.refusal.specs.declared.Checked.TheVariants.{Passed, Refused}
-use Rattle.refusal.specs.Refusal.{number}
+use Rattle.refusal.specs.Refusal.{number, Checked, passed}
 use Rattle.canvas_size.specs.CanvasSize.{canvas_size_check, canvas_length_check}
 use Rattle.canvas_size.proofs.Sides.{canvas_size_passed, canvas_length_passed}
-use Rattle.refusal.specs.declared.Checked.{Checked}
 use Rattle.refusal.specs.Refusal.{answer_number}
 use Rattle.book.specs.Book.{Call, book_after_all}
 use Rattle.book.specs.Sheet.{State, WithinSide}
@@ -24,7 +23,7 @@ use Rattle.book.specs.Demand3.{AfterCalls, OverLent}
 use Rattle.drawing.specs.Drawing.{StyledFigure, drawing}
 use Rattle.sheet.specs.declared.Sheet.{Sheet}
 use Rattle.sheet.specs.declared.SheetOutcome.{SheetOutcome}
-use Rattle.sheet.specs.Sheet.{said, state_of, opened_sheet}
+use Rattle.sheet.specs.Sheet.{state_of, opened_sheet}
 use Rattle.sheet.specs.SheetDemand3.{sheet_answers, sheet_after_all, canvas_after_all, KeepsRules}
 use Rattle.sheet.proofs.SheetDemand3.{sheet_demand3, sheet_rules_kept}
 use Rattle.host_records.specs.RecordNumbers.{list_from}
@@ -65,7 +64,7 @@ module _ (background : List ℕ) (numbers : List ℤ) (count : ℕ) (s₀ : Shee
     calls_left : left j ≡ call ∷ left (j + 1)
     calls_left = list_from_here (λ k. call_of background (call_numbers numbers k)) count j here
 
-    pub one_less_left : (n : ℕ) → n ≡ answer_number (said r.answer) → CallsLeft (j + 1) r.sheet canvas' (set told j n)
+    pub one_less_left : (n : ℕ) → n ≡ answer_number r.answer → CallsLeft (j + 1) r.sheet canvas' (set told j n)
     unfolding sheet_answers sheet_after_all canvas_after_all
     one_less_left n e =
         record {
@@ -121,7 +120,7 @@ module _ (W H : ℕ) (lent list : List ℕ) (calls : List (Call StyledFigure)) w
             (sym (ap₂ state_of sheet painted)) demand.reached;
       }
 
-  pub run_from_lem : canvas_size_check W H ≡ Passed → canvas_length_check W H (length lent) ≡ Passed → (first : Sheet) → first ≡ opened_sheet W H
+  pub run_from_lem : canvas_size_check W H ≡ passed → canvas_length_check W H (length lent) ≡ passed → (first : Sheet) → first ≡ opened_sheet W H
       → {s : Sheet} {canvas told : List ℕ} → told ≡ answers_after list first lent calls → s ≡ sheet_after_all first lent calls
       → canvas ≡ canvas_after_all first lent calls → Ran W H calls lent list s canvas told
   run_from_lem size long first just_opened {s} {canvas} {told} answers sheet bytes =
@@ -145,12 +144,12 @@ module _ (W H : ℕ) (lent list : List ℕ) (calls : List (Call StyledFigure)) w
 
 -- ---- What the run says.
 module _ (W H : ℕ) (numbers : List ℤ) (bytes room : ℕ) where
-  pub run_refused : (refusal : Refusal) → lent_check W H numbers bytes room ≡ Refused refusal
+  pub run_refused : (refusal : Refusal) → lent_check W H numbers bytes room ≡ Err refusal
       → run_answer W H numbers bytes room ≡ refused_by (number refusal)
   unfolding run_answer
   run_refused refusal e = rw e
 
-  module _ (passed : lent_check W H numbers bytes room ≡ Passed) where
+  module _ (passed : lent_check W H numbers bytes room ≡ passed) where
     pub run_not_calls : encodes_calls numbers ≡ false → run_answer W H numbers bytes room ≡ not_calls
     unfolding run_answer
     run_not_calls none = rw (passed, none)

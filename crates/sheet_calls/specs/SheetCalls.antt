@@ -1,11 +1,9 @@
 -- Demand 3 (document 00) of a function: a list of calls written as numbers, run from a sheet just opened on one canvas, with one
 -- background for all removals in it (document 02, 'Five').
 -- Assumes nothing.
-use Rattle.std.specs.Prelude.{◌≡◌, ◌≢◌, Bool, true, false, List, [], map, ℕ, ◌<◌, ℤ}
+use Rattle.std.specs.Prelude.{◌≡◌, ◌≢◌, Bool, true, false, List, [], map, ℕ, ◌<◌, ℤ, Ok, Err, Result}
 use Rattle.std.proofs.lemmas.List.Edits.{sets}
-use Rattle.refusal.specs.declared.Checked.{Checked}
-use Rattle.refusal.specs.declared.Checked.TheVariants.{Passed, Refused}
-use Rattle.refusal.specs.Refusal.{number, answer_number, or_else, room_check}
+use Rattle.refusal.specs.Refusal.{number, answer_number, or_else, room_check, Checked}
 use Rattle.canvas_size.specs.CanvasSize.{canvas_size_check, canvas_length_check}
 use Rattle.book.specs.Book.{Call, book_answers, book_after_all}
 use Rattle.book.specs.Each.{Each}
@@ -13,12 +11,12 @@ use Rattle.book.specs.Demand3.{AfterCalls, OverLent}
 use Rattle.drawing.specs.Drawing.{StyledFigure, drawing}
 use Rattle.sheet.specs.declared.Sheet.{Sheet}
 use Rattle.sheet.specs.declared.SheetOutcome.{SheetOutcome}
-use Rattle.sheet.specs.Sheet.{said, state_of, opened_sheet, sheet_answer, sheet_after, canvas_after}
+use Rattle.sheet.specs.Sheet.{state_of, opened_sheet, sheet_answer, sheet_after, canvas_after}
 use Rattle.sheet.specs.SheetDemand3.{sheet_answers, sheet_after_all, canvas_after_all, KeepsRules}
 use Rattle.host_records.specs.RecordNumbers.{number_at}
 use Rattle.sheet_call_numbers.specs.CallNumbers.{call_kind_at, remove_kind, call_numbers, call_count, calls_of, encodes_calls}
-use Rattle.sheet_calls.specs.declared.RunAnswer.{RunAnswer}
-use Rattle.sheet_calls.specs.declared.RunAnswer.TheVariants as run_answer_cases
+use Rattle.sheet_calls.specs.declared.RunError.{RunError}
+use Rattle.sheet_calls.specs.declared.RunError.TheVariants as run_error_cases
 
 -- what a run says: it ran; the numbers are no list of calls, which has no number in the table; or it is refused by a number
 pub data RunSays : Type 0 where
@@ -26,16 +24,16 @@ pub data RunSays : Type 0 where
   not_calls : RunSays
   refused_by : ℕ → RunSays
 
-abbrev pub run_said : RunAnswer → RunSays
-run_said (run_answer_cases.Refused refusal) = refused_by (number refusal)
-run_said run_answer_cases.NotCalls = not_calls
-run_said run_answer_cases.Ran = all_ran
+abbrev pub run_said : Result (Unit {0}) RunError → RunSays
+run_said (Err (run_error_cases.Refused refusal)) = refused_by (number refusal)
+run_said (Err run_error_cases.NotCalls) = not_calls
+run_said (Ok done) = all_ran
 
 -- by what the checks of what is lent find, and whether the numbers are calls
 abbrev pub says_after : Checked → Bool → RunSays
-says_after (Refused refusal) are_calls = refused_by (number refusal)
-says_after Passed true = all_ran
-says_after Passed false = not_calls
+says_after (Err refusal) are_calls = refused_by (number refusal)
+says_after (Ok _) true = all_ran
+says_after (Ok _) false = not_calls
 
 -- 6, 8 and 13 of what is lent, before any number is read. The background is not among it: a removal gets 8 if that has another
 -- length than the canvas, and where there is none nobody looks at it
@@ -49,7 +47,7 @@ run_answer W H numbers bytes room = says_after (lent_check W H numbers bytes roo
 
 -- one call on a sheet with its canvas
 pub record Called (call : Call StyledFigure) (s : Sheet) (canvas : List ℕ) (r : SheetOutcome) (canvas_after_lem : List ℕ) : Type 0 where
-  pub answer : said r.answer ≡ sheet_answer s canvas call
+  pub answer : r.answer ≡ sheet_answer s canvas call
   pub sheet : r.sheet ≡ sheet_after s canvas call
   pub bytes : canvas_after_lem ≡ canvas_after s canvas call
 

@@ -4,37 +4,36 @@
 
 ghost use Rattle.std.specs.Prelude.{◌≡◌, ◌*◌, ◌≤◌, length};
 ghost use Rattle.refusal.specs.Refusal.{answer_number};
-ghost use Rattle.sheet.specs.Sheet.{said};
 ghost use Rattle.sheet.specs.SheetDemand3.{sheet_after_all, canvas_after_all};
 ghost use Rattle.sheet_call_numbers.specs.CallNumbers.{call_length, call_of, calls_from, calls_of};
 ghost use Rattle.sheet_calls.specs.SheetCalls.{run_said, run_answer, Called, answers_after, RunLeaves};
 
 use canvas_size::CanvasSize;
 use refusal::{Checked, Refusal, check_room};
-use sheet::{Sheet, SheetAnswer, SheetOutcome};
+use sheet::{Sheet, SheetOutcome};
 use sheet_call_numbers::{CALL_LENGTH, FIGURE, KIND, LAYER, PAINT, REMOVE, STYLE, STYLE_END};
 
+// Why no call of a list was made.
 #[derive(Clone, Copy)]
-pub enum RunAnswer {
+pub enum RunError {
     Refused(Refusal),
     // The numbers are no list of calls.
     NotCalls,
-    Ran,
 }
 
 #[derive(Clone, Copy)]
 pub struct RunOutcome {
     pub sheet: Sheet,
-    pub answer: RunAnswer,
+    pub answer: Result<(), RunError>,
 }
 
 // The number that stands for an answer: 0 for accepted.
-pub fn number_of(answer: SheetAnswer) -> u32
-    ensures { result ≡ answer_number (said answer) }
+fn number_of(answer: Checked) -> u32
+    ensures { result ≡ answer_number answer }
 {
     match answer {
-        SheetAnswer::Refused(refusal) => refusal.number(),
-        SheetAnswer::Accepted => 0,
+        Err(refusal) => refusal.number(),
+        Ok(()) => 0,
     }
 }
 
@@ -74,15 +73,12 @@ fn make_calls(
         (calls_from background.now numbers.now 0 count) }
 {
     let mut current = sheet;
-    let mut j: usize = 0;
-    while j < count {
+    for j in 0..count {
         let at = CALL_LENGTH * j;
         let end = at + CALL_LENGTH;
         let made = make_call(current, &numbers[at..end], canvas, background);
         current = made.sheet;
-        let answer = made.answer;
-        answers[j] = number_of(answer);
-        j += 1;
+        answers[j] = number_of(made.answer);
     }
     current
 }
@@ -112,23 +108,22 @@ pub fn run_calls(
         height: height,
     };
     let count = calls.len() / CALL_LENGTH;
-    let lent = size.check().or_else(size.check_length(canvas.len()));
-    let checked = lent.or_else(check_room(count, answers.len()));
-    let Checked::Passed = checked else {
+    let lent = size.check().and(size.check_length(canvas.len()));
+    if let Err(refusal) = lent.and(check_room(count, answers.len())) {
         return RunOutcome {
             sheet: sheet,
-            answer: RunAnswer::Refused(checked.refusal()),
+            answer: Err(RunError::Refused(refusal)),
         };
-    };
+    }
     if !sheet_call_numbers::encodes_calls(calls) {
         return RunOutcome {
             sheet: sheet,
-            answer: RunAnswer::NotCalls,
+            answer: Err(RunError::NotCalls),
         };
     }
     let made = make_calls(sheet, count, calls, canvas, background, answers);
     RunOutcome {
         sheet: made,
-        answer: RunAnswer::Ran,
+        answer: Ok(()),
     }
 }

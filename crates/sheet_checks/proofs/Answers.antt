@@ -1,5 +1,6 @@
 -- The answers of a sheet record, test by test as the code makes them, and what an accepted call tells of its arguments.
 -- Assumes nothing.
+use Rattle.std.specs.Prelude.{Err}
 use mathlib.Core.Path.{◌≡◌, refl, sym, ap, ◌∙◌}
 use mathlib.Core.Bool.{Bool, true, false, not}
 use mathlib.Core.List.{List, [], ◌∷◌, map}
@@ -13,10 +14,8 @@ use lib.Signed.{le_z}
 use borrow.Author.Tests.{leb-true, leb-false, eqb-true, le-leb, lt-leb, not-false}
 use Rattle.refusal.specs.declared.Refusal.{Refusal}
 use Rattle.refusal.specs.declared.Refusal.TheVariants.{SheetRule, CanvasLength, SheetFull, NoLayer, NoRowLeft, RowOwed}
-use Rattle.refusal.specs.declared.Checked.{Checked}
-use Rattle.refusal.specs.declared.Checked.TheVariants.{Passed, Refused}
 use Rattle.geometry.specs.Limits.{max_layers}
-use Rattle.refusal.specs.Refusal.{or_else, refuse_if}
+use Rattle.refusal.specs.Refusal.{or_else, refuse_if, Checked, passed}
 use Rattle.refusal.proofs.Checks.{refused_apart, passed_first, passed_next, passed_condition}
 use Rattle.canvas_size.specs.CanvasSize.{canvas_length_check}
 use Rattle.canvas_size.proofs.Sides.{canvas_length_passed}
@@ -43,7 +42,7 @@ module _ (W H count : ℕ) (places : List Layer) (sixteen : length places ≡ 16
     abbrev added : Checked
     added = answer drawing W H (state_of count places canvas) (add item)
 
-    pub add_broken : kept ≡ false → added ≡ or_else (drawing.refuse item) (Refused SheetRule)
+    pub add_broken : kept ≡ false → added ≡ or_else (drawing.refuse item) (Err SheetRule)
     unfolding answer
     add_broken broken = rw broken
 
@@ -51,15 +50,15 @@ module _ (W H count : ℕ) (places : List Layer) (sixteen : length places ≡ 16
       many : length (layers_of count places) ≡ count
       many = layers_many count places sixteen (kept_few W H count places sixteen rules)
 
-      pub add_full : 16 ≤ count → added ≡ or_else (drawing.refuse item) (Refused SheetFull)
+      pub add_full : 16 ≤ count → added ≡ or_else (drawing.refuse item) (Err SheetFull)
       unfolding answer
       add_full full = rw (rules, le-leb max_layers (length (layers_of count places)) (omega (arith, many)))
 
-      pub add_free : count < 16 → added ≡ or_else (drawing.refuse item) Passed
+      pub add_free : count < 16 → added ≡ or_else (drawing.refuse item) passed
       unfolding answer
       add_free free = rw (rules, lt-leb max_layers (length (layers_of count places)) (omega (arith, many)))
 
-    pub added_room : added ≡ Passed → count < 16
+    pub added_room : added ≡ passed → count < 16
     unfolding answer
     added_room e =
         let test : Bool = leb max_layers (length (layers_of count places)) in
@@ -75,30 +74,30 @@ module _ (W H count : ℕ) (places : List Layer) (sixteen : length places ≡ 16
     abbrev painted : Checked
     painted = answer drawing W H (state_of count places canvas) (paint i)
 
-    pub paint_broken : kept ≡ false → painted ≡ Refused SheetRule
+    pub paint_broken : kept ≡ false → painted ≡ Err SheetRule
     paint_broken broken = paint_refused_broken_sheet drawing W H (state_of count places canvas) i broken
 
     module _ (rules : kept ≡ true) where
       few : count ≤ 16
       few = kept_few W H count places sixteen rules
 
-      pub paint_length : (refusal : Refusal) → canvas_length_check W H (length canvas) ≡ Refused refusal
-          → painted ≡ Refused refusal
+      pub paint_length : (refusal : Refusal) → canvas_length_check W H (length canvas) ≡ Err refusal
+          → painted ≡ Err refusal
       unfolding answer canvas_length_check
       paint_length refusal check = by_test (eqb (length canvas) (W * H)) refl check
         where
-          by_test : (t : Bool) → eqb (length canvas) (W * H) ≡ t → refuse_if (not t) CanvasLength ≡ Refused refusal
-              → painted ≡ Refused refusal
+          by_test : (t : Bool) → eqb (length canvas) (W * H) ≡ t → refuse_if (not t) CanvasLength ≡ Err refusal
+              → painted ≡ Err refusal
           by_test true e check = let z : ◌≡◌ {A = ℕ} 0 1 = cc in absurd (omega arith)
-          by_test false e check = let same : CanvasLength ≡ refusal = cc in rw (rules, e) (ap Refused same)
+          by_test false e check = let same : CanvasLength ≡ refusal = cc in rw (rules, e) (ap Err same)
 
-      module _ (size : canvas_length_check W H (length canvas) ≡ Passed) where
+      module _ (size : canvas_length_check W H (length canvas) ≡ passed) where
         on_sheet : painted ≡ layer_answer drawing (layers_of count places) i (get_elem? (layers_of count places) i)
         on_sheet =
             paint_answer_on_sheet drawing W H (state_of count places canvas) i rules
             (canvas_length_passed W H (length canvas) size)
 
-        pub paint_no_layer : count ≤ i → painted ≡ Refused NoLayer
+        pub paint_no_layer : count ≤ i → painted ≡ Err NoLayer
         paint_no_layer past = on_sheet ∙ rw (layer_past count places sixteen few i past)
 
         module _ (within : i < count) where
@@ -118,14 +117,14 @@ module _ (W H count : ℕ) (places : List Layer) (sixteen : length places ≡ 16
                     (take i places) layer.next_row,
               )
 
-          pub paint_finished : le_z (layer_rows layer).end (layer_rows layer).next ≡ true → painted ≡ Refused NoRowLeft
+          pub paint_finished : le_z (layer_rows layer).end (layer_rows layer).next ≡ true → painted ≡ Err NoRowLeft
           paint_finished finished = by_layer ∙ rw finished
 
           module _ (left : le_z (layer_rows layer).end (layer_rows layer).next ≡ false) where
-            pub paint_owed : some_rows_owe (map layer_rows (take i places)) (layer_rows layer).next ≡ true → painted ≡ Refused RowOwed
+            pub paint_owed : some_rows_owe (map layer_rows (take i places)) (layer_rows layer).next ≡ true → painted ≡ Err RowOwed
             paint_owed owed = by_layer ∙ rw (left, owed)
 
-            pub paint_free : some_rows_owe (map layer_rows (take i places)) (layer_rows layer).next ≡ false → painted ≡ Passed
+            pub paint_free : some_rows_owe (map layer_rows (take i places)) (layer_rows layer).next ≡ false → painted ≡ passed
             paint_free free = by_layer ∙ rw (left, free)
 
     -- accepted, the sheet keeps its rules, the canvas has its length, and there is such a layer
@@ -134,7 +133,7 @@ module _ (W H count : ℕ) (places : List Layer) (sixteen : length places ≡ 16
       pub size : length canvas ≡ W * H
       pub within : i < count
 
-    pub painted_accepted : painted ≡ Passed → PaintAccepted
+    pub painted_accepted : painted ≡ passed → PaintAccepted
     unfolding answer
     painted_accepted e =
         let fits : Bool = eqb (length canvas) (W * H) in
@@ -151,7 +150,7 @@ module _ (W H count : ℕ) (places : List Layer) (sixteen : length places ≡ 16
         }
       where
         by_place : (rules : kept ≡ true) (t : Bool) → leb count i ≡ t
-            → layer_answer drawing (layers_of count places) i (get_elem? (layers_of count places) i) ≡ Passed → i < count
+            → layer_answer drawing (layers_of count places) i (get_elem? (layers_of count places) i) ≡ passed → i < count
         by_place rules true past e =
             let lacking = layer_past count places sixteen (few rules) i (leb-true count i past) in
             absurd (refused_apart (sym (ap (layer_answer drawing (layers_of count places) i) lacking) ∙ e))
@@ -185,7 +184,7 @@ module _ (W H count : ℕ) (places : List Layer) (sixteen : length places ≡ 16
       pub long : length background ≡ W * H
       pub within : i < count
 
-    pub removed_accepted : removed ≡ Passed → RemoveAccepted
+    pub removed_accepted : removed ≡ passed → RemoveAccepted
     unfolding remove_check
     removed_accepted e =
         let ten = refuse_if (leb count i) NoLayer in

@@ -1,5 +1,7 @@
 -- The places of a sheet record: the layers that it has, and the test of its rules by its size, its count and its layers.
 -- Assumes nothing.
+use Rattle.refusal.specs.Refusal.{passed}
+use Rattle.std.specs.Prelude.{Err}
 use mathlib.Core.Path.{◌≡◌, refl, sym, ap, subst, ◌∙◌}
 use mathlib.Core.Bool.{Bool, true, false, ◌&&◌}
 use mathlib.Core.List.{List, [], ◌∷◌, ◌++◌, map}
@@ -11,7 +13,6 @@ use lib.ListN.{length, take, get_or, get_elem?, length-map, length-take, length-
 use lib.Seq.{take-append-le, take-take, get_or-take}
 use borrow.Author.Tests.{leb-true, leb-false, le-leb, le-ltb}
 use Rattle.refusal.specs.declared.Refusal.{Refusal}
-use Rattle.refusal.specs.declared.Checked.TheVariants.{Passed, Refused}
 use Rattle.geometry.specs.Limits.{max_canvas_side, max_layers}
 use Rattle.canvas_size.specs.CanvasSize.{canvas_size_check}
 use Rattle.canvas_size.proofs.Sides.{canvas_size_passed}
@@ -72,12 +73,12 @@ module _ (count : ℕ) (places : List Layer) (sixteen : length places ≡ 16) wh
 
 -- ---- a size within limits
 module _ (W H : ℕ) where
-  pub sides_pass : WithinSide drawing W → WithinSide drawing H → canvas_size_check W H ≡ Passed
+  pub sides_pass : WithinSide drawing W → WithinSide drawing H → canvas_size_check W H ≡ passed
   unfolding canvas_size_check
   sides_pass (w, v) (h, k) =
       rw (le-ltb W 1 w, le-ltb max_canvas_side W v, le-ltb H 1 h, le-ltb max_canvas_side H k)
 
-  pub size_fits : canvas_size_check W H ≡ Passed → (fits_side drawing W && fits_side drawing H) ≡ true
+  pub size_fits : canvas_size_check W H ≡ passed → (fits_side drawing W && fits_side drawing H) ≡ true
   size_fits passed =
       let sides = canvas_size_passed W H passed in
       rw (side_fits drawing W (sides.width_least, sides.width_most), side_fits drawing H (sides.height_least, sides.height_most))
@@ -87,12 +88,12 @@ module _ (W H count : ℕ) (places : List Layer) where
   abbrev kept : Bool
   kept = keeps_rules drawing W H (layers_of count places)
 
-  pub broken_size : (refusal : Refusal) → canvas_size_check W H ≡ Refused refusal → kept ≡ false
+  pub broken_size : (refusal : Refusal) → canvas_size_check W H ≡ Err refusal → kept ≡ false
   broken_size refusal refused =
       false_unless kept
       (λ e. let rules = test_rules drawing W H (layers_of count places) e in
       let z : ◌≡◌ {A = ℕ} 0 1 =
-      let contrary : Passed ≡ Refused refusal = sym (sides_pass W H rules.width rules.height) ∙ refused in cc in
+      let contrary : passed ≡ Err refusal = sym (sides_pass W H rules.width rules.height) ∙ refused in cc in
       omega arith)
 
   module _ (sixteen : length places ≡ 16) where
@@ -111,7 +112,7 @@ module _ (W H count : ℕ) (places : List Layer) where
             let few = (test_rules drawing W H (layers_of count places) e).few in
             absurd (omega (arith, leb-false count 16 o, layers_too_many count places sixteen (leb-false count 16 o)))
 
-    pub kept_by_layers : canvas_size_check W H ≡ Passed → count ≤ 16
+    pub kept_by_layers : canvas_size_check W H ≡ passed → count ≤ 16
         → layers_keep_rules drawing (map layer_of (take count places)) ≡ kept
     unfolding keeps_rules
     kept_by_layers passed few =

@@ -2,6 +2,8 @@
 -- passes has a figure, a style and rows within bounds. Of the places from one on: they keep the rules if their first does, with
 -- the rows of those after it at hand.
 -- Assumes nothing.
+use Rattle.refusal.specs.Refusal.{passed}
+use Rattle.std.specs.Prelude.{Some, None, Err}
 use mathlib.Core.Path.{◌≡◌, refl, sym, ap, ◌∙◌}
 use mathlib.Core.Bool.{Bool, true, false, cond, not, ◌&&◌, ◌||◌}
 use mathlib.Core.List.{List, [], ◌∷◌, map}
@@ -13,7 +15,6 @@ use lib.Signed.{le_z, lt_z}
 use Rattle.signed.specs.Signed.{Near}
 use Rattle.signed.proofs.Laws.{int, add_law}
 use Rattle.refusal.specs.declared.Refusal.{Refusal}
-use Rattle.refusal.specs.declared.Checked.TheVariants.{Passed, Refused}
 use Rattle.rectangle.specs.declared.Rectangle.{Rectangle}
 use Rattle.geometry.specs.Bounds.{wide_point}
 use Rattle.rectangle.specs.Rectangle.{offset as rectangle_offset}
@@ -34,21 +35,19 @@ use Rattle.drawing.specs.Drawing.{styled_check, drawing}
 use Rattle.drawing.specs.Rows.{stroke_rows}
 use Rattle.drawing.proofs.Rows.{rows_of_ellipse, rows_of_crate_box, rows_of_w3c_box, RowsWithin, box_rows_within, ellipse_rows_within}
 use Rattle.sheet_layers.specs.declared.Layer.{Layer}
-use Rattle.sheet_layers.specs.declared.RulesTested.{RulesTested}
 use Rattle.sheet_layers.specs.declared.rows.LayerRows.{LayerRows}
-use Rattle.sheet_layers.specs.declared.RowsFound.TheVariants.{Broken, Kept}
 use Rattle.sheet_layers.specs.LayerRows.{rows_owe, some_rows_owe, rows_overtake, no_rows_overtake, rows_in_order}
-use Rattle.sheet_layers.specs.Layers.{layer_of, blank_layer, layer_rows, broken_rules}
+use Rattle.sheet_layers.specs.Layers.{layer_of, blank_layer, layer_rows}
 use Rattle.sheet_layers.proofs.RowTests.{RowsFit, no_rows, and-false, place_here, place_past, put_here}
 
 -- ---- one layer
 module _ (l : Layer) where
-  pub broken_by_check : (refusal : Refusal) → styled_check l.figure l.style ≡ Refused refusal
+  pub broken_by_check : (refusal : Refusal) → styled_check l.figure l.style ≡ Err refusal
       → layer_keeps_rules drawing (layer_of l) ≡ false
   unfolding layer_keeps_rules
   broken_by_check refusal refused = rw refused
 
-  module _ (passed : styled_check l.figure l.style ≡ Passed) where
+  module _ (passed : styled_check l.figure l.style ≡ passed) where
     pub broken_above : lt_z l.next_row (layer_rows l).first ≡ true → layer_keeps_rules drawing (layer_of l) ≡ false
     unfolding layer_keeps_rules layer_rows
     broken_above above =
@@ -73,11 +72,11 @@ module _ (l : Layer) where
           rw (passed, first, end)
 
 -- ---- what a passed check bounds
-pub checked_figure : (f : Figure) (style : Style) → styled_check f style ≡ Passed → OwnFigure f
+pub checked_figure : (f : Figure) (style : Style) → styled_check f style ≡ passed → OwnFigure f
 unfolding styled_check
 checked_figure f style passed = figure_passed f (passed_first (figure_check f) (style_check style) passed)
 
-pub checked_stroke : (f : Figure) (style : Style) → styled_check f style ≡ Passed → style.stroke_width ≤ wide_offset
+pub checked_stroke : (f : Figure) (style : Style) → styled_check f style ≡ passed → style.stroke_width ≤ wide_offset
 unfolding styled_check
 checked_stroke f style passed = omega (arith, style_passed style (passed_next (figure_check f) (style_check style) passed))
 
@@ -128,17 +127,17 @@ kept_by_parts (l ∷ rest) =
 
 -- ---- what the test of one layer found
 module _ (t : Bool) (r : LayerRows) where
-  pub found_broken : Broken ≡ cond t (Kept r) Broken → t ≡ false
+  pub found_broken : None ≡ cond t (Some r) None → t ≡ false
   found_broken e = by_test t e
     where
-      by_test : (t : Bool) → Broken ≡ cond t (Kept r) Broken → t ≡ false
+      by_test : (t : Bool) → None ≡ cond t (Some r) None → t ≡ false
       by_test true e = let z : ◌≡◌ {A = ℕ} 0 1 = cc in absurd (omega arith)
       by_test false e = refl
 
-  pub found_kept : (q : LayerRows) → Kept q ≡ cond t (Kept r) Broken → (t ≡ true) × (q ≡ r)
+  pub found_kept : (q : LayerRows) → Some q ≡ cond t (Some r) None → (t ≡ true) × (q ≡ r)
   found_kept q e = by_test t e
     where
-      by_test : (t : Bool) → Kept q ≡ cond t (Kept r) Broken → (t ≡ true) × (q ≡ r)
+      by_test : (t : Bool) → Some q ≡ cond t (Some r) None → (t ≡ true) × (q ≡ r)
       by_test true e = (refl, cc)
       by_test false e = let z : ◌≡◌ {A = ℕ} 0 1 = cc in absurd (omega arith)
 
@@ -173,7 +172,7 @@ module _ (layers : List Layer) (count i next : ℕ) (step : i + 1 ≡ next) (her
   split : drop i (take count layers) ≡ at ∷ after
   split = place_here layers count i blank_layer here enough ∙ ap {B = List Layer} (λ n. at ∷ drop n (take count layers)) step
 
-  pub broken_here : Broken ≡ cond (layer_keeps_rules drawing (layer_of at)) (Kept (layer_rows at)) Broken
+  pub broken_here : None ≡ cond (layer_keeps_rules drawing (layer_of at)) (Some (layer_rows at)) None
       → layers_keep_rules drawing (map layer_of (take count layers)) ≡ false
   broken_here found =
       kept_by_parts (take count layers)
@@ -183,7 +182,7 @@ module _ (layers : List Layer) (count i next : ℕ) (step : i + 1 ≡ next) (her
 
   -- the rows found are put where they belong
   pub found_here : (rows : List LayerRows) → count ≤ length rows → FoundFrom layers count rows next
-      → (r : LayerRows) → Kept r ≡ cond (layer_keeps_rules drawing (layer_of at)) (Kept (layer_rows at)) Broken
+      → (r : LayerRows) → Some r ≡ cond (layer_keeps_rules drawing (layer_of at)) (Some (layer_rows at)) None
       → FoundFrom layers count (set rows i r) i
   found_here rows room later r found =
       let kept = found_kept (layer_keeps_rules drawing (layer_of at)) (layer_rows at) r found in
@@ -252,7 +251,3 @@ kept_at (l ∷ layers) zero kept within =
 kept_at (l ∷ layers) (suc i) kept within =
     let here : Bool = layer_keeps_rules drawing (layer_of l) && none_overtakes drawing (layer_of l) (map layer_of layers) in
     kept_at layers i (and_true_parts here (layers_keep_rules drawing (map layer_of layers)) kept).1 (omega arith)
-
--- ---- what is found of layers that break a rule
-pub not_kept : {t : RulesTested} → t ≡ broken_rules → t.kept ≡ false
-not_kept is = ap (λ (r : RulesTested). r.kept) is

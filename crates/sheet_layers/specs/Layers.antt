@@ -1,16 +1,13 @@
 -- Document 01, 'The records' and 'Sheet': the places for layers in a sheet record, read as the layers of which `book`'s
 -- definitions speak, and the rows by which the code compares two layers.
 -- Assumes nothing.
-use Rattle.std.specs.Prelude.{false, List, [], ◌∷◌, ◌++◌, map, ℕ, pos, ◌+ℤ◌, take, replicate}
+use Rattle.std.specs.Prelude.{List, [], ◌∷◌, ◌++◌, map, ℕ, pos, ◌+ℤ◌, take, None}
 use Rattle.figure.specs.declared.Figure.TheVariants as figure_of_cases
-use Rattle.style.specs.declared.Paint.TheVariants as paint_of_cases
 use Rattle.style.specs.declared.StrokeAlignment.TheVariants as alignment_of_cases
 use Rattle.book.specs.Sheet.{Layer as SheetLayer, State, Layers}
 use Rattle.drawing.specs.Drawing.{StyledFigure, styled_figure, drawing}
 use Rattle.drawing.specs.Rows.{stroke_rows}
-use Rattle.geometry.specs.Limits.{max_layers}
 use Rattle.sheet_layers.specs.declared.Layer.{Layer}
-use Rattle.sheet_layers.specs.declared.RulesTested.{RulesTested}
 use Rattle.sheet_layers.specs.declared.rows.LayerRows.{LayerRows}
 
 -- the layer in a place: its figure with its style, and its next row ('The records')
@@ -22,7 +19,7 @@ abbrev pub blank_layer : Layer
 blank_layer =
     record {
       figure = figure_of_cases.Ellipse (record { top_left = record { x = pos 0; y = pos 0 }; size = record { width = 0; height = 0 } });
-      style = record { stroke = paint_of_cases.Absent; fill = paint_of_cases.Absent; stroke_width = 0; alignment = alignment_of_cases.Inside };
+      style = record { stroke = None; fill = None; stroke_width = 0; alignment = alignment_of_cases.Inside };
       next_row = pos 0;
     }
 
@@ -45,7 +42,3 @@ layer_rows l =
       next = l.next_row;
       end = (stroke_rows l.figure l.style).first +ℤ pos (stroke_rows l.figure l.style).count;
     }
-
--- what the test of layers that break a rule finds: no rows of any place
-abbrev pub broken_rules : RulesTested
-broken_rules = record { kept = false; rows = replicate max_layers (record { first = pos 0; next = pos 0; end = pos 0 }) }

@@ -6,17 +6,15 @@ use crate::rows::{LayerRows, in_order};
 use figure::Figure;
 use geometry::{Point, Size};
 use rectangle::Rectangle;
-use refusal::Checked;
-use style::{Paint, StrokeAlignment, Style};
+use style::{StrokeAlignment, Style};
 
 pub mod rows;
 
-ghost use Rattle.std.specs.Prelude.{◌≡◌, true, cond, map, ◌≤◌, take};
+ghost use Rattle.std.specs.Prelude.{◌≡◌, cond, map, ◌≤◌, take, Some, None, is_some, IfSome};
 ghost use Rattle.geometry.specs.Limits.{max_layers};
 ghost use Rattle.book.specs.Sheet.{layer_keeps_rules, layers_keep_rules};
 ghost use Rattle.drawing.specs.Drawing.{drawing};
-ghost use Rattle.sheet_layers.specs.Layers.{blank_layer, layer_of, layer_rows, broken_rules};
-ghost use Rattle.sheet_layers.specs.declared.RowsFound.TheVariants as rows-found;
+ghost use Rattle.sheet_layers.specs.Layers.{blank_layer, layer_of, layer_rows};
 
 // A figure with its style on a sheet, and the row that its next paint call paints.
 #[derive(Clone, Copy)]
@@ -24,37 +22,6 @@ pub struct Layer {
     pub figure: Figure,
     pub style: Style,
     pub next_row: i32,
-}
-
-// What the test of one layer's rules finds.
-#[derive(Clone, Copy)]
-pub enum RowsFound {
-    Broken,
-    Kept(LayerRows),
-}
-
-// What the test of all layers' rules finds. The rows are those of the layers where they are kept.
-#[derive(Clone, Copy)]
-pub struct RulesTested {
-    pub kept: bool,
-    pub rows: [LayerRows; LayerRows::PLACES],
-}
-
-impl RulesTested {
-    // What is found of layers that break a rule.
-    pub fn broken() -> RulesTested
-        ensures { result ≡ broken_rules }
-    {
-        let none = LayerRows {
-            first: 0,
-            next: 0,
-            end: 0,
-        };
-        RulesTested {
-            kept: false,
-            rows: [none; LayerRows::PLACES],
-        }
-    }
 }
 
 impl Layer {
@@ -74,8 +41,8 @@ impl Layer {
                 },
             }),
             style: Style {
-                stroke: Paint::Absent,
-                fill: Paint::Absent,
+                stroke: None,
+                fill: None,
                 stroke_width: 0,
                 alignment: StrokeAlignment::Inside,
             },
@@ -85,25 +52,25 @@ impl Layer {
 
     // The layer's rows, if its figure and style are within limits and its next row among its rows or
     // right after them.
-    pub fn rows(self) -> RowsFound
-        ensures { result ≡ cond (layer_keeps_rules drawing (layer_of self)) (rows-found.Kept (layer_rows self)) rows-found.Broken }
+    pub fn rows(self) -> Option<LayerRows>
+        ensures { result ≡ cond (layer_keeps_rules drawing (layer_of self)) (Some (layer_rows self)) None }
     {
         let figure = self.figure;
         let style = self.style;
         let next = self.next_row;
-        let Checked::Passed = drawing::check(figure, style) else {
-            return RowsFound::Broken;
+        let Ok(()) = drawing::check(figure, style) else {
+            return None;
         };
         let area = drawing::stroke_rows(figure, style);
         let first = area.first;
         let end = signed::add(first, signed::from_u32(area.count));
         if next < first {
-            return RowsFound::Broken;
+            return None;
         }
         if end < next {
-            return RowsFound::Broken;
+            return None;
         }
-        RowsFound::Kept(LayerRows {
+        Some(LayerRows {
             first: first,
             next: next,
             end: end,
@@ -112,11 +79,14 @@ impl Layer {
 }
 
 // Tests the rules of the first layers: one by one, from the last to the first, and then two by two, by
-// the rows that were found.
-pub fn test_rules(layers: [Layer; Layer::PLACES], count: usize) -> RulesTested
+// the rows that were found. Where all keep them, the first rows answered are those of these layers.
+pub fn test_rules(
+    layers: [Layer; Layer::PLACES],
+    count: usize,
+) -> Option<[LayerRows; LayerRows::PLACES]>
     requires { count ≤ max_layers }
-    ensures kept_value { result.kept ≡ layers_keep_rules drawing (map layer_of (take count layers)) }
-    ensures rows_value { result.kept ≡ true → take count result.rows ≡ map layer_rows (take count layers) }
+    ensures kept_value { is_some result ≡ layers_keep_rules drawing (map layer_of (take count layers)) }
+    ensures rows_value { IfSome result (λ rows. take count rows ≡ map layer_rows (take count layers)) }
 {
     let none = LayerRows {
         first: 0,
@@ -124,17 +94,11 @@ pub fn test_rules(layers: [Layer; Layer::PLACES], count: usize) -> RulesTested
         end: 0,
     };
     let mut rows = [none; LayerRows::PLACES];
-    let mut i = count;
-    while 0 < i {
-        i -= 1;
-        let layer = layers[i];
-        let RowsFound::Kept(found) = layer.rows() else {
-            return RulesTested::broken();
-        };
-        rows[i] = found;
+    for i in (0..count).rev() {
+        rows[i] = layers[i].rows()?;
     }
-    RulesTested {
-        kept: in_order(rows, count),
-        rows: rows,
+    if !in_order(rows, count) {
+        return None;
     }
+    Some(rows)
 }

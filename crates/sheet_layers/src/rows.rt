@@ -52,13 +52,10 @@ pub fn some_owes(rows: [LayerRows; LayerRows::PLACES], layers: usize, y: i32) ->
     requires { layers ≤ max_layers }
     ensures { result ≡ some_rows_owe (take layers rows) y }
 {
-    let mut i: usize = 0;
-    while i < layers {
-        let earlier = rows[i];
-        if earlier.owes(y) {
+    for i in 0..layers {
+        if rows[i].owes(y) {
             return true;
         }
-        i += 1;
     }
     false
 }
@@ -78,13 +75,10 @@ fn none_overtakes(
     if earlier.end <= earlier.next {
         return true;
     }
-    let mut i = from;
-    while i < count {
-        let later = rows[i];
-        if earlier.is_overtaken(later) {
+    for i in from..count {
+        if earlier.is_overtaken(rows[i]) {
             return false;
         }
-        i += 1;
     }
     true
 }
@@ -94,11 +88,8 @@ pub fn in_order(rows: [LayerRows; LayerRows::PLACES], count: usize) -> bool
     requires { count ≤ max_layers }
     ensures { result ≡ rows_in_order (take count rows) }
 {
-    let mut i: usize = 0;
-    while i < count {
-        let earlier = rows[i];
-        i += 1;
-        if !none_overtakes(earlier, rows, i, count) {
+    for i in 0..count {
+        if !none_overtakes(rows[i], rows, i + 1, count) {
             return false;
         }
     }

@@ -25,10 +25,8 @@ pub fn without(places: [Layer; Layer::PLACES], place: usize) -> [Layer; Layer::P
     ensures { result ≡ book_without place places ++ (blank_layer ∷ []) }
 {
     let mut moved = places;
-    let mut j = place;
-    while j + 1 < Layer::PLACES {
+    for j in place..Layer::PLACES - 1 {
         moved[j] = places[j + 1];
-        j += 1;
     }
     moved[Layer::PLACES - 1] = Layer::blank();
     moved
@@ -40,10 +38,8 @@ fn copy_bytes(canvas: &mut [u8], background: &[u8], from: usize, to: usize)
     requires to_in_bounds { to ≤ length canvas.old }
     ensures { canvas.new ≡ sets canvas.old from (slice from to background.now) }
 {
-    let mut i = from;
-    while i < to {
+    for i in from..to {
         canvas[i] = background[i];
-        i += 1;
     }
 }
 
@@ -57,10 +53,8 @@ fn paint_rows(canvas: &mut [u8], size: CanvasSize, layer: Layer, from: u32, to: 
 {
     let figure = layer.figure;
     let style = layer.style;
-    let mut y = from;
-    while y < to {
+    for y in from..to {
         drawing::paint_row(canvas, size, figure, style, signed::from_u32(y));
-        y += 1;
     }
 }
 
@@ -82,14 +76,12 @@ fn lay_over(
     ensures { canvas.new ≡ laid_over size.width size.height from to (map layer_of (drop first (take end layers)))
         canvas.old }
 {
-    let mut j = first;
-    while j < end {
+    for j in first..end {
         let own = rows[j];
         let top = signed::most(from, signed::floor0(own.first));
         let bottom = signed::least(to, signed::floor0(own.next));
         let layer = layers[j];
         paint_rows(canvas, size, layer, top, bottom);
-        j += 1;
     }
 }
 

@@ -1,9 +1,9 @@
 -- The two widths computed: document 01's case k, and each alignment at the stroke widths 0, 1, 2, 255 and 256.
 -- Assumes nothing.
+use Rattle.std.specs.Prelude.{None}
 use mathlib.Core.Path.{◌≡◌, refl}
 use mathlib.Core.List.{List, [], ◌∷◌, map}
 use Prim.Native.Nat.{ℕ}
-use Rattle.style.specs.declared.Paint.TheVariants.{Absent}
 use Rattle.style.specs.declared.StrokeAlignment.{StrokeAlignment}
 use Rattle.style.specs.declared.StrokeAlignment.TheVariants.{Inside, Center, Outside}
 use Rattle.style.specs.declared.Style.{Style}
@@ -17,7 +17,7 @@ record Case : Type 0 where
 
 abbrev case : StrokeAlignment → ℕ → ℕ → ℕ → Case
 case alignment s outside inside =
-    record { given = aligned (styled_by_default Absent Absent s) alignment; gives = record { outside = outside; inside = inside } }
+    record { given = aligned (styled_by_default None None s) alignment; gives = record { outside = outside; inside = inside } }
 
 -- case k is Center at 1
 abbrev cases : List Case

@@ -1,11 +1,11 @@
 -- Laws of the outside and the inside width: together they make up the stroke width, so neither is above it; a style that passes
 -- its check is within the limit.
 -- Assumes nothing.
+use Rattle.refusal.specs.Refusal.{passed}
 use mathlib.Core.Path.{◌≡◌}
 use Prim.Native.Nat.{ℕ, ◌+◌, ◌≤◌}
 use native.Mathlib.Omega.{arith}
 use Rattle.refusal.specs.declared.Refusal.TheVariants.{Offset}
-use Rattle.refusal.specs.declared.Checked.TheVariants.{Passed}
 use Rattle.geometry.specs.Limits.{max_stroke_width}
 use Rattle.refusal.proofs.Checks.{passed_above}
 use Rattle.style.specs.declared.StrokeAlignment.{StrokeAlignment}
@@ -29,9 +29,9 @@ pub inside_within_stroke : (style : Style) → inside_stroke_width style ≤ sty
 inside_within_stroke style = omega (arith, stroke_widths_make_stroke style)
 
 -- ---- a style within the limit
-pub style_passed : (style : Style) → style_check style ≡ Passed → style.stroke_width ≤ max_stroke_width
+pub style_passed : (style : Style) → style_check style ≡ passed → style.stroke_width ≤ max_stroke_width
 unfolding style_check
 style_passed style e = passed_above max_stroke_width style.stroke_width Offset e
 
-pub outside_passed : (style : Style) → style_check style ≡ Passed → outside_stroke_width style ≤ max_stroke_width
+pub outside_passed : (style : Style) → style_check style ≡ passed → outside_stroke_width style ≤ max_stroke_width
 outside_passed style e = omega (arith, style_passed style e, outside_within_stroke style)

@@ -1,17 +1,18 @@
 -- Document 01, 'The records' (Paint, Style) and 'Rectangle and offset' (outside and inside width), after `primitive_style.rs`.
 -- Assumes nothing.
-use Rattle.std.specs.Prelude.{List, [], ◌∷◌, ℕ, ◌+◌, ◌/◌, ℤ, pos}
+use Rattle.std.specs.Prelude.{List, [], ◌∷◌, ℕ, ◌+◌, ◌/◌, ℤ, pos, Option, Result}
+use Rattle.refusal.specs.declared.Refusal.{Refusal}
 use Rattle.refusal.specs.declared.Refusal.TheVariants.{Offset}
-use Rattle.refusal.specs.declared.Checked.{Checked}
 use Rattle.geometry.specs.Limits.{max_stroke_width}
-use Rattle.refusal.specs.Refusal.{number, refuse_if, above, Outcome, refused, answered, unless}
-use Rattle.style.specs.declared.Paint.{Paint}
+use Rattle.refusal.specs.Refusal.{Checked, refuse_if, above, Outcome, outcome, unless}
 use Rattle.style.specs.declared.StrokeAlignment.{StrokeAlignment}
 use Rattle.style.specs.declared.StrokeAlignment.TheVariants.{Inside, Center, Outside}
 use Rattle.style.specs.declared.Style.{Style}
 use Rattle.style.specs.declared.Widths.{Widths}
-use Rattle.style.specs.declared.WidthsAnswer.{WidthsAnswer}
-use Rattle.style.specs.declared.WidthsAnswer.TheVariants as widths_answer_cases
+
+-- what a run is painted with: nothing, or a colour byte
+abbrev pub Paint : Type 0
+Paint = Option ℕ
 
 -- the alignment of a style that is made without one (`PrimitiveStyle::const_default`)
 unfoldable pub default_alignment : StrokeAlignment
@@ -54,9 +55,8 @@ inside_stroke_width style = inside_width style.alignment style.stroke_width
 abbrev pub widths_values : Widths → List ℤ
 widths_values w = pos w.outside ∷ pos w.inside ∷ []
 
-abbrev pub widths_outcome : WidthsAnswer → Outcome
-widths_outcome (widths_answer_cases.Refused refusal) = refused (number refusal)
-widths_outcome (widths_answer_cases.Answered w) = answered (widths_values w)
+abbrev pub widths_outcome : Result Widths Refusal → Outcome
+widths_outcome = outcome widths_values
 
 -- `Style::widths`: the outside and then the inside width
 abbrev pub widths_call : Style → Outcome

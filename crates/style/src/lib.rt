@@ -1,18 +1,11 @@
-// Paints and styles, after embedded-graphics 0.8.2 `primitives/primitive_style.rs`. A colour is one
-// byte, so `Option<C>` is the enum `Paint`, and the builder is left out.
+// Styles, after embedded-graphics 0.8.2 `primitives/primitive_style.rs`. A colour is one byte, and the builder is
+// left out.
 #![tactic(auto)]
 
 ghost use Rattle.std.specs.Prelude.{◌≡◌};
 ghost use Rattle.style.specs.Style.{default_alignment, styled_by_default, aligned, style_check, outside_stroke_width, inside_stroke_width, widths_outcome, widths_call};
 
 use refusal::{Checked, Refusal, refuse_above};
-
-// What a run is painted with: nothing, or a colour byte.
-#[derive(Clone, Copy)]
-pub enum Paint {
-    Absent,
-    Colour(u8),
-}
 
 // Where the stroke lies about the outline.
 #[derive(Clone, Copy)]
@@ -24,6 +17,7 @@ pub enum StrokeAlignment {
 
 impl StrokeAlignment {
     // The alignment of a style that is made without one.
+    #[tactic(auto, unfolding(crate::specs::Style::default_alignment))]
     fn default_alignment() -> StrokeAlignment
         ensures { result ≡ default_alignment }
     {
@@ -33,8 +27,8 @@ impl StrokeAlignment {
 
 #[derive(Clone, Copy)]
 pub struct Style {
-    pub stroke: Paint,
-    pub fill: Paint,
+    pub stroke: Option<u8>,
+    pub fill: Option<u8>,
     pub stroke_width: u32,
     pub alignment: StrokeAlignment,
 }
@@ -46,18 +40,12 @@ pub struct Widths {
     pub inside: u32,
 }
 
-#[derive(Clone, Copy)]
-pub enum WidthsAnswer {
-    Refused(Refusal),
-    Answered(Widths),
-}
-
 impl Style {
     // The largest stroke width (refusal 5).
     pub const MAX_STROKE_WIDTH: u32 = 256;
 
     // A style with the default alignment.
-    pub fn new(stroke: Paint, fill: Paint, stroke_width: u32) -> Style
+    pub fn new(stroke: Option<u8>, fill: Option<u8>, stroke_width: u32) -> Style
         ensures { result ≡ styled_by_default stroke fill stroke_width }
     {
         Style {
@@ -83,6 +71,7 @@ impl Style {
     }
 
     // Refusal 5.
+    #[tactic(auto, unfolding(crate::specs::Style::style_check))]
     pub fn check(self) -> Checked
         ensures { result ≡ style_check self }
     {
@@ -91,6 +80,7 @@ impl Style {
 
     // The part of the stroke width outside the outline, whatever the width. A host calls `widths`,
     // which refuses.
+    #[tactic(auto, unfolding(crate::specs::Style::outside_stroke_width))]
     pub fn outside_stroke_width(self) -> u32
         ensures { result ≡ outside_stroke_width self }
     {
@@ -104,6 +94,7 @@ impl Style {
 
     // The part of the stroke width inside the outline, with Center's odd pixel. The Rust adds 1 and
     // halves, with a cap at the type's end; the remainder added to the half needs no cap.
+    #[tactic(auto, unfolding(crate::specs::Style::inside_stroke_width))]
     pub fn inside_stroke_width(self) -> u32
         ensures { result ≡ inside_stroke_width self }
     {
@@ -117,14 +108,11 @@ impl Style {
     }
 
     // Refused by 5.
-    pub fn widths(self) -> WidthsAnswer
+    pub fn widths(self) -> Result<Widths, Refusal>
         ensures { widths_outcome result ≡ widths_call self }
     {
-        let checked = self.check();
-        let Checked::Passed = checked else {
-            return WidthsAnswer::Refused(checked.refusal());
-        };
-        WidthsAnswer::Answered(Widths {
+        self.check()?;
+        Ok(Widths {
             outside: self.outside_stroke_width(),
             inside: self.inside_stroke_width(),
         })

@@ -1,5 +1,6 @@
 -- What `styled_straight` tells of a box's row is told of the styled row of the figure, whichever rule confines its radii.
 -- Assumes nothing.
+use Rattle.scanline.specs.Rows.{StyledRow}
 use mathlib.Core.Path.{◌≡◌, sym, subst}
 use mathlib.Core.Logic.{◌⊎◌, ⊎_elim}
 use Prim.Native.Nat.{ℕ}
@@ -13,7 +14,6 @@ use Rattle.styled_row.specs.StyledRow.{box_styled_row, styled_row_of_shapes}
 use Rattle.style.specs.declared.Style.{Style}
 use Rattle.style.specs.Style.{outside_stroke_width, inside_stroke_width}
 use Rattle.styled.specs.Styled.{styled_row}
-use Rattle.styled_straight.specs.declared.StraightRow.{StraightRow}
 use Rattle.styled_straight.specs.StraightRow.{Told}
 
 -- a figure is this box, of either kind
@@ -23,7 +23,7 @@ IsBox f b = (f ≡ CrateBox b) ⊎ (f ≡ W3cBox b)
 pub own_box : (f : Figure) (b : RoundedRectangle) → IsBox f b → OwnFigure f → OwnBox b
 own_box f b is own = ⊎_elim (λ e. subst OwnFigure e own) (λ e. subst OwnFigure e own) is
 
-module _ (b : RoundedRectangle) (style : Style) (y : ℤ) (r : StraightRow) (outside inside : ℕ)
+module _ (b : RoundedRectangle) (style : Style) (y : ℤ) (r : StyledRow) (outside inside : ℕ)
     (outside_is : outside ≡ outside_stroke_width style) (inside_is : inside ≡ inside_stroke_width style) where
   crate_told : Told r (box_styled_row (crate_area b (pos outside)) (crate_area b (neg_ℤ (pos inside))) y)
       → Told r (styled_row (CrateBox b) style y)

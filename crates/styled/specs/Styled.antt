@@ -1,9 +1,9 @@
 -- Document 01: the styled bounding box (end of 'Rectangle and offset'); the styled rows of a figure ('Styled rows').
 -- Assumes nothing.
+use Rattle.scanline.specs.Rows.{StyledRow}
 use Rattle.std.specs.Prelude.{ℤ, pos}
 use Rattle.rectangle.specs.declared.Rectangle.{Rectangle}
 use Rattle.rectangle.specs.Rectangle.{offset as rectangle_offset}
-use Rattle.scanline.specs.declared.StyledRow.{StyledRow}
 use Rattle.figure.specs.declared.Figure.{Figure}
 use Rattle.figure.specs.Figure.{own_rectangle}
 use Rattle.style.specs.declared.Style.{Style}

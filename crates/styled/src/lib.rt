@@ -13,22 +13,15 @@ ghost use Rattle.styled.specs.Calls.{styled_row_outcome, styled_row_call, styled
 
 use figure::Figure;
 use geometry::check_row;
-use rectangle::RectangleAnswer;
-use refusal::{Checked, Refusal};
-use scanline::{StyledRow, StyledScanline};
+use rectangle::Rectangle;
+use refusal::Refusal;
+use scanline::{StyledRuns, StyledScanline};
 use style::Style;
 use styled_row::{crate_row_at, ellipse_row_at, w3c_row_at};
-use styled_straight::{StraightRow, straight_row};
-
-#[derive(Clone, Copy)]
-pub enum StyledRowAnswer {
-    Refused(Refusal),
-    NoRow,
-    Row(StyledScanline),
-}
+use styled_straight::straight_row;
 
 // The styled row at y of a box where no corner touches it; nothing is told of an ellipse.
-fn straight_row_of(figure: Figure, style: Style, y: i32) -> StraightRow
+fn straight_row_of(figure: Figure, style: Style, y: i32) -> Option<StyledRuns>
     requires own_figure { OwnFigure figure }
     requires stroke_width_bound { style.stroke_width ≤ wide_offset }
     requires near { Near wide_point y }
@@ -38,7 +31,7 @@ fn straight_row_of(figure: Figure, style: Style, y: i32) -> StraightRow
     let inside = style.inside_stroke_width();
     let b = match figure {
         Figure::Ellipse(_) => {
-            return StraightRow::Unknown;
+            return None;
         }
         Figure::CrateBox(b) => b,
         Figure::W3cBox(b) => b,
@@ -47,7 +40,7 @@ fn straight_row_of(figure: Figure, style: Style, y: i32) -> StraightRow
 }
 
 // The styled row at y by both areas.
-fn row_by_areas(figure: Figure, style: Style, y: i32) -> StyledRow
+fn row_by_areas(figure: Figure, style: Style, y: i32) -> Option<StyledRuns>
     requires own_figure { OwnFigure figure }
     requires stroke_width_bound { style.stroke_width ≤ wide_offset }
     requires near { Near wide_point y }
@@ -66,49 +59,39 @@ fn row_by_areas(figure: Figure, style: Style, y: i32) -> StyledRow
 
 // The runs of the styled row at y, asked for alone: a box's without its corners where none touches the
 // row. Every row that is asked for alone is found here.
-pub fn row_at(figure: Figure, style: Style, y: i32) -> StyledRow
+pub fn row_at(figure: Figure, style: Style, y: i32) -> Option<StyledRuns>
     requires own_figure { OwnFigure figure }
     requires stroke_width_bound { style.stroke_width ≤ wide_offset }
     requires near { Near wide_point y }
     ensures { result ≡ styled_row figure style y }
 {
-    let StraightRow::Runs(runs) = straight_row_of(figure, style, y) else {
-        return row_by_areas(figure, style, y);
-    };
-    StyledRow::Runs(runs)
+    straight_row_of(figure, style, y).or_else(|| row_by_areas(figure, style, y))
 }
 
 // The styled row at y. Refused by 1, 2, 3, 4 and 5.
-pub fn styled_row(figure: Figure, style: Style, y: i32) -> StyledRowAnswer
+#[tactic(auto, using(figure::proofs::Within::figure_passed, geometry::proofs::Checks::asked_passed, style::proofs::StrokeWidths::style_passed))]
+pub fn styled_row(figure: Figure, style: Style, y: i32) -> Result<Option<StyledScanline>, Refusal>
     ensures { styled_row_outcome result ≡ styled_row_call figure style y }
 {
-    let checked = figure.check().or_else(check_row(y)).or_else(style.check());
-    let Checked::Passed = checked else {
-        return StyledRowAnswer::Refused(checked.refusal());
-    };
-    let StyledRow::Runs(runs) = row_at(figure, style, y) else {
-        return StyledRowAnswer::NoRow;
-    };
-    let stroke_left = runs.stroke_left;
-    let fill = runs.fill;
-    let stroke_right = runs.stroke_right;
-    StyledRowAnswer::Row(StyledScanline {
+    figure.check()?;
+    check_row(y)?;
+    style.check()?;
+    Ok(row_at(figure, style, y).map(|runs| StyledScanline {
         y: y,
-        stroke_left: stroke_left,
-        fill: fill,
-        stroke_right: stroke_right,
-    })
+        stroke_left: runs.stroke_left,
+        fill: runs.fill,
+        stroke_right: runs.stroke_right,
+    }))
 }
 
 // The rectangle that a styled figure keeps to. Refused by 1, 2, 3 and 5.
-pub fn styled_bounding_box(figure: Figure, style: Style) -> RectangleAnswer
+#[tactic(auto, using(figure::proofs::Within::figure_passed, figure::proofs::Within::own_rectangle_bounded, style::proofs::StrokeWidths::outside_passed))]
+pub fn styled_bounding_box(figure: Figure, style: Style) -> Result<Rectangle, Refusal>
     ensures { rectangle_outcome result ≡ styled_bounding_box_call figure style }
 {
-    let checked = figure.check().or_else(style.check());
-    let Checked::Passed = checked else {
-        return RectangleAnswer::Refused(checked.refusal());
-    };
+    figure.check()?;
+    style.check()?;
     let outside = signed::from_u32(style.outside_stroke_width());
     let rectangle = figure.own_rectangle();
-    RectangleAnswer::Answered(rectangle::bounded::offset(rectangle, outside))
+    Ok(rectangle::bounded::offset(rectangle, outside))
 }

@@ -25,6 +25,7 @@ fn area(figure: Figure, k: i32) -> Shape
 }
 
 // The shape of the stroke area.
+#[tactic(auto, using(style::proofs::StrokeWidths::outside_within_stroke))]
 pub fn stroke_shape(figure: Figure, style: Style) -> Shape
     requires own_figure { OwnFigure figure }
     requires stroke_width_bound { style.stroke_width ≤ wide_offset }
@@ -34,6 +35,7 @@ pub fn stroke_shape(figure: Figure, style: Style) -> Shape
 }
 
 // The shape of the fill area.
+#[tactic(auto, using(style::proofs::StrokeWidths::inside_within_stroke))]
 pub fn fill_shape(figure: Figure, style: Style) -> Shape
     requires own_figure { OwnFigure figure }
     requires stroke_width_bound { style.stroke_width ≤ wide_offset }

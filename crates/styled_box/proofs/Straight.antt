@@ -1,12 +1,12 @@
 -- Rows that no corner of either area touches are alike.
 -- Assumes nothing.
+use Rattle.scanline.specs.Rows.{StyledRow}
+use Rattle.std.specs.Prelude.{Some}
 use mathlib.Core.Path.{sym, ap, ◌∙◌}
 use Prim.Native.Nat.{ℕ, zero, suc, ◌+◌, ◌<◌, min}
 use native.Mathlib.Omega.{arith}
 use lib.IntN.{ℤ, pos, ◌+ℤ◌}
 use Rattle.signed.proofs.Laws.{int, add_law}
-use Rattle.scanline.specs.declared.StyledRow.{StyledRow}
-use Rattle.scanline.specs.declared.Place.TheVariants.{At}
 use Rattle.scanline.specs.Places.{Placed}
 use Rattle.rounded_rectangle.specs.declared.RoundedRectangle.{RoundedRectangle}
 use Rattle.rounded_rectangle.specs.Quadrants.{top, height}
@@ -17,12 +17,12 @@ use Rattle.styled_box.specs.ReadyBox.{Alike}
 
 module _ (a f : RoundedRectangle) where
   -- rows further down
-  placed_down : (first y : ℤ) (n dy k : ℕ) → Placed first n y (At dy) → dy + k < n → Placed first n (y +ℤ pos k) (At (dy + k))
+  placed_down : (first y : ℤ) (n dy k : ℕ) → Placed first n y (Some dy) → dy + k < n → Placed first n (y +ℤ pos k) (Some (dy + k))
   placed_down first y n dy k p l =
       let is = p.0 in
       (omega (arith, int, is, add_law y (pos k), add_law first (pos (dy + k)), add_law first (pos dy)), l)
 
-  module _ (y : ℤ) (dy fill_dy n m : ℕ) (at : Placed (top a) (height a) y (At dy)) (fill_at_lem : Placed (top f) (height f) y (At fill_dy))
+  module _ (y : ℤ) (dy fill_dy n m : ℕ) (at : Placed (top a) (height a) y (Some dy)) (fill_at_lem : Placed (top f) (height f) y (Some fill_dy))
       (s : StraightFor a.corners a.rectangle.size dy n) (t : StraightFor f.corners f.rectangle.size fill_dy m) where
     pub rows_straight : Alike (box_styled_row a f) y (min n m)
     rows_straight zero l = ap (box_styled_row a f) (omega (arith, int, add_law y (pos 0)))

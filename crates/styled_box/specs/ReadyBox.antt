@@ -1,7 +1,7 @@
 -- What a box made ready stands for: its areas, what the code asks of it, and rows that are alike.
 -- Assumes nothing.
+use Rattle.scanline.specs.Rows.{StyledRow}
 use Rattle.std.specs.Prelude.{ℕ, ◌<◌, ℤ, pos, ◌+ℤ◌, ◌≡◌}
-use Rattle.scanline.specs.declared.StyledRow.{StyledRow}
 use Rattle.rounded_rectangle.specs.declared.RoundedRectangle.{RoundedRectangle}
 use Rattle.rounded_rectangle.specs.Relative.{ReadyBox}
 use Rattle.box_fill.specs.Relative.{ReadyFill, box_of}

@@ -15,7 +15,7 @@ use box_fill::Hints;
 use ellipse_search::ANYWHERE;
 use rectangle::Rectangle;
 use rounded_rectangle::{ConfinedBox, RoundedRectangleContains, run_between};
-use scanline::{Place, StyledRow};
+use scanline::StyledRuns;
 use styled_row::around_fill;
 
 // Where the searches of a row begin, for both areas: nothing depends on it but time.
@@ -28,7 +28,7 @@ pub struct RowHints {
 // A styled row, and the hints for the row after it.
 #[derive(Clone, Copy)]
 pub struct HintedRow {
-    pub row: StyledRow,
+    pub row: Option<StyledRuns>,
     pub hints: RowHints,
 }
 
@@ -58,6 +58,7 @@ impl RowHints {
 }
 
 impl StyledBox {
+    #[tactic(auto, using(figure::proofs::Within::area_box_bounded))]
     pub fn new(area: ConfinedBox, inner: ConfinedBox) -> StyledBox
         requires confined_area_box { ConfinedAreaBox area }
         requires confined_area_box_2 { ConfinedAreaBox inner }
@@ -84,13 +85,13 @@ impl StyledBox {
         let area = self.area;
         let top_left = area.top_left;
         let size = area.size;
-        let Place::At(dy) = scanline::place_of(top_left.y, size.height, y) else {
+        let Some(dy) = scanline::place_of(top_left.y, size.height, y) else {
             return 1;
         };
         let inner = self.inner;
         let inner_top_left = inner.top_left;
         let inner_size = inner.size;
-        let Place::At(inner_dy) = scanline::place_of(inner_top_left.y, inner_size.height, y) else {
+        let Some(inner_dy) = scanline::place_of(inner_top_left.y, inner_size.height, y) else {
             return 1;
         };
         let stroke = self.stroke;
@@ -110,9 +111,9 @@ impl StyledBox {
         let area = self.area;
         let top_left = area.top_left;
         let size = area.size;
-        let Place::At(dy) = scanline::place_of(top_left.y, size.height, y) else {
+        let Some(dy) = scanline::place_of(top_left.y, size.height, y) else {
             return HintedRow {
-                row: StyledRow::NoRow,
+                row: None,
                 hints: hints,
             };
         };
@@ -129,7 +130,7 @@ impl StyledBox {
         let found_run = found.run;
         let next_fill = found.hints;
         HintedRow {
-            row: StyledRow::Runs(around_fill(run, found_run)),
+            row: Some(around_fill(run, found_run)),
             hints: RowHints {
                 stroke: Hints {
                     left: insets.left,

@@ -1,8 +1,7 @@
 -- Document 01, 'Styled rows': the styled row at y, by the shapes of the stroke area and of the fill area.
 -- Assumes nothing.
-use Rattle.std.specs.Prelude.{ℤ}
-use Rattle.scanline.specs.declared.StyledRow.{StyledRow}
-use Rattle.scanline.specs.declared.StyledRow.TheVariants.{NoRow}
+use Rattle.scanline.specs.Rows.{StyledRow}
+use Rattle.std.specs.Prelude.{ℤ, None}
 use Rattle.ellipse_styled.specs.EllipseStyled.{styled_by, ellipse_styled_row}
 use Rattle.rounded_rectangle.specs.declared.RoundedRectangle.{RoundedRectangle}
 use Rattle.rounded_rectangle.specs.RoundedRectangle.{row as rounded_rectangle_row}
@@ -19,6 +18,6 @@ box_styled_row area fill y = styled_by (rounded_rectangle_row area y) (fill_run 
 -- said but that there is no row
 unfoldable pub styled_row_of_shapes : Shape → Shape → ℤ → StyledRow
 styled_row_of_shapes (shape_of.Ellipse area) (shape_of.Ellipse fill) y = ellipse_styled_row area fill.size y
-styled_row_of_shapes (shape_of.Ellipse area) (shape_of.RoundedBox fill) y = NoRow
-styled_row_of_shapes (shape_of.RoundedBox area) (shape_of.Ellipse fill) y = NoRow
+styled_row_of_shapes (shape_of.Ellipse area) (shape_of.RoundedBox fill) y = None
+styled_row_of_shapes (shape_of.RoundedBox area) (shape_of.Ellipse fill) y = None
 styled_row_of_shapes (shape_of.RoundedBox area) (shape_of.RoundedBox fill) y = box_styled_row (plain_box area) (plain_box fill) y

@@ -30,7 +30,7 @@ use geometry::Size;
 use geometry_range::Range;
 use rectangle::Rectangle;
 use rounded_rectangle::{ConfinedBox, RoundedRectangle, RoundedRectangleContains};
-use scanline::{Place, Row, StyledRow, StyledRuns};
+use scanline::StyledRuns;
 use shape::box_rules::{confined, offset_box, offset_w3c_box};
 
 // The stroke area's run around a fill.
@@ -61,7 +61,7 @@ fn fill_alone(b: ConfinedBox, y: i32, run: Range) -> Range
     let rectangle = b.rectangle;
     let top_left = rectangle.top_left;
     let size = rectangle.size;
-    let Place::At(dy) = scanline::place_of(top_left.y, size.height, y) else {
+    let Some(dy) = scanline::place_of(top_left.y, size.height, y) else {
         return Range {
             start: run.end,
             end: run.end,
@@ -82,20 +82,20 @@ fn fill_alone(b: ConfinedBox, y: i32, run: Range) -> Range
 }
 
 // The styled row at y of a box with these areas.
-fn box_row(area: ConfinedBox, fill: ConfinedBox, y: i32) -> StyledRow
+#[tactic(auto, unfolding(crate::specs::StyledRow::box_styled_row))]
+fn box_row(area: ConfinedBox, fill: ConfinedBox, y: i32) -> Option<StyledRuns>
     requires confined_area_box { ConfinedAreaBox area }
     requires confined_area_box_2 { ConfinedAreaBox fill }
     requires near { Near wide_point y }
     ensures { result ≡ box_styled_row (plain_box area) (plain_box fill) y }
 {
-    let Row::Run(run) = area.row(y) else {
-        return StyledRow::NoRow;
-    };
-    StyledRow::Runs(around_fill(run, fill_alone(fill, y, run)))
+    let run = area.row(y)?;
+    Some(around_fill(run, fill_alone(fill, y, run)))
 }
 
 // The runs of an ellipse's row of `width` columns whose stroke starts at place s, on a row at this
 // distance from the middle.
+#[tactic(auto, using(scanline::proofs::Find::found_at))]
 fn ellipse_runs(left: i32, width: u32, distance: u64, s: u32, sides: Size) -> StyledRuns
     requires near { Near wide_point left }
     requires width_le_wide_side { (width ≤ wide_side) × (2 * s < width) × (distance ≤ wide_distance) }
@@ -104,14 +104,15 @@ fn ellipse_runs(left: i32, width: u32, distance: u64, s: u32, sides: Size) -> St
         (width - 2 * s) s) }
 {
     let fill = EllipseContains::new(sides);
-    let Place::At(c) = first_inside(fill, width, distance, s, width - 2 * s) else {
+    let Some(c) = first_inside(fill, width, distance, s, width - 2 * s) else {
         return hollow_runs(left, width, s);
     };
     filled_runs(left, width, s, c)
 }
 
 // The styled row at y of an ellipse with this stroke area and these fill sides.
-fn ellipse_row(area: Rectangle, sides: Size, y: i32) -> StyledRow
+#[tactic(auto, unfolding(ellipse_styled::specs::EllipseStyled::ellipse_styled_row))]
+fn ellipse_row(area: Rectangle, sides: Size, y: i32) -> Option<StyledRuns>
     requires bounded { Bounded area }
     requires size_up_to { SizeUpTo wide_side sides }
     requires near { Near wide_point y }
@@ -119,19 +120,15 @@ fn ellipse_row(area: Rectangle, sides: Size, y: i32) -> StyledRow
 {
     let top_left = area.top_left;
     let size = area.size;
-    let Place::At(dy) = scanline::place_of(top_left.y, size.height, y) else {
-        return StyledRow::NoRow;
-    };
-    let Row::Run(run) = ellipse_rows::row(area, y) else {
-        return StyledRow::NoRow;
-    };
+    let dy = scanline::place_of(top_left.y, size.height, y)?;
+    let run = ellipse_rows::row(area, y)?;
     let s = signed::floor0(signed::sub(run.start, top_left.x));
     let distance = ellipse::gap(size.height, dy);
-    StyledRow::Runs(ellipse_runs(top_left.x, size.width, distance, s, sides))
+    Some(ellipse_runs(top_left.x, size.width, distance, s, sides))
 }
 
 // The styled row at y of an ellipse with strokes so wide outside and inside its outline.
-pub fn ellipse_row_at(rectangle: Rectangle, outside: u32, inside: u32, y: i32) -> StyledRow
+pub fn ellipse_row_at(rectangle: Rectangle, outside: u32, inside: u32, y: i32) -> Option<StyledRuns>
     requires own_rectangle { OwnRectangle rectangle }
     requires outside_le_wide_offset { (outside ≤ wide_offset) × (inside ≤ wide_offset) }
     requires near { Near wide_point y }
@@ -144,7 +141,7 @@ pub fn ellipse_row_at(rectangle: Rectangle, outside: u32, inside: u32, y: i32) -
 }
 
 // The styled row at y of a crate box whose areas are it offset by `outward` and by `inward`.
-pub fn crate_row_at(b: RoundedRectangle, outward: i32, inward: i32, y: i32) -> StyledRow
+pub fn crate_row_at(b: RoundedRectangle, outward: i32, inward: i32, y: i32) -> Option<StyledRuns>
     requires own_box { OwnBox b }
     requires near { Near wide_offset outward × Near wide_offset inward }
     requires near_2 { Near wide_point y }
@@ -156,7 +153,7 @@ pub fn crate_row_at(b: RoundedRectangle, outward: i32, inward: i32, y: i32) -> S
 }
 
 // The same of a W3C box, which its offset confines.
-pub fn w3c_row_at(b: RoundedRectangle, outward: i32, inward: i32, y: i32) -> StyledRow
+pub fn w3c_row_at(b: RoundedRectangle, outward: i32, inward: i32, y: i32) -> Option<StyledRuns>
     requires own_box { OwnBox b }
     requires near { Near wide_offset outward × Near wide_offset inward }
     requires near_2 { Near wide_point y }

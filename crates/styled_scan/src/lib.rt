@@ -16,27 +16,24 @@ use styled_box::StyledBox;
 pub enum StyledShape {
     Ellipse(StyledEllipse),
     RoundedBox(StyledBox),
-    Neither,
 }
 
 impl StyledShape {
     // Made of the shapes of both areas.
-    pub fn new(stroke: Shape, fill: Shape) -> StyledShape
+    #[tactic(auto, using(figure::proofs::Within::area_bounded), unfolding(styled_row::specs::StyledRow::styled_row_of_shapes))]
+    pub fn new(stroke: Shape, fill: Shape) -> Option<StyledShape>
         requires bounded_shape { BoundedShape stroke }
         requires bounded_shape_2 { BoundedShape fill }
         ensures { Ready result × ((y : ℤ) → row_of result y ≡ styled_row_of_shapes stroke fill y) }
     {
-        match stroke {
-            Shape::Ellipse(area) => match fill {
-                Shape::Ellipse(inner) => {
-                    StyledShape::Ellipse(StyledEllipse::new(area, inner.size))
-                }
-                Shape::RoundedBox(_) => StyledShape::Neither,
-            },
-            Shape::RoundedBox(area) => match fill {
-                Shape::Ellipse(_) => StyledShape::Neither,
-                Shape::RoundedBox(inner) => StyledShape::RoundedBox(StyledBox::new(area, inner)),
-            },
+        match (stroke, fill) {
+            (Shape::Ellipse(area), Shape::Ellipse(inner)) => {
+                Some(StyledShape::Ellipse(StyledEllipse::new(area, inner.size)))
+            }
+            (Shape::RoundedBox(area), Shape::RoundedBox(inner)) => {
+                Some(StyledShape::RoundedBox(StyledBox::new(area, inner)))
+            }
+            _ => None,
         }
     }
 }

@@ -2,6 +2,8 @@
 -- are contained. How far the corners of an area reach follows from the box's own: confined radii are no larger than they were, and those
 -- of a W3C box grow by no more than those of a crate box.
 -- Assumes nothing.
+use Rattle.scanline.specs.Rows.{Row, StyledRow}
+use Rattle.std.specs.Prelude.{Some}
 use mathlib.Core.Path.{◌≡◌, sym, ap, ◌∙◌}
 use Prim.Native.Nat.{ℕ, ◌+◌, ◌-◌}
 use native.Mathlib.Omega.{arith}
@@ -9,11 +11,6 @@ use lib.IntN.{ℤ, pos, neg_ℤ}
 use Rattle.signed.proofs.Laws.{positive_of_opposite, negative_of_opposite}
 use Rattle.geometry_range.specs.declared.Range.{Range}
 use Rattle.rectangle.specs.declared.Rectangle.{Rectangle}
-use Rattle.scanline.specs.declared.Row.{Row}
-use Rattle.scanline.specs.declared.Row.TheVariants.{Run}
-use Rattle.scanline.specs.declared.StyledRow.{StyledRow}
-use Rattle.scanline.specs.declared.StyledRow.TheVariants.{Runs}
-use Rattle.scanline.specs.declared.Place.TheVariants.{At}
 use Rattle.scanline.specs.Places.{Placed}
 use Rattle.corner.specs.Corner.{offset_corner}
 use Rattle.corner.proofs.Offset.{offset_radius_by_parts}
@@ -43,9 +40,9 @@ module _ (a f : RoundedRectangle) where
   whole = run_between (left a) (width a) (record { left = 0; right = 0 })
 
   abbrev pub straight_row : StyledRow
-  straight_row = Runs (around_fill whole (fill_between (left f) (width f) whole 0))
+  straight_row = Some (around_fill whole (fill_between (left f) (width f) whole 0))
 
-  module _ (y : ℤ) (dy fill_dy : ℕ) (at : Placed (top a) (height a) y (At dy)) (fill_at_lem : Placed (top f) (height f) y (At fill_dy))
+  module _ (y : ℤ) (dy fill_dy : ℕ) (at : Placed (top a) (height a) y (Some dy)) (fill_at_lem : Placed (top f) (height f) y (Some fill_dy))
       (s : Straight a.corners a.rectangle.size dy) (t : Straight f.corners f.rectangle.size fill_dy) where
     no_insets : row_insets a.corners (width a) (height a) dy ≡ record { left = 0; right = 0 }
     no_insets i =
@@ -69,8 +66,8 @@ module _ (a f : RoundedRectangle) where
     unfolding box_styled_row
     straight_row_lem =
         ap (λ (r : Row). styled_by r (fill_run f y)) (sym (row_placed a y dy at))
-        ∙ ap (λ (k : Insets). styled_by (Run (run_between (left a) (width a) k)) (fill_run f y)) no_insets
-        ∙ ap (λ (r : Range). Runs (around_fill whole r)) fill_is
+        ∙ ap (λ (k : Insets). styled_by (Some (run_between (left a) (width a) k)) (fill_run f y)) no_insets
+        ∙ ap (λ (r : Range). Some (around_fill whole r)) fill_is
 
 -- an area's whole run
 abbrev pub whole_run : Rectangle → Range
@@ -78,9 +75,9 @@ whole_run area = run_between area.top_left.x area.size.width (record { left = 0;
 
 -- the row by it, as that of the boxes of both areas
 pub straight_row_is : (area inner : Rectangle) (c d : CornerRadii) (y : ℤ) (dy inner_dy : ℕ)
-    → Placed area.top_left.y area.size.height y (At dy) → Placed inner.top_left.y inner.size.height y (At inner_dy)
+    → Placed area.top_left.y area.size.height y (Some dy) → Placed inner.top_left.y inner.size.height y (Some inner_dy)
     → Straight c area.size dy → Straight d inner.size inner_dy
-    → Runs (around_fill (whole_run area) (fill_between inner.top_left.x inner.size.width (whole_run area) 0))
+    → Some (around_fill (whole_run area) (fill_between inner.top_left.x inner.size.width (whole_run area) 0))
     ≡ box_styled_row (box_with area c) (box_with inner d) y
 straight_row_is area inner c d y dy inner_dy at inner_at s t =
     sym (straight_row_lem (box_with area c) (box_with inner d) y dy inner_dy at inner_at s t)

@@ -1,14 +1,11 @@
 -- What is known of a styled box row without the corners.
 -- Assumes nothing.
-use Rattle.std.specs.Prelude.{◌≡◌, ◌≤◌, max}
+use Rattle.scanline.specs.Rows.{StyledRow}
+use Rattle.std.specs.Prelude.{◌≡◌, ◌≤◌, max, Some, None}
 use Rattle.rectangle.specs.declared.Rectangle.{Rectangle}
-use Rattle.scanline.specs.declared.StyledRow.{StyledRow}
-use Rattle.scanline.specs.declared.StyledRow.TheVariants as row_of
 use Rattle.corner_radii.specs.declared.CornerRadii.{CornerRadii}
 use Rattle.rounded_rectangle.specs.declared.RoundedRectangle.{RoundedRectangle}
 use Rattle.styled_straight.specs.declared.Reaches.{Reaches}
-use Rattle.styled_straight.specs.declared.StraightRow.{StraightRow}
-use Rattle.styled_straight.specs.declared.StraightRow.TheVariants.{Runs, Unknown}
 
 -- a box with this rectangle and these corners
 abbrev pub box_with : Rectangle → CornerRadii → RoundedRectangle
@@ -20,6 +17,6 @@ pub record Reach (c : CornerRadii) (r : Reaches) : Type 0 where
   pub lower : max c.bottom_left.height c.bottom_right.height ≤ r.lower
 
 -- the runs told are those of the row; or nothing is told
-abbrev pub Told : StraightRow → StyledRow → Type 0
-Told (Runs runs) row = row_of.Runs runs ≡ row
-Told Unknown row = Unit {0}
+abbrev pub Told : StyledRow → StyledRow → Type 0
+Told (Some runs) row = Some runs ≡ row
+Told None row = Unit {0}

@@ -16,15 +16,8 @@ use box_columns::difference;
 use box_mirrored_fill::filled_between;
 use rectangle::Rectangle;
 use rounded_rectangle::{Insets, RoundedRectangle, run_between};
-use scanline::{Place, StyledRuns};
+use scanline::StyledRuns;
 use styled_row::around_fill;
-
-// A row of a styled box as far as it is known without the corners: its runs, or nothing.
-#[derive(Clone, Copy)]
-pub enum StraightRow {
-    Runs(StyledRuns),
-    Unknown,
-}
 
 // How many rows from its top down, and from its bottom up, the corners of a box have at most.
 #[derive(Clone, Copy)]
@@ -54,7 +47,7 @@ fn row_past(
     inner: Rectangle,
     fill: Reaches,
     y: i32,
-) -> StraightRow
+) -> Option<StyledRuns>
     requires area_rectangle { AreaRectangle area }
     requires area_rectangle_2 { AreaRectangle inner }
     requires near { Near wide_point y }
@@ -62,22 +55,18 @@ fn row_past(
 {
     let top_left = area.top_left;
     let size = area.size;
-    let Place::At(dy) = scanline::place_of(top_left.y, size.height, y) else {
-        return StraightRow::Unknown;
-    };
+    let dy = scanline::place_of(top_left.y, size.height, y)?;
     let inner_top_left = inner.top_left;
     let inner_size = inner.size;
-    let Place::At(inner_dy) = scanline::place_of(inner_top_left.y, inner_size.height, y) else {
-        return StraightRow::Unknown;
-    };
+    let inner_dy = scanline::place_of(inner_top_left.y, inner_size.height, y)?;
     if !is_past(size.height, dy, stroke) {
-        return StraightRow::Unknown;
+        return None;
     }
     if !is_past(inner_size.height, inner_dy, fill) {
-        return StraightRow::Unknown;
+        return None;
     }
     let run = run_between(top_left.x, size.width, Insets { left: 0, right: 0 });
-    StraightRow::Runs(around_fill(
+    Some(around_fill(
         run,
         filled_between(inner_top_left.x, inner_size.width, run, 0),
     ))
@@ -86,7 +75,7 @@ fn row_past(
 // The styled row at y of a box with strokes so wide outside and inside its outline, if no corner
 // touches it. Confined radii are no larger than they were, and a W3C box's grow by no more than a
 // crate box's, so the row is that of either box.
-pub fn straight_row(b: RoundedRectangle, outside: u32, inside: u32, y: i32) -> StraightRow
+pub fn straight_row(b: RoundedRectangle, outside: u32, inside: u32, y: i32) -> Option<StyledRuns>
     requires own_box { OwnBox b }
     requires outside_le_wide_offset { (outside ≤ wide_offset) × (inside ≤ wide_offset) }
     requires near { Near wide_point y }

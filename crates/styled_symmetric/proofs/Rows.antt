@@ -1,6 +1,8 @@
 -- The rows of a symmetric box: the fill of an upper row by one search, the lower rows mirror the upper ones, and the rows between
 -- them are alike.
 -- Assumes nothing.
+use Rattle.scanline.specs.Rows.{Row}
+use Rattle.std.specs.Prelude.{Some}
 use mathlib.Core.Path.{◌≡◌, refl, sym, ap, subst, ◌∙◌}
 use Prim.Native.Nat.{ℕ, ◌+◌, ◌-◌, ◌*◌, ◌≤◌, ◌<◌}
 use native.Mathlib.Omega.{arith}
@@ -8,9 +10,6 @@ use lib.IntN.{ℤ, pos, ◌+ℤ◌}
 use Rattle.signed.proofs.Laws.{int, add_law}
 use Rattle.geometry.specs.declared.Size.{Size}
 use Rattle.geometry_range.specs.declared.Range.{Range}
-use Rattle.scanline.specs.declared.Row.{Row}
-use Rattle.scanline.specs.declared.Row.TheVariants.{Run}
-use Rattle.scanline.specs.declared.StyledRow.TheVariants.{Runs}
 use Rattle.scanline.proofs.Placed.{placed_before, placed_after}
 use Rattle.rounded_rectangle.specs.declared.Insets.{Insets}
 use Rattle.rounded_rectangle.specs.Relative.{inset, side_inset, row_insets, run_between}
@@ -179,8 +178,8 @@ module _ (b : SymmetricBox) (ready : ReadySymmetric b) (dy : ℕ) (upper : dy + 
       let fill = fill_run (symmetric_fill b) in
       ap (λ (t : Row). styled_by t (fill (top +ℤ pos (h - 1 - dy)))) (sym
       (row_placed (symmetric_stroke b) (top +ℤ pos (h - 1 - dy)) (h - 1 - dy) (refl, omega (arith, upper))))
-      ∙ ap (λ (k : Insets). styled_by (Run (run_between x w k)) (fill (top +ℤ pos (h - 1 - dy)))) insets_mirrored
-      ∙ ap (λ (f : Range). Runs (around_fill (run_between x w (row_insets (four_corners r) w h dy)) f))
+      ∙ ap (λ (k : Insets). styled_by (Some (run_between x w k)) (fill (top +ℤ pos (h - 1 - dy)))) insets_mirrored
+      ∙ ap (λ (f : Range). Some (around_fill (run_between x w (row_insets (four_corners r) w h dy)) f))
       (fill_mirrored (run_between x w (row_insets (four_corners r) w h dy)))
       ∙ ap (λ (t : Row). styled_by t (fill (top +ℤ pos dy))) (row_placed (symmetric_stroke b) (top +ℤ pos dy) dy
       (refl, omega (arith, upper)))

@@ -1,6 +1,6 @@
 -- A styled box whose corners are all alike: the areas that it stands for, and what the code asks of it.
 -- Assumes nothing.
-use Rattle.std.specs.Prelude.{◌≡◌, ℕ, ◌+◌, ◌*◌, ◌<◌, ◌≤◌, pos, ◌+ℤ◌}
+use Rattle.std.specs.Prelude.{◌≡◌, ℕ, ◌+◌, ◌*◌, ◌<◌, ◌≤◌, pos, ◌+ℤ◌, Some, None, Option}
 use Rattle.geometry.specs.declared.Size.{Size}
 use Rattle.geometry.specs.Bounds.{wide_point, PointNear, SizeUpTo}
 use Rattle.corner.specs.Bounds.{wide_stroke_side}
@@ -11,8 +11,6 @@ use Rattle.figure.specs.Bounds.{AreaRectangle}
 use Rattle.styled_box.specs.declared.StyledBox.{StyledBox}
 use Rattle.styled_box.specs.ReadyBox.{stroke_box, fill_box}
 use Rattle.styled_symmetric.specs.declared.SymmetricBox.{SymmetricBox}
-use Rattle.styled_symmetric.specs.declared.Symmetry.{Symmetry}
-use Rattle.styled_symmetric.specs.declared.Symmetry.TheVariants.{Symmetric, Asymmetric}
 
 -- the same radius at each corner
 abbrev pub four_corners : Size → CornerRadii
@@ -43,9 +41,9 @@ pub record ReadySymmetric (b : SymmetricBox) : Type 0 where
   pub half : 2 * b.corner_rows ≤ b.area.size.height
 
 -- a symmetric box stands for the areas of this styled box; if it is not symmetric nothing is said
-abbrev pub SymmetricOf : StyledBox → Symmetry → Type 0
-SymmetricOf b (Symmetric e) = (stroke_box b ≡ symmetric_stroke e) × (fill_box b ≡ symmetric_fill e) × ReadySymmetric e
-SymmetricOf b Asymmetric = Unit {0}
+abbrev pub SymmetricOf : StyledBox → Option SymmetricBox → Type 0
+SymmetricOf b (Some e) = (stroke_box b ≡ symmetric_stroke e) × (fill_box b ≡ symmetric_fill e) × ReadySymmetric e
+SymmetricOf b None = Unit {0}
 
 -- the inset of a side of n columns on row dy by its upper corner; 0 on the rows below that
 pub record UpperInset (radius : Size) (dy n r : ℕ) : Type 0 where

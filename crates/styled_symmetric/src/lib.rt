@@ -24,7 +24,6 @@ use ellipse_styled::{EllipseHints, EllipseRow};
 use geometry_range::Range;
 use rectangle::Rectangle;
 use rounded_rectangle::{Insets, RoundedRectangleContains, run_between};
-use scanline::{Place, StyledRow};
 use styled_box::StyledBox;
 use styled_row::around_fill;
 
@@ -38,13 +37,6 @@ pub struct SymmetricBox {
     pub inner_corner: EllipseQuadrant,
     pub border: u32,
     pub corner_rows: u32,
-}
-
-// Whether a box is symmetric.
-#[derive(Clone, Copy)]
-pub enum Symmetry {
-    Symmetric(SymmetricBox),
-    Asymmetric,
 }
 
 // A fill, and where the next row's is looked for.
@@ -73,7 +65,7 @@ fn corners_alike(b: RoundedRectangleContains) -> bool
 
 // The first of n columns from a corner on that is inside on its row e, in a scan of rows from the corner
 // on.
-fn first_in_corner(corner: EllipseQuadrant, e: u32, n: u32, hint: u32) -> Place
+fn first_in_corner(corner: EllipseQuadrant, e: u32, n: u32, hint: u32) -> Option<u32>
     requires ready { Ready corner }
     requires e_lt_height { (e < corner.radius.height) × (0 < corner.radius.width) × (n ≤ wide_side) }
     ensures { result ≡ find_from (λ d. inside_corner corner.radius d e) n 0 }
@@ -97,10 +89,7 @@ fn upper_inset(corner: EllipseQuadrant, dy: u32, n: u32, hint: u32) -> u32
     if radius.width == 0 {
         return 0;
     }
-    let Place::At(k) = first_in_corner(corner, dy, n, hint) else {
-        return 0;
-    };
-    k
+    first_in_corner(corner, dy, n, hint).unwrap_or(0)
 }
 
 // How many columns a corner leaves out on its row e.
@@ -113,27 +102,24 @@ fn corner_left_out(corner: EllipseQuadrant, e: u32, hint: u32) -> u32
     if n == 0 {
         return 0;
     }
-    let Place::At(k) = first_in_corner(corner, e, n, hint) else {
-        return n;
-    };
-    k
+    first_in_corner(corner, e, n, hint).unwrap_or(n)
 }
 
 impl SymmetricBox {
     // The symmetric box, if it is one: the corners in each area are alike, those on one row of the
     // fill area do not overlap, and the rows that corners or the border have at the top and at the bottom
     // do not meet.
-    pub fn new(b: StyledBox) -> Symmetry
+    pub fn new(b: StyledBox) -> Option<SymmetricBox>
         requires { ReadyStyledBox b }
         ensures { SymmetricOf b result }
     {
         let stroke = b.stroke;
         let fill = b.fill;
         if !corners_alike(stroke) {
-            return Symmetry::Asymmetric;
+            return None;
         }
         if !corners_alike(fill) {
-            return Symmetry::Asymmetric;
+            return None;
         }
         let area = b.area;
         let top_left = area.top_left;
@@ -141,24 +127,22 @@ impl SymmetricBox {
         let inner = b.inner;
         let inner_top_left = inner.top_left;
         let inner_size = inner.size;
-        let Place::At(border) = scanline::place_of(top_left.y, size.height, inner_top_left.y) else {
-            return Symmetry::Asymmetric;
-        };
+        let border = scanline::place_of(top_left.y, size.height, inner_top_left.y)?;
         if inner_size.height + 2 * border != size.height {
-            return Symmetry::Asymmetric;
+            return None;
         }
         let corner = stroke.top_left;
         let inner_corner = fill.top_left;
         let radius = corner.radius;
         let inner_radius = inner_corner.radius;
         if inner_size.width < 2 * inner_radius.width {
-            return Symmetry::Asymmetric;
+            return None;
         }
         let corner_rows = signed::most(radius.height, border + inner_radius.height);
         if size.height < 2 * corner_rows {
-            return Symmetry::Asymmetric;
+            return None;
         }
-        Symmetry::Symmetric(SymmetricBox {
+        Some(SymmetricBox {
             area: area,
             corner: corner,
             inner: inner,
@@ -221,7 +205,7 @@ impl SymmetricBox {
         let filled = self.fill(dy, run, hints.fill);
         let fill = filled.run;
         EllipseRow {
-            row: StyledRow::Runs(around_fill(run, fill)),
+            row: Some(around_fill(run, fill)),
             hints: EllipseHints {
                 stroke: inset,
                 fill: filled.hint,

@@ -1,13 +1,13 @@
 -- `box_fill::row_fill` meets its contract: the skipped columns are not contained, so both searches are the definition's
 -- (`fill_found`); where the first finds none, the second would not either (`fill_none`).
+use Rattle.scanline.specs.Places.{Place}
+use Rattle.std.specs.Prelude.{Some}
 use mathlib.Core.Path.{◌≡◌, sym, ap, ◌∙◌}
 use Prim.Native.Nat.{ℕ, ◌+◌, ◌-◌, max}
 use lib.IntN.{ℤ, pos, ◌+ℤ◌, ◌-ℤ◌}
 use mir.Facts.{to_z-of_z}
 use Rattle.geometry.specs.declared.Size.{Size}
 use Rattle.geometry_range.proofs.Fields.{range_by_fields}
-use Rattle.scanline.specs.declared.Place.{Place}
-use Rattle.scanline.specs.declared.Place.TheVariants.{At}
 use Rattle.corner_radii.specs.declared.CornerRadii.{CornerRadii}
 use Rattle.rounded_rectangle.specs.Relative.{radii}
 use Rattle.box_columns.specs.Columns.{first_contained, last_contained}
@@ -67,10 +67,10 @@ answer_is c =
     c.first_contained.ensures ∙ ap (λ (k : ℕ). first_contained (corners c) (size c) (dy c) k (to c)) c.most.ensures
 
 abbrev first : In-At → ℕ
-first c = c.in-At.first
+first c = c.in-Some.first
 
-first_is : (c : In-At) → At (first c) ≡ answer c.before
-first_is c = sym c.in-At.is ∙ answer_is c.before
+first_is : (c : In-At) → Some (first c) ≡ answer c.before
+first_is c = sym c.in-Some.is ∙ answer_is c.before
 
 -- none is contained
 pub returns-in_default : goal.returns-in_default

@@ -1,13 +1,12 @@
 -- `box_mirrored_fill::fill_run` meets its contract: the place of the asked row says which case of `fill_run` holds.
+use Rattle.std.specs.Prelude.{Some}
 use mathlib.Core.Path.{◌≡◌, sym, ap, subst, ◌∙◌}
 use Prim.Native.Nat.{ℕ}
 use lib.IntN.{ℤ}
 use mir.Facts.{to_z-of_z}
 use Rattle.geometry.specs.declared.Size.{Size}
 use Rattle.geometry_range.proofs.Fields.{range_by_fields}
-use Rattle.scanline.specs.declared.Place.{Place}
-use Rattle.scanline.specs.declared.Place.TheVariants.{At}
-use Rattle.scanline.specs.Places.{Placed}
+use Rattle.scanline.specs.Places.{Placed, Place}
 use Rattle.scanline.proofs.Placed.{placed_told}
 use Rattle.rounded_rectangle.specs.Relative.{radii}
 use Rattle.box_mirrored.specs.Sides.{Between, MirroredSides}
@@ -16,15 +15,10 @@ use Rattle.box_fill.specs.Relative.{box_of, row_fill}
 use Rattle.box_mirrored_fill.specs.MirroredFill.{fill_between}
 use Rattle.box_mirrored_fill.proofs.MirroredFill.{fill_between_lem}
 use Rattle.box_fill.proofs.Rows.{fill_off_rows, fill_relative}
-use native.Mathlib.Omega.{arith}
 use Rattle.box_mirrored_fill.proofs.fill_run.Lts
 use Rattle.box_mirrored_fill.proofs.fill_run.Reads
 use Rattle.box_mirrored_fill.proofs.fill_run.Tie
 use Rattle.box_mirrored_fill.proofs.fill_run.Goals as goal
-
--- the facts known at these places
-abbrev Start : Type 0
-Start = Lts.Start Tie.the-claims Reads.Pre Reads.Post Tie.handed_clauses
 
 abbrev After-place_of : Type 0
 After-place_of = Lts.After-place_of Tie.the-claims Reads.Pre Reads.Post Tie.handed_clauses
@@ -42,11 +36,6 @@ rectangle_place c told is =
     subst (λ (s : Size). Placed c.args.rectangle.top_left.y s.height c.args.y told) (sym c.requires.ready_fill.size)
     (row_place c told is)
 
-pub place_of-requires : goal.place_of-requires
-place_of-requires c =
-    let tall = c.requires.ready_fill.ready.size.height in
-    let top = c.requires.ready_fill.at.y in record { near = rw (to_z-of_z top.fits) top; n_le_wide_side = omega arith; near_2 = rw (to_z-of_z c.requires.near.fits) c.requires.near }
-
 -- off the fill area's rows
 pub returns-in_default : goal.returns-in_default
 returns-in_default c =
@@ -55,51 +44,37 @@ returns-in_default c =
     range_by_fields end end
     ∙ fill_off_rows (box_of args.rectangle args.b) args.y args.run (rectangle_place c.before.before _ c.in_default.is)
 
-pub mirrored_skip-requires : goal.mirrored_skip-requires
-mirrored_skip-requires c =
-    let row = row_place c.before.before (At c.in-At.dy) c.in-At.is in record { ready_box = c.requires.ready_fill.ready; dy_lt_height = row.1 }
-
 -- ---- the fill by its place, and as the definition has it
-row_fill_is : (c : After-place_of) (dy : ℕ) → c.place_of.result ≡ At dy
+row_fill_is : (c : After-place_of) (dy : ℕ) → c.place_of.result ≡ Some dy
     → row_fill (radii c.args.b) c.args.b.size c.args.rectangle.top_left.x dy c.args.run
     ≡ fill_run (box_of c.args.rectangle c.args.b) c.args.y c.args.run
 row_fill_is c dy is =
     let args = c.args in
     ap (λ (s : Size). row_fill (radii args.b) s args.rectangle.top_left.x dy args.run) (sym c.requires.ready_fill.size)
-    ∙ fill_relative (box_of args.rectangle args.b) args.y args.run dy (rectangle_place c (At dy) is)
-
--- the two sides are not known to be alike
-pub row_fill-requires : goal.row_fill-requires
-row_fill-requires c =
-    let left = c.requires.ready_fill.at.x in
-    let row = row_place c.before.before.before.before.before (At c.in-At.dy) c.in-At.is in record { near = rw (to_z-of_z left.fits) left; ready_box = c.requires.ready_fill.ready; dy_lt_height = row.1; near_run = c.requires.near_run }
+    ∙ fill_relative (box_of args.rectangle args.b) args.y args.run dy (rectangle_place c (Some dy) is)
 
 pub returns-in_default-mirrored_skip : goal.returns-in_default-mirrored_skip
 returns-in_default-mirrored_skip c =
     let args = c.args in
-    let dy = c.in-At.dy in
+    let dy = c.in-Some.dy in
     c.row_fill.ensures
-    ∙ ap (λ (z : ℤ). row_fill (radii args.b) args.b.size z c.in-At.dy args.run) (to_z-of_z c.requires.ready_fill.at.x.fits)
-    ∙ row_fill_is c.before.before.before.before.before c.in-At.dy c.in-At.is
+    ∙ ap (λ (z : ℤ). row_fill (radii args.b) args.b.size z c.in-Some.dy args.run) (to_z-of_z c.requires.ready_fill.at.x.fits)
+    ∙ row_fill_is c.before.before.before.before.before c.in-Some.dy c.in-Some.is
 
 -- they are
 between : (c : In-At-mirrored_skip) → Between (radii c.args.b) c.args.b.size
-    c.in-At.dy c.in-At-mirrored_skip.k
+    c.in-Some.dy c.in-Some-mirrored_skip.k
 between c =
     let at_mirrored_skip = c.mirrored_skip in
     let a = c.args in
-    subst (MirroredSides (radii a.b) a.b.size c.in-At.dy) c.in-At-mirrored_skip.is c.mirrored_skip.ensures
-
-pub filled_between-requires : goal.filled_between-requires
-filled_between-requires c =
-    let left = c.requires.ready_fill.at.x in record { near = rw (to_z-of_z left.fits) left; width_le_wide_stroke_side = (c.requires.ready_fill.ready.size.width, (between c.before.before).half); near_run = c.requires.near_run }
+    subst (MirroredSides (radii a.b) a.b.size c.in-Some.dy) c.in-Some-mirrored_skip.is c.mirrored_skip.ensures
 
 pub returns : goal.returns
 returns c =
     let args = c.args in
-    let dy = c.in-At.dy in
-    let k = c.in-At-mirrored_skip.k in
+    let dy = c.in-Some.dy in
+    let k = c.in-Some-mirrored_skip.k in
     c.filled_between.ensures
-    ∙ ap (λ (z : ℤ). fill_between z args.b.size.width args.run c.in-At-mirrored_skip.k) (to_z-of_z c.requires.ready_fill.at.x.fits)
-    ∙ fill_between_lem (radii args.b) args.b.size c.in-At.dy c.in-At-mirrored_skip.k (between c.before.before) args.rectangle.top_left.x args.run
-    ∙ row_fill_is c.before.before.before.before.before c.in-At.dy c.in-At.is
+    ∙ ap (λ (z : ℤ). fill_between z args.b.size.width args.run c.in-Some-mirrored_skip.k) (to_z-of_z c.requires.ready_fill.at.x.fits)
+    ∙ fill_between_lem (radii args.b) args.b.size c.in-Some.dy c.in-Some-mirrored_skip.k (between c.before.before) args.rectangle.top_left.x args.run
+    ∙ row_fill_is c.before.before.before.before.before c.in-Some.dy c.in-Some.is

@@ -6,15 +6,11 @@ use mir.Facts.{to_z-of_z}
 use Rattle.geometry_range.proofs.Fields.{range_by_fields}
 use Rattle.box_fill.specs.Relative.{place_in}
 use Rattle.box_fill.proofs.Rows.{place_read}
-use Rattle.box_mirrored_fill.proofs.MirroredFill.{between_some, between_none, first_small, end_small}
+use Rattle.box_mirrored_fill.proofs.MirroredFill.{between_some, between_none}
 use Rattle.box_mirrored_fill.proofs.filled_between.Lts
 use Rattle.box_mirrored_fill.proofs.filled_between.Reads
 use Rattle.box_mirrored_fill.proofs.filled_between.Tie
 use Rattle.box_mirrored_fill.proofs.filled_between.Goals as goal
-
--- the facts known at these places
-abbrev Start : Type 0
-Start = Lts.Start Tie.the-claims Reads.Pre Reads.Post Tie.handed_clauses
 
 abbrev After-least-end : Type 0
 After-least-end = Lts.After-least Tie.the-claims Reads.Pre Reads.Post Tie.handed_clauses
@@ -34,17 +30,6 @@ end_is c =
     c.least-end.ensures
     ∙ ap (λ (n : ℕ). min n (c.args.width - c.args.k))
     (place_read _ _ _ _ c.requires.near.fits c.requires.near_run.end.fits c.place_in-2.ensures.0)
-
-pub from_first-requires : goal.from_first-requires
-from_first-requires c =
-    let at_most = c.most-begin in
-    let at_place_in = c.place_in in
-    let pre = c.requires in record { near = rw (to_z-of_z c.requires.near.fits) c.requires.near; k_le_wide_side = first_small _ _ _ _ c.most-begin.ensures c.place_in.ensures.1 c.requires.width_le_wide_stroke_side.1 c.requires.width_le_wide_stroke_side.0 }
-
-pub from_first-requires-then-begin-end : goal.from_first-requires-then-begin-end
-from_first-requires-then-begin-end c =
-    let at_place_in2 = c.place_in-2 in
-    let pre = c.requires in record { near = rw (to_z-of_z c.requires.near.fits) c.requires.near; k_le_wide_side = end_small _ _ _ _ c.least-end.ensures c.place_in-2.ensures.1 c.requires.width_le_wide_stroke_side.0 }
 
 pub returns-then-begin-end : goal.returns-then-begin-end
 returns-then-begin-end c =

@@ -78,8 +78,8 @@ paint_row_at-requires c =
 pub returns : goal.returns
 returns c =
     let a = c.args in
-    let runs = c.in-Runs.runs in
+    let runs = c.in-Some.runs in
     c.paint_row_at.ensures
     ∙ ap (λ (n : ℕ). overpaint_at a.size.width n a.style runs a.canvas.now) (place_is c.before.before.before.before.before.before.before.before)
     ∙ sym (paint_by_runs (λ _. a.row) a.style a.size.width a.size.height a.canvas.now a.y (not_above c.before.before.before.before.before.before.before.before.before)
-    (not_below c.before.before.before.before.before.before) runs c.in-Runs.is)
+    (not_below c.before.before.before.before.before.before) runs c.in-Some.is)

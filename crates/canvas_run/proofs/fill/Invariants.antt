@@ -1,11 +1,8 @@
--- `canvas_run::fill` meets its contract. The invariant: the part up to i is of that colour.
+-- `canvas_run::fill` meets its contract. The invariant: the part up to the index is of that colour, and the rest as it was.
 use mathlib.Core.Path.{◌≡◌}
-use Prim.Native.Nat.{◌≤◌, ◌-◌}
-use lib.ListN.{length, take, replicate}
+use mathlib.Core.List.{◌++◌}
+use lib.ListN.{drop, replicate}
 use Rattle.canvas_run.proofs.fill.Given as goal
 
-abbrev pub invariant-loop-i : goal.invariant-loop-i
-invariant-loop-i l = (l.i ≤ length l.part) × (length l.part ≡ length l.initial.part) × (take l.i l.part ≡ replicate l.i l.colour)
-
-abbrev pub decreases-loop-i : goal.decreases-loop-i
-decreases-loop-i l = length l.part - l.i
+abbrev pub invariant-loop-byte : goal.invariant-loop-byte
+invariant-loop-byte l = l.part ≡ replicate l.byte-index l.colour ++ drop l.byte-index l.initial.part

@@ -22,5 +22,5 @@ returns c =
     let entry = c.args in
     let columns = c.clip-columns in
     let filled = c.fill_columns in
-    run_over_by_columns entry.run c.in-Colour.colour entry.row.now c.fill_columns.new.row c.clip-columns.result entry.paint
-    c.in-Colour.is c.clip-columns.ensures c.fill_columns.ensures
+    run_over_by_columns entry.run c.in-Some.colour entry.row.now c.fill_columns.new.row c.clip-columns.result entry.paint
+    c.in-Some.is c.clip-columns.ensures c.fill_columns.ensures

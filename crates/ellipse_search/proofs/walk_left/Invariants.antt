@@ -6,7 +6,4 @@ use Rattle.ellipse_search.specs.Row.{column_on_row}
 use Rattle.ellipse_search.proofs.walk_left.Given as goal
 
 abbrev pub invariant-loop-k : goal.invariant-loop-k
-invariant-loop-k l = (l.from ≤ l.k) × (l.k ≤ l.start) × (column_on_row l.row l.width l.k ≡ true)
-
-abbrev pub decreases-loop-k : goal.decreases-loop-k
-decreases-loop-k l = l.k
+invariant-loop-k l = (l.from ≤ l.k) × (column_on_row l.row l.width l.k ≡ true)

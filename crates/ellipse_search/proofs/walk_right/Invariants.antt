@@ -1,13 +1,9 @@
--- `ellipse_search::walk_right` meets its contract. The invariant: all columns after the start up to k are outside.
+-- `ellipse_search::walk_right` meets its contract. The invariant: all columns after the start and before k are outside.
 use mathlib.Core.Path.{◌≡◌}
 use mathlib.Core.Bool.{false}
-use Prim.Native.Nat.{ℕ, ◌-◌, ◌≤◌, ◌<◌}
+use Prim.Native.Nat.{ℕ, ◌<◌}
 use Rattle.ellipse_search.specs.Row.{column_on_row}
 use Rattle.ellipse_search.proofs.walk_right.Given as goal
 
 abbrev pub invariant-loop-k : goal.invariant-loop-k
-invariant-loop-k l =
-    (l.start ≤ l.k) × (l.k ≤ l.nearest) × ((i : ℕ) → l.start < i → i ≤ l.k → column_on_row l.row l.width i ≡ false)
-
-abbrev pub decreases-loop-k : goal.decreases-loop-k
-decreases-loop-k l = l.nearest - l.k
+invariant-loop-k l = (i : ℕ) → l.start < i → i < l.k → column_on_row l.row l.width i ≡ false

@@ -1,4 +1,5 @@
 -- `host_records::paint_of` meets its contract: its test is the definition's.
+use Rattle.std.specs.Prelude.{Some}
 use mathlib.Core.Path.{◌≡◌, sym, ap, ◌∙◌}
 use mathlib.Core.Bool.{Bool}
 use Prim.Native.Nat.{ℕ, ◌%◌}
@@ -9,7 +10,6 @@ use mir.Syntax.{w32}
 use mir.Val.{SFits, to_z, of_z}
 use mir.Facts.{to_z-of_z}
 use Rattle.signed.specs.Signed.{floor0}
-use Rattle.style.specs.declared.Paint.TheVariants.{Colour}
 use Rattle.host_records.specs.RecordNumbers.{paint_of}
 use Rattle.host_records.proofs.paint_of.Lts
 use Rattle.host_records.proofs.paint_of.Reads
@@ -35,4 +35,4 @@ pub returns : goal.returns
 unfolding paint_of
 returns c =
     rw (held c.before.before c.if-v-lt0.false)
-    (ap (λ (n : ℕ). Colour (n % 256)) (c.floor0.ensures ∙ ap (λ (z : ℤ). floor0 z) (to_z-of_z (fits c.before.before))))
+    (ap (λ (n : ℕ). Some (n % 256)) (c.floor0.ensures ∙ ap (λ (z : ℤ). floor0 z) (to_z-of_z (fits c.before.before))))

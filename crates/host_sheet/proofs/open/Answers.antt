@@ -5,30 +5,23 @@ use lib.IntN.{ℤ, pos}
 use lib.ListN.{set}
 use mir.Syntax.{w32}
 use mir.Val.{to_z, of_z}
-use Rattle.refusal.specs.Refusal.{number}
-use Rattle.refusal.proofs.Checks.{refusal_found}
 use Rattle.geometry.specs.Limits.{max_layers}
 use Rattle.host_answers.specs.HostAnswers.{held_by32}
 use Rattle.host_answers.proofs.Telling.{held_read, tells_refusal, tells_put}
 use Rattle.host_sheet.specs.Sheets.{unused_places}
 use Rattle.host_sheet.proofs.open.Goals as goal
 
-pub returns-in_default : goal.returns-in_default
-returns-in_default c =
-    rw (sym c.check-checked.ensures ∙ c.in_default.is)
-    (tells_refusal c.args.sheet.now refl
-    (c.number.ensures ∙ ap number (refusal_found c.refusal.ensures c.in_default.is)))
+pub returns-in-Err : goal.returns-in-Err
+returns-in-Err c = rw (sym c.check.ensures ∙ c.in-Err.is) (tells_refusal c.args.sheet.now refl c.number.ensures)
 
 pub returns : goal.returns
 unfolding held_by32 unused_places
 returns c =
-    let held = c.held in
-    let held2 = c.held-2 in
     let W = c.args.width in
     let H = c.args.height in
     let w = to_z w32 (of_z w32 c.held.result) in
     let h = to_z w32 (of_z w32 c.held-2.result) in
-    rw (sym c.check-checked.ensures ∙ c.in-Passed.is)
+    rw (sym c.check.ensures ∙ c.in_default.is)
     (tells_put (pos W) (pos H ∷ pos 0 ∷ unused_places max_layers) _ (set (set c.unused_places-numbers.result 0 w) 1 h)
     (ap (λ (l : List ℤ). set (set l 0 w) 1 h) c.unused_places-numbers.ensures
     ∙ (λ i. held_read W c.held.ensures i ∷ held_read H c.held-2.ensures i ∷ pos 0 ∷ unused_places max_layers))

@@ -1,5 +1,6 @@
 -- `host_sheet_place::place_rows` meets its contract: the limits and the two tests of the next row decide whether the layer keeps its
 -- rules.
+use Rattle.std.specs.Prelude.{Some}
 use mathlib.Core.Path.{◌≡◌, sym, ap, ◌∙◌}
 use mathlib.Core.Bool.{Bool, true, ◌&&◌}
 use lib.Signed.{lt_z}
@@ -8,7 +9,6 @@ use mir.Val.{to_z, of_z}
 use Rattle.sheet_layers.specs.declared.rows.LayerRows.{LayerRows}
 use Rattle.sheet_layers.proofs.RowTests.{and-false, lt_held}
 use Rattle.book.proofs.Tests.{and_true_of}
-use Rattle.sheet_layers.specs.declared.RowsFound.TheVariants.{Kept}
 use Rattle.sheet_layers.specs.Layers.{layer_rows}
 use Rattle.host_sheet_record.specs.SheetRecord.{layer_of}
 use Rattle.host_sheet_place.specs.PlaceRules.{figure_kept, style_kept}
@@ -78,4 +78,4 @@ pub returns : goal.returns
 returns c =
     rw (place_among c.args.numbers.now c.requires (limits c.before.before.before.before.before.before.before)
     (by_first c.before.before.before.before.before.before c.if-rows.false) (by_end c.before.before.before.before.before.before c.if-rows-2.false))
-    (ap Kept c.rows_within-rows.ensures.0)
+    (ap Some c.rows_within-rows.ensures.0)

@@ -46,26 +46,17 @@ step c =
     ∙ ap (λ (t : Bool). t && left c (k + 1)) (sym here)
 
 pub loop-k-init : goal.loop-k-init
-loop-k-init c = (omega arith, refl)
-
-pub bounds-numbers-k : goal.bounds-numbers-k
-bounds-numbers-k c = omega arith
-
-pub loop-k-smaller : goal.loop-k-smaller
-loop-k-smaller c = omega arith
+loop-k-init c = refl
 
 pub loop-k-preserved : goal.loop-k-preserved
 loop-k-preserved c =
-    let walk = c.loop-k in (
-      omega arith,
-      and_assoc c.loop-k.kept c.is_within-kept.result (left c (c.loop-k.k + 1)) ∙ ap (λ (t : Bool). c.loop-k.kept && t) (sym (step c))
-          ∙ c.loop-k.invariant.1,
-    )
+    and_assoc c.loop-k.kept c.is_within-kept.result (left c (c.loop-k.k + 1)) ∙ ap (λ (t : Bool). c.loop-k.kept && t) (sym (step c))
+    ∙ c.loop-k.invariant
 
 pub returns : goal.returns
 unfolding radii_kept
 returns c =
     let walk = c.loop-k in
     let a = c.args in
-    let done = all_from_past (test a.numbers.now a.any) figure_length c.loop-k.k c.loop-k-test.false in
-    sym (ap (λ (t : Bool). c.loop-k.kept && t) done ∙ and_true c.loop-k.kept) ∙ c.loop-k.invariant.1
+    let done = all_from_past (test a.numbers.now a.any) figure_length c.loop-k.k (omega arith) in
+    sym (ap (λ (t : Bool). c.loop-k.kept && t) done ∙ and_true c.loop-k.kept) ∙ c.loop-k.invariant

@@ -81,52 +81,28 @@ pub loop-j-init : goal.loop-j-init
 loop-j-init c =
     let few = used_is c in
     let whole : c.least-used.result - 0 ≡ c.least-used.result = omega arith in
-    (omega arith, omega arith, ap (all_from (test c.args.numbers.now) 0) whole)
-
-pub overflow_mul-at : goal.overflow_mul-at
-overflow_mul-at c = record { fits = omega arith }
-
-pub overflow_add-at : goal.overflow_add-at
-overflow_add-at c = record { fits = omega arith }
-
-pub overflow_add-end : goal.overflow_add-end
-overflow_add-end c = record { fits = omega arith }
-
-pub offset_bounds-numbers-at : goal.offset_bounds-numbers-at
-offset_bounds-numbers-at c = record { fits = omega arith }
-
-pub slice_bounds-is_layer-count : goal.slice_bounds-is_layer-count
-slice_bounds-is_layer-count c = omega arith
-
-pub slice_bounds-is_layer-start : goal.slice_bounds-is_layer-start
-slice_bounds-is_layer-start c = omega arith
-
-pub slice_bounds-is_layer-end : goal.slice_bounds-is_layer-end
-slice_bounds-is_layer-end c = omega arith
+    (omega arith, ap (all_from (test c.args.numbers.now) 0) whole)
 
 pub is_layer-requires : goal.is_layer-requires
 is_layer-requires c =
     let a = c.args in
     let within = c.loop-j-test.true in
-    let few = c.loop-j.invariant.1 in
+    let few = c.loop-j.invariant.0 in
     place_part_length a.numbers.now c.loop-j.j (search rules) (omega arith)
 
 pub returns-then-not-is_layer : goal.returns-then-not-is_layer
 returns-then-not-is_layer c =
     let at_loop = c.loop-j in
-    sym (by_places c.before.before.before.before.before ∙ sym c.loop-j.invariant.2 ∙ step c.before false
+    sym (by_places c.before.before.before.before.before ∙ sym c.loop-j.invariant.1 ∙ step c.before false
     (c.if-not-is_layer.true))
-
-pub loop-j-smaller : goal.loop-j-smaller
-loop-j-smaller c = omega arith
 
 pub loop-j-preserved : goal.loop-j-preserved
 loop-j-preserved c =
     let at_loop = c.loop-j in
-    (omega arith, c.loop-j.invariant.1, sym (step c.before true (c.if-not-is_layer.false)) ∙ c.loop-j.invariant.2)
+    (c.loop-j.invariant.0, sym (step c.before true (c.if-not-is_layer.false)) ∙ c.loop-j.invariant.1)
 
 pub returns : goal.returns
 returns c =
     let a = c.args in
-    sym (by_places c.before.before ∙ sym c.loop-j.invariant.2 ∙ all_from_past (test a.numbers.now)
-    c.least-used.result c.loop-j.j c.loop-j-test.false)
+    sym (by_places c.before.before ∙ sym c.loop-j.invariant.1 ∙ all_from_past (test a.numbers.now)
+    c.least-used.result c.loop-j.j (omega arith))

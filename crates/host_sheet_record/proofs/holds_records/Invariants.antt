@@ -9,8 +9,5 @@ use Rattle.host_sheet_record.proofs.holds_records.Given as goal
 
 abbrev pub invariant-loop-j : goal.invariant-loop-j
 invariant-loop-j l =
-    (l.j ≤ l.used) × (l.used ≤ max_layers) × (all_from (λ k. is_layer (place_numbers l.numbers k)) l.j (l.used - l.j) ≡ all_from
+    (l.used ≤ max_layers) × (all_from (λ k. is_layer (place_numbers l.numbers k)) l.j (l.used - l.j) ≡ all_from
     (λ k. is_layer (place_numbers l.numbers k)) 0 l.used)
-
-abbrev pub decreases-loop-j : goal.decreases-loop-j
-decreases-loop-j l = l.used - l.j

@@ -35,9 +35,6 @@ bounds-numbers-k c =
     let long = c.loop-k.invariant.1.long in
     omega arith
 
-pub loop-k-smaller : goal.loop-k-smaller
-loop-k-smaller c = omega arith
-
 pub loop-k-preserved : goal.loop-k-preserved
 loop-k-preserved c =
     let turn = c.loop-k in

@@ -17,6 +17,3 @@ pub record Moved (numbers₀ : List ℤ) (place : ℕ) (numbers : List ℤ) (k :
 
 abbrev pub invariant-loop-k : goal.invariant-loop-k
 invariant-loop-k l = (length l.initial.numbers ≡ sheet_length) × Moved l.initial.numbers l.place l.numbers l.k
-
-abbrev pub decreases-loop-k : goal.decreases-loop-k
-decreases-loop-k l = sheet_length - l.k

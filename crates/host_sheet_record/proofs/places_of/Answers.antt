@@ -17,32 +17,19 @@ pub blank-blank-requires : goal.blank-blank-requires
 blank-blank-requires c = omega (arith, int)
 
 pub loop-j-init : goal.loop-j-init
-loop-j-init c = (omega arith, refl, whole (λ k. layer_of (place_numbers c.args.numbers.now k)) c.blank-blank.result)
+loop-j-init c = (refl, whole (λ k. layer_of (place_numbers c.args.numbers.now k)) c.blank-blank.result)
 
 pub layer_at-requires : goal.layer_at-requires
 layer_at-requires c = (search rules, c.loop-j-test.true)
-
-pub offset_bounds-places-j : goal.offset_bounds-places-j
-offset_bounds-places-j c = omega (arith, int)
-
-pub bounds-places-j : goal.bounds-places-j
-bounds-places-j c = omega (arith, int)
-
-pub overflow_add-j : goal.overflow_add-j
-overflow_add-j c = omega (arith, int)
-
-pub loop-j-smaller : goal.loop-j-smaller
-loop-j-smaller c = omega (arith, int)
 
 pub loop-j-preserved : goal.loop-j-preserved
 loop-j-preserved c =
     let numbers = c.args.numbers.now in
     let walk = c.loop-j in (
-      omega arith,
-      simp length-set c.loop-j.invariant.1,
+      simp length-set c.loop-j.invariant.0,
       ap (λ (l : Layer). sets (set c.loop-j.places c.loop-j.j l) (c.loop-j.j + 1)
           (list_from (λ k. layer_of (place_numbers numbers k)) (c.loop-j.j + 1) (max_layers - (c.loop-j.j + 1)))) c.layer_at.ensures
-          ∙ sym (put_place (λ k. layer_of (place_numbers numbers k)) c.loop-j.places c.loop-j.j c.loop-j-test.true) ∙ c.loop-j.invariant.2,
+          ∙ sym (put_place (λ k. layer_of (place_numbers numbers k)) c.loop-j.places c.loop-j.j c.loop-j-test.true) ∙ c.loop-j.invariant.1,
     )
 
 pub returns : goal.returns
@@ -50,4 +37,4 @@ unfolding sheet_of
 returns c =
     let numbers = c.args.numbers.now in
     let walk = c.loop-j in
-    sym (all_put (λ k. layer_of (place_numbers numbers k)) c.loop-j.places c.loop-j.j c.loop-j-test.false) ∙ c.loop-j.invariant.2
+    sym (all_put (λ k. layer_of (place_numbers numbers k)) c.loop-j.places c.loop-j.j (omega arith)) ∙ c.loop-j.invariant.1

@@ -1,5 +1,5 @@
 -- `host_sheet_rules::none_overtakes` meets its contract: whether a layer that is left overtakes is whether one of all does.
-use mathlib.Core.Path.{◌≡◌, refl, sym, ap, ◌∙◌}
+use mathlib.Core.Path.{◌≡◌, sym, ap, ◌∙◌}
 use mathlib.Core.Bool.{Bool, true, false, not, ◌&&◌}
 use Prim.Native.Nat.{ℕ, ◌+◌, ◌-◌}
 use native.Mathlib.Omega.{arith}
@@ -32,42 +32,35 @@ step c t found =
     let a = c.args in
     let n = a.numbers.now in
     let j = c.loop-j.j in
-    let painted = c.painted_at-later.ensures in
+    let painted = c.painted_at.ensures in
     let here : rows_overtake a.earlier (rows_at n c.loop-j.j) ≡ t =
-    sym (overtake_by_painted a.earlier c.painted_at-later.result (rows_at n c.loop-j.j) c.painted_at-later.ensures.0 c.painted_at-later.ensures.1)
+    sym (overtake_by_painted a.earlier c.painted_at.result (rows_at n c.loop-j.j) c.painted_at.ensures.0 c.painted_at.ensures.1)
     ∙ sym c.is_overtaken.ensures ∙ found in
     ap (no_rows_overtake a.earlier) (list_from_here (rows_at n) a.count c.loop-j.j c.loop-j-test.true)
     ∙ ap (λ (s : Bool). not s && left c (c.loop-j.j + 1)) here
 
-pub loop-j-init : goal.loop-j-init
-loop-j-init c = (omega arith, c.requires.from_le_count.0, refl)
-
-pub painted_at-later-requires : goal.painted_at-later-requires
-painted_at-later-requires c =
+pub painted_at-requires : goal.painted_at-requires
+painted_at-requires c =
     let n = c.args.numbers.now in
     let here = c.loop-j-test.true in
-    let from = c.loop-j.invariant.0 in
     let few = c.requires.from_le_count.1 in record {
       numbers_len = (c.requires.numbers_len, omega arith);
       j_value = each_of_all (λ k. place_kept (place_numbers n k)) (c.args.count - c.args.from) c.args.from
-          c.loop-j.j c.loop-j.invariant.0 (omega arith) c.requires.from_value;
+          c.loop-j.j (omega arith) (omega arith) c.requires.from_value;
     }
 
 pub returns-then-is_overtaken : goal.returns-then-is_overtaken
-returns-then-is_overtaken c = sym (sym c.loop-j.invariant.2 ∙ step c.before true c.if-is_overtaken.true)
-
-pub loop-j-smaller : goal.loop-j-smaller
-loop-j-smaller c = omega arith
+returns-then-is_overtaken c = sym (sym c.loop-j.invariant ∙ step c.before true c.if-is_overtaken.true)
 
 pub loop-j-preserved : goal.loop-j-preserved
 loop-j-preserved c =
     let inv = c.loop-j.invariant in
-    (omega arith, omega arith, sym (step c.before false c.if-is_overtaken.false) ∙ c.loop-j.invariant.2)
+    sym (step c.before false c.if-is_overtaken.false) ∙ c.loop-j.invariant
 
 pub returns : goal.returns
 unfolding no_rows_overtake
 returns c =
     let a = c.args in
     let n = a.numbers.now in
-    sym (sym c.loop-j.invariant.2
-    ∙ ap (no_rows_overtake a.earlier) (list_from_past (rows_at n) a.count c.loop-j.j c.loop-j-test.false))
+    sym (sym c.loop-j.invariant
+    ∙ ap (no_rows_overtake a.earlier) (list_from_past (rows_at n) a.count c.loop-j.j (omega arith)))

@@ -1,81 +1,21 @@
--- `host_styled::styled_row` meets its contract: the call is made on the figure and the style that the numbers are, and its answer told.
-use mathlib.Core.Path.{◌≡◌, sym, ap, ◌∙◌}
-use mathlib.Core.Bool.{true}
-use mir.Syntax.{w32}
-use mir.Val.{SFits}
-use mir.Facts.{to_z-of_z}
-use Rattle.styled.specs.declared.StyledRowAnswer.{StyledRowAnswer}
-use Rattle.styled.specs.Calls.{styled_row_outcome}
-use Rattle.styled.specs.Calls.{styled_row_call}
-use Rattle.host_records.specs.RecordNumbers.{is_figure, is_style, figure_of, style_of}
-use Rattle.host_records.proofs.Records.{figure_length_lem, style_length_lem}
+-- `host_styled::styled_row` meets its contract: what is not answered by values is told by its number.
+use mathlib.Core.Path.{sym, ◌∙◌}
 use Rattle.host_answers.specs.HostAnswers.{no_record}
 use Rattle.host_answers.proofs.Telling.{tells_as, tells_refused, tells_refusal, tells_nothing}
 use borrow.Author.Rules.{rules}
-use Rattle.host_styled.proofs.styled_row.Lts
-use Rattle.host_styled.proofs.styled_row.Reads
-use Rattle.host_styled.proofs.styled_row.Tie
 use Rattle.host_styled.proofs.styled_row.Goals as goal
 
--- the facts known at these places
-abbrev Start : Type 0
-Start = Lts.Start Tie.the-claims Reads.Pre Reads.Post
-
-abbrev Else-not-is_figure : Type 0
-Else-not-is_figure = Lts.Else1 Tie.the-claims Reads.Pre Reads.Post
-
-abbrev Else-not-is_style : Type 0
-Else-not-is_style = Lts.Else2 Tie.the-claims Reads.Pre Reads.Post
-
-abbrev After-styled_row : Type 0
-After-styled_row = Lts.After-styled_row Tie.the-claims Reads.Pre Reads.Post
-
--- the numbers are a figure, and a style
-is_one : (c : Else-not-is_figure) → is_figure c.args.figure.now ≡ true
-is_one c = sym c.is_figure.ensures ∙ c.if-not-is_figure.false
-
-is_styled : (c : Else-not-is_style) → is_style c.args.style.now ≡ true
-is_styled c = sym c.is_style.ensures ∙ c.if-not-is_style.false
-
--- what the call says
-says : (c : After-styled_row) → styled_row_outcome c.styled_row.result ≡ styled_row_call
-    (figure_of c.args.figure.now) (style_of c.args.style.now) c.args.y
-says c =
-    let fits : SFits w32 c.args.y = search rules in
-    c.styled_row.ensures ∙ (λ i. styled_row_call (c.figure_of.ensures i) (c.style_of.ensures i)
-    (to_z-of_z fits i))
-
 pub returns-then-not-is_figure : goal.returns-then-not-is_figure
-returns-then-not-is_figure c =
-    rw (sym c.is_figure.ensures ∙ c.if-not-is_figure.true) (tells_refused no_record c.args.out.now)
+returns-then-not-is_figure c = rw (sym c.is_figure.ensures ∙ c.if-not-is_figure.true) (tells_refused no_record c.args.out.now)
 
 pub returns-then-not-is_style : goal.returns-then-not-is_style
-returns-then-not-is_style c =
-    let a = c.args in
-    rw (is_one c.before.before, sym c.is_style.ensures ∙ c.if-not-is_style.true) (tells_refused no_record a.out.now)
+returns-then-not-is_style c = rw (sym c.is_figure.ensures ∙ c.if-not-is_figure.false, sym c.is_style.ensures ∙ c.if-not-is_style.true) (tells_refused no_record c.args.out.now)
 
-pub figure_of-requires : goal.figure_of-requires
-figure_of-requires c = figure_length_lem c.args.figure.now (is_one c.before.before)
+pub returns-in-Err : goal.returns-in-Err
+returns-in-Err c = rw (sym c.is_figure.ensures ∙ c.if-not-is_figure.false, sym c.is_style.ensures ∙ c.if-not-is_style.false) (tells_refusal c.args.out.now (search rules) c.number.ensures)
 
-pub style_of-requires : goal.style_of-requires
-style_of-requires c = style_length_lem c.args.style.now (is_styled c.before)
+pub returns-in-Ok-None : goal.returns-in-Ok-None
+returns-in-Ok-None c = rw (sym c.is_figure.ensures ∙ c.if-not-is_figure.false, sym c.is_style.ensures ∙ c.if-not-is_style.false) (tells_as (search rules) (tells_nothing c.args.out.now))
 
-pub returns-in-Refused : goal.returns-in-Refused
-returns-in-Refused c =
-    let args = c.args in
-    rw (is_one c.before.before.before.before.before.before.before, is_styled c.before.before.before.before.before)
-    (tells_refusal args.out.now (sym (ap (λ (a : StyledRowAnswer). styled_row_outcome a) c.in-Refused.is) ∙ says
-    c.before.before) c.number.ensures)
-
-pub returns-in-NoRow : goal.returns-in-NoRow
-returns-in-NoRow c =
-    let args = c.args in
-    rw (is_one c.before.before.before.before.before.before, is_styled c.before.before.before.before)
-    (tells_as (sym (ap (λ (a : StyledRowAnswer). styled_row_outcome a) c.in-NoRow.is) ∙ says c.before)
-    (tells_nothing args.out.now))
-
-pub returns-in-Row : goal.returns-in-Row
-returns-in-Row c =
-    rw (is_one c.before.before.before.before.before.before.before.before.before, is_styled c.before.before.before.before.before.before.before)
-    (tells_as (sym (ap (λ (a : StyledRowAnswer). styled_row_outcome a) c.in-Row.is) ∙ says
-    c.before.before.before.before) c.put_styled_row.ensures)
+pub returns-in-Ok-Some : goal.returns-in-Ok-Some
+returns-in-Ok-Some c = rw (sym c.is_figure.ensures ∙ c.if-not-is_figure.false, sym c.is_style.ensures ∙ c.if-not-is_style.false) (tells_as (search rules) c.put_styled_row.ensures)

@@ -1,19 +1,15 @@
--- `netpbm_raster::put_rows` meets its contract. Invariant: the rows put and those left make the whole raster, and there is room and
--- canvas for those
--- left.
+-- `netpbm_raster::put_rows` meets its contract. Invariant: the rows put and those left make the whole raster.
 use mathlib.Core.Path.{◌≡◌}
-use Prim.Native.Nat.{◌+◌, ◌*◌}
+use Prim.Native.Nat.{◌+◌, ◌*◌, ◌-◌}
 use lib.ListN.{length, drop}
 use lib.Seq.{sets}
 use Rattle.netpbm_raster.specs.Raster.{row_bytes, packed_rows}
 use Rattle.netpbm_raster.proofs.put_rows.Given as goal
 
-abbrev pub invariant-loop-left : goal.invariant-loop-left
-invariant-loop-left l =
-    (sets l.initial.out l.at (packed_rows l.width l.height l.canvas) ≡ sets l.out l.next (packed_rows l.width l.left (drop l.from l.canvas)))
+abbrev pub invariant-loop : goal.invariant-loop
+invariant-loop l =
+    (sets l.initial.out l.at (packed_rows l.width l.height l.canvas)
+    ≡ sets l.out l.next (packed_rows l.width (l.height - l.counter) (drop l.from l.canvas)))
     × (length l.out ≡ length l.initial.out)
-    × (l.next + l.left * row_bytes l.width ≡ l.at + l.height * row_bytes l.width)
-    × (l.from + l.left * l.width ≡ l.height * l.width)
-
-abbrev pub decreases-loop-left : goal.decreases-loop-left
-decreases-loop-left l = l.left
+    × (l.next ≡ l.at + l.counter * row_bytes l.width)
+    × (l.from ≡ l.counter * l.width)

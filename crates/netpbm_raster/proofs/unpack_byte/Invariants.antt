@@ -2,15 +2,12 @@
 -- those of the whole byte.
 use mathlib.Core.Path.{◌≡◌}
 use mathlib.Core.List.{◌++◌}
-use Prim.Native.Nat.{◌-◌, ◌≤◌}
+use Prim.Native.Nat.{◌-◌}
 use lib.ListN.{length, take}
 use Rattle.netpbm_raster.specs.Steps.{shifted_out}
 use Rattle.netpbm_raster.proofs.unpack_byte.Given as goal
 
-abbrev pub invariant-loop-i : goal.invariant-loop-i
-invariant-loop-i l =
-    (l.i ≤ length l.initial.pixels) × (length l.pixels ≡ length l.initial.pixels)
-    × (take l.i l.pixels ++ shifted_out (length l.initial.pixels - l.i) l.rest ≡ shifted_out (length l.initial.pixels) l.byte)
-
-abbrev pub decreases-loop-i : goal.decreases-loop-i
-decreases-loop-i l = length l.initial.pixels - l.i
+abbrev pub invariant-loop-pixel : goal.invariant-loop-pixel
+invariant-loop-pixel l =
+    (length l.pixels ≡ length l.initial.pixels)
+    × (take l.pixel-index l.pixels ++ shifted_out (length l.initial.pixels - l.pixel-index) l.rest ≡ shifted_out (length l.initial.pixels) l.byte)

@@ -1,9 +1,8 @@
--- `paint::paint_figure` meets its contract: the checks made are those of the definition, in the table's order. Passed, they bound what
--- is painted, and painting all rows overpaints every canvas row; a refusal is the checks' own, and nothing was painted.
-use Rattle.refusal.proofs.Checks.{refused_early}
+-- `paint::paint_figure` meets its contract: the checks that have passed bound what is painted, and painting all rows overpaints every
+-- canvas row.
+use mathlib.Core.Path.{◌≡◌, sym, ◌∙◌}
 use native.Mathlib.Omega.{arith}
-use mathlib.Core.Path.{◌≡◌, refl, sym, ap₂, ◌∙◌}
-use Rattle.refusal.specs.Refusal.{refused, or_else}
+use Rattle.refusal.specs.Refusal.{passed}
 use Rattle.paint.specs.Paint.{paint_check}
 use Rattle.paint.proofs.Passed.{PaintPassed, paint_passed}
 use Rattle.paint.proofs.Painted.{whole_is_painted}
@@ -12,51 +11,33 @@ use Rattle.paint.proofs.paint_figure.Reads
 use Rattle.paint.proofs.paint_figure.Tie
 use Rattle.paint.proofs.paint_figure.Goals as goal
 
--- the facts known at these places
-abbrev Start : Type 0
-Start = Lts.Start Tie.the-claims Reads.Pre Reads.Post Tie.handed_clauses
-
-abbrev After-or_else-checked : Type 0
-After-or_else-checked = Lts.After-or_else2 Tie.the-claims Reads.Pre Reads.Post Tie.handed_clauses
-
+-- the facts known where all three checks have passed
 abbrev In-Passed : Type 0
-In-Passed = Lts.Past-After-enum_told Tie.the-claims Reads.Pre Reads.Post Tie.handed_clauses
+In-Passed = Lts.Past-After-known_told5 Tie.the-claims Reads.Pre Reads.Post Tie.handed_clauses
 
--- the check made is the definition's
-checked : (c : After-or_else-checked) → c.or_else-checked.result ≡ paint_check c.args.figure c.args.style
-    c.args.width c.args.height c.args.canvas.now
+checked : (c : In-Passed) → paint_check c.args.figure c.args.style c.args.width c.args.height c.args.canvas.now ≡ passed
 unfolding paint_check
 checked c =
-    let at_check2 = c.check-sides in
-    let at_check = c.check-given in
-    c.or_else-checked.ensures
-    ∙ ap₂ or_else (c.or_else.ensures ∙ ap₂ or_else c.check-given.ensures c.check-sides.ensures)
-    c.check_length-pixels.ensures
+    rw (
+      sym c.check.ensures ∙ c.in_ok-check.was,
+      sym c.check-2.ensures ∙ c.in_ok-check-2.was,
+      sym c.check_length.ensures ∙ c.in_ok-check_length.was,
+    )
 
--- once it has passed
-passed : (c : In-Passed) → PaintPassed c.args.figure c.args.style
-    c.args.width c.args.height c.args.canvas.now
-passed c = paint_passed _ _ _ _ _ (sym (checked c.before) ∙ c.in-Passed.is)
-
--- refused
-pub returns-in_default : goal.returns-in_default
-returns-in_default c =
-    rw (sym (checked c.before.before.before) ∙ c.in_default.is)
-    (record { result_value = refused_early refused c.refusal.ensures c.in_default.is; canvas_after = refl })
+bounds : (c : In-Passed) → PaintPassed c.args.figure c.args.style c.args.width c.args.height c.args.canvas.now
+bounds c = paint_passed _ _ _ _ _ (checked c)
 
 pub paint_whole-requires : goal.paint_whole-requires
 paint_whole-requires c =
-    let p = passed c.before in
+    let p = bounds c.before in
     let wide = p.sides.width_most in
     let high = p.sides.height_most in
-    let stroke = p.stroke in record { canvas_len = p.size; width_le_wide_side = (omega arith, omega arith); own_figure = p.figure; stroke_width_bound = omega arith }
+    let stroke = p.stroke in
+    record { canvas_len = p.size; width_le_wide_side = (omega arith, omega arith); own_figure = p.figure; stroke_width_bound = omega arith }
 
-pub returns : goal.returns
-returns c =
+pub returns-clause-canvas_after : goal.returns-clause-canvas_after
+returns-clause-canvas_after c =
     let a = c.args in
-    let p = passed c.before.before.before.before.before in
-    rw (sym (checked c.before.before.before.before.before.before) ∙ c.in-Passed.is) (record {
-      result_value = refl;
-      canvas_after = c.paint_whole.ensures ∙ whole_is_painted a.figure a.style a.width a.height a.canvas.now
-          p.size;
-    })
+    let passed_here = c.before.before.before.before.before in
+    rw (checked passed_here)
+    (c.paint_whole.ensures ∙ whole_is_painted a.figure a.style a.width a.height a.canvas.now (bounds passed_here).size)

@@ -3,9 +3,6 @@
 use Rattle.paint_boxes.proofs.Turns.{SpacedLeft}
 use Rattle.paint_boxes.proofs.paint_spaced_rows.Given as goal
 
-abbrev pub invariant-loop-left : goal.invariant-loop-left
-invariant-loop-left l =
-    SpacedLeft l.row l.style l.size.width l.size.height l.y l.step l.count l.initial.canvas l.row_y l.left l.canvas
-
-abbrev pub decreases-loop-left : goal.decreases-loop-left
-decreases-loop-left l = l.left
+abbrev pub invariant-loop : goal.invariant-loop
+invariant-loop l =
+    SpacedLeft l.row l.style l.size.width l.size.height l.y l.step l.count l.initial.canvas l.row_y l.counter l.canvas

@@ -1,7 +1,7 @@
 -- `scanline::put_run` meets its contract. The invariant: the columns from k on are left to write, from index i on, and with what
 -- is written they make the whole.
 use mathlib.Core.Path.{◌≡◌}
-use Prim.Native.Nat.{◌+◌, ◌-◌, ◌*◌, ◌≤◌}
+use Prim.Native.Nat.{◌+◌, ◌-◌, ◌*◌}
 use lib.IntN.{pos, ◌+ℤ◌}
 use Rattle.scanline.specs.Points.{run_points, entries}
 use Rattle.scanline.proofs.Listing.{StillTo}
@@ -9,9 +9,6 @@ use Rattle.scanline.proofs.put_run.Given as goal
 
 abbrev pub invariant-loop-k : goal.invariant-loop-k
 invariant-loop-k l =
-    (l.k ≤ l.n) × (l.i ≡ l.at + 2 * l.k)
+    (l.i ≡ l.at + 2 * l.k)
     × StillTo l.initial.list l.at (entries (run_points l.y l.start l.n))
     l.list l.i (entries (run_points l.y (l.start +ℤ pos l.k) (l.n - l.k)))
-
-abbrev pub decreases-loop-k : goal.decreases-loop-k
-decreases-loop-k l = l.n - l.k

@@ -3,16 +3,17 @@
 use mathlib.Core.Path.{◌≡◌, sym, ap, ap₂, subst, ◌∙◌}
 use mathlib.Core.Bool.{Bool, true}
 use mathlib.Core.List.{List, map}
-use Prim.Native.Nat.{ℕ, ◌≤◌}
+use Prim.Native.Nat.{ℕ, ◌<◌, ◌≤◌}
 use native.Mathlib.Omega.{arith}
-use borrow.Author.Tests.{not-true, not-false}
 use lib.ListN.{length, take, get_or}
 use lib.Signed.{le_z}
 use mir.Syntax.{w32}
 use mir.Val.{to_z, of_z}
 use mir.Facts.{to_z-of_z}
-use Rattle.refusal.specs.declared.Checked.TheVariants.{Passed, Refused}
-use Rattle.refusal.proofs.Checks.{refusal_found}
+use Rattle.std.specs.Prelude.{Option, Some, IfSome, is_some}
+use Rattle.std.specs.Result.{result_ok}
+use Rattle.std.proofs.lemmas.Result.{err_from_is_err_and}
+use Rattle.refusal.proofs.Checks.{lacking_refused}
 use Rattle.canvas_size.specs.CanvasSize.{canvas_length_check}
 use Rattle.book.specs.Sheet.{keeps_rules}
 use Rattle.drawing.specs.Drawing.{drawing}
@@ -23,162 +24,127 @@ use Rattle.sheet_layers.specs.Layers.{blank_layer, layers_of, layer_rows}
 use Rattle.sheet_layers.proofs.RowTests.{no_rows, RowsFit, le_held}
 use Rattle.sheet_checks.proofs.Places.{kept_few, kept_layer}
 use Rattle.sheet_checks.proofs.Answers.{paint_broken, paint_length, paint_no_layer, paint_finished, paint_owed, paint_free, rows_at, rows_before}
-use Rattle.sheet_checks.proofs.asked_row.Lts
-use Rattle.sheet_checks.proofs.asked_row.Reads
-use Rattle.sheet_checks.proofs.asked_row.Tie
 use Rattle.sheet_checks.proofs.asked_row.Goals as goal
 
--- the facts known at these places
-abbrev Start : Type 0
-Start = Lts.Start Tie.the-claims Reads.Pre Reads.Post Tie.handed_clauses
+-- the rules are kept where rows were found, and these are the layers' rows
+module _ (W H count : ℕ) (places : List Layer) (long : length places ≡ 16) {tested : Option (List LayerRows)} {rows : List LayerRows}
+    (kept_value : is_some tested ≡ keeps_rules drawing W H (layers_of count places))
+    (rows_value : IfSome tested (λ found. take count found ≡ map layer_rows (take count places))) (told : tested ≡ Some rows) where
+  rules : keeps_rules drawing W H (layers_of count places) ≡ true
+  rules = sym kept_value ∙ ap is_some told
 
-abbrev Else-not-tested : Type 0
-Else-not-tested = Lts.Else1 Tie.the-claims Reads.Pre Reads.Post Tie.handed_clauses
+  few : count ≤ 16
+  few = kept_few W H count places long rules
 
-abbrev In-Passed : Type 0
-In-Passed = Lts.Past-After-enum_told Tie.the-claims Reads.Pre Reads.Post Tie.handed_clauses
+  rows_are : take count rows ≡ map layer_rows (take count places)
+  rows_are = subst (λ (o : Option (List LayerRows)). IfSome o (λ found. take count found ≡ map layer_rows (take count places))) told rows_value
 
-abbrev After-own-1 : Type 0
-After-own-1 = Lts.After-own Tie.the-claims Reads.Pre Reads.Post Tie.handed_clauses
+  -- the layer asked for, and its rows as they were found
+  module _ (i : ℕ) (here : i < count) where
+    abbrev layer : Layer
+    layer = get_or places i blank_layer
 
-abbrev After-some_owes : Type 0
-After-some_owes = Lts.After-some_owes Tie.the-claims Reads.Pre Reads.Post Tie.handed_clauses
+    abbrev own : LayerRows
+    own = get_or rows i no_rows
 
-sixteen : (c : Start) → length c.args.places ≡ 16
-sixteen c = omega arith
+    own_is : own ≡ layer_rows layer
+    own_is = rows_at count i here rows places rows_are (omega (arith, few, long))
 
-kept_rules : (c : Else-not-tested) → keeps_rules drawing c.args.size.width c.args.size.height
-    (layers_of c.args.count c.args.places) ≡ true
-kept_rules c = sym c.test_rules-tested.ensures.kept_value ∙ not-false _ c.if-not-tested.false
+    own_fits : RowsFit own
+    own_fits =
+        let within = kept_layer W H count places long rules i here in
+        subst RowsFit (sym own_is) within.rows
 
-few : (c : Else-not-tested) → c.args.count ≤ 16
-few c =
-    kept_few c.args.size.width c.args.size.height c.args.count c.args.places
-    (sixteen c.before.before.before.before) (kept_rules c)
+    -- whether it has a row left is tested as the definition does
+    by_end : {t : Bool} → le_z (to_z w32 (of_z w32 own.end)) (to_z w32 (of_z w32 own.next)) ≡ t
+        → le_z (layer_rows layer).end (layer_rows layer).next ≡ t
+    by_end test = sym (ap (λ (r : LayerRows). le_z r.end r.next) own_is) ∙ le_held own_fits.end own_fits.next test
 
--- the canvas has its length
-size : (c : In-Passed) (canvas : List ℕ) → length canvas ≡ c.args.bytes
-    → canvas_length_check c.args.size.width c.args.size.height
-    (length canvas) ≡ Passed
-size c canvas long =
-    let a = c.args in
-    ap (canvas_length_check a.size.width a.size.height) long ∙ sym c.check_length-sized.ensures ∙ c.in-Passed.is
-
-abbrev layer : After-own-1 → Layer
-layer c = get_or c.args.places c.args.layer blank_layer
-
-abbrev own : After-own-1 → LayerRows
-own c = get_or c.test_rules-tested.result.rows c.args.layer no_rows
-
-found : (c : After-own-1)
-    → take c.args.count c.test_rules-tested.result.rows
-    ≡ map layer_rows (take c.args.count c.args.places)
-found c = c.test_rules-tested.ensures.rows_value (not-false _ c.if-not-tested.false)
-
-own_is : (c : After-own-1) → own c ≡ layer_rows (layer c)
-own_is c =
-    let a = c.args in
-    rows_at a.count a.layer c.if-count-layer.false
-    c.test_rules-tested.result.rows a.places (found c)
-    (omega (arith, few c.before.before.before.before, sixteen c.before.before.before.before.before.before.before.before))
-
-own_fits : (c : After-own-1) → RowsFit (own c)
-own_fits c =
-    let a = c.args in
-    let within = kept_layer a.size.width a.size.height a.count a.places (sixteen c.before.before.before.before.before.before.before.before)
-    (kept_rules c.before.before.before.before)
-    c.args.layer c.if-count-layer.false in
-    subst RowsFit (sym (own_is c)) within.rows
-
--- whether it has a row left is tested as the definition does
-by_end : (c : After-own-1) {t : Bool} → le_z (to_z w32 (of_z w32 (own c).end)) (to_z w32 (of_z w32 (own c).next)) ≡ t
-    → le_z (layer_rows (layer c)).end (layer_rows (layer c)).next ≡ t
-by_end c test =
-    sym (ap (λ (r : LayerRows). le_z r.end r.next) (own_is c)) ∙ le_held (own_fits c).end (own_fits c).next test
-
--- whether an earlier layer owes the row is what was asked
-owed : (c : After-some_owes)
-    → some_rows_owe
-    (map layer_rows (take c.args.layer
-    c.args.places))
-    (layer_rows (layer c.before.before.before.before.before)).next
-    ≡ c.some_owes.result
-owed c =
-    let a = c.args in
-    let i = c.args.layer in
-    let rows = c.test_rules-tested.result.rows in
-    sym (c.some_owes.ensures
-    ∙ ap₂ some_rows_owe (rows_before a.count i c.if-count-layer.false rows a.places (found c.before.before.before.before.before))
-    (to_z-of_z (own_fits c.before.before.before.before.before).next ∙ ap (λ (r : LayerRows). r.next) (own_is c.before.before.before.before.before)))
+    -- whether an earlier layer owes the row is what was asked
+    owed : {t : Bool} → t ≡ some_rows_owe (take i rows) (to_z w32 (of_z w32 own.next))
+        → some_rows_owe (map layer_rows (take i places)) (layer_rows layer).next ≡ t
+    owed asked =
+        sym (asked ∙ ap₂ some_rows_owe (rows_before count i here rows places rows_are)
+        (to_z-of_z own_fits.next ∙ ap (λ (r : LayerRows). r.next) own_is))
 
 -- 7
-pub returns-then-not-tested : goal.returns-then-not-tested
-returns-then-not-tested c =
-    let a = c.args in record {
-      by_index = λ canvas long. sym (paint_broken a.size.width a.size.height a.count a.places (sixteen c.before.before.before.before) a.layer canvas
-          (sym c.test_rules-tested.ensures.kept_value ∙ not-true _ c.if-not-tested.true));
-      next_row = tt;
-    }
+pub returns-in_err-rows-clause-by_index : goal.returns-in_err-rows-clause-by_index
+returns-in_err-rows-clause-by_index c canvas long =
+    let a = c.args in
+    let lacking = lacking_refused _ (sym c.ok_or.ensures.value ∙ c.in_err-rows.was) in
+    let p = err_from_is_err_and c.from_residual.result c.from_residual.ensures.1 in
+    rw (p.1, p.2, lacking.1)
+    (sym (paint_broken a.size.width a.size.height a.count a.places (omega arith) a.layer canvas (sym c.test_rules.ensures.kept_value ∙ ap is_some lacking.0)))
 
 -- 8
-pub returns-in_default : goal.returns-in_default
-returns-in_default c =
+pub returns-in_err-check_length-clause-by_index : goal.returns-in_err-check_length-clause-by_index
+returns-in_err-check_length-clause-by_index c canvas long =
     let a = c.args in
-    let told = c.in_default.is in record {
-      by_index = λ canvas long. ap Refused (refusal_found c.refusal.ensures c.in_default.is) ∙ sym
-          (paint_length a.size.width a.size.height a.count a.places (sixteen c.before.before.before.before.before.before.before) a.layer canvas
-          (kept_rules c.before.before.before) _
-          (ap (canvas_length_check a.size.width a.size.height) long ∙ sym c.check_length-sized.ensures ∙ c.in_default.is));
-      next_row = tt;
-    }
+    let told = c.ok_or.ensures.ok_part ∙ ap result_ok c.in_ok-rows.was in
+    let kept = rules a.size.width a.size.height a.count a.places (omega arith) c.test_rules.ensures.kept_value c.test_rules.ensures.rows_value told in
+    let p = err_from_is_err_and c.from_residual-in_err-check_length.result c.from_residual-in_err-check_length.ensures.1 in
+    rw (p.1, p.2)
+    (sym (paint_length a.size.width a.size.height a.count a.places (omega arith) a.layer canvas kept _
+    (ap (canvas_length_check a.size.width a.size.height) long ∙ sym c.check_length.ensures ∙ c.in_err-check_length.was)))
 
 -- 10
-pub returns-then-count-layer : goal.returns-then-count-layer
-returns-then-count-layer c =
-    let a = c.args in record {
-      by_index = λ canvas long. sym (paint_no_layer a.size.width a.size.height a.count a.places (sixteen c.before.before.before.before.before.before.before) a.layer canvas
-          (kept_rules c.before.before.before) (size c.before canvas long) c.if-count-layer.true);
-      next_row = tt;
-    }
+pub returns-then-count-layer-clause-by_index : goal.returns-then-count-layer-clause-by_index
+returns-then-count-layer-clause-by_index c canvas long =
+    let a = c.args in
+    let told = c.ok_or.ensures.ok_part ∙ ap result_ok c.in_ok-rows.was in
+    let kept = rules a.size.width a.size.height a.count a.places (omega arith) c.test_rules.ensures.kept_value c.test_rules.ensures.rows_value told in
+    let size = ap (canvas_length_check a.size.width a.size.height) long ∙ sym c.check_length.ensures ∙ c.in_ok-check_length.was in
+    sym (paint_no_layer a.size.width a.size.height a.count a.places (omega arith) a.layer canvas kept size c.if-count-layer.true)
 
 pub bounds-rows-place : goal.bounds-rows-place
 bounds-rows-place c =
+    let a = c.args in
+    let told = c.ok_or.ensures.ok_part ∙ ap result_ok c.in_ok-rows.was in
     let within = c.if-count-layer.false in
-    omega (arith, few c.before.before.before)
+    omega (arith, few a.size.width a.size.height a.count a.places (omega arith) c.test_rules.ensures.kept_value c.test_rules.ensures.rows_value told)
 
-pub returns-then-own-next : goal.returns-then-own-next
-returns-then-own-next c =
-    let a = c.args in record {
-      by_index = λ canvas long.
-          sym (paint_finished a.size.width a.size.height a.count a.places (sixteen c.before.before.before.before.before.before.before.before.before.before.before.before) a.layer canvas
-          (kept_rules c.before.before.before.before.before.before.before.before) (size c.before.before.before.before.before.before canvas long)
-          c.if-count-layer.false (by_end c.before.before.before.before c.if-own-next.true));
-      next_row = tt;
-    }
+-- 11
+pub returns-then-own-next-clause-by_index : goal.returns-then-own-next-clause-by_index
+returns-then-own-next-clause-by_index c canvas long =
+    let a = c.args in
+    let told = c.ok_or.ensures.ok_part ∙ ap result_ok c.in_ok-rows.was in
+    let kept = rules a.size.width a.size.height a.count a.places (omega arith) c.test_rules.ensures.kept_value c.test_rules.ensures.rows_value told in
+    let size = ap (canvas_length_check a.size.width a.size.height) long ∙ sym c.check_length.ensures ∙ c.in_ok-check_length.was in
+    let past = by_end a.size.width a.size.height a.count a.places (omega arith) c.test_rules.ensures.kept_value c.test_rules.ensures.rows_value told a.layer c.if-count-layer.false
+    c.if-own-next.true in
+    sym (paint_finished a.size.width a.size.height a.count a.places (omega arith) a.layer canvas kept size c.if-count-layer.false past)
 
-pub some_owes-requires : goal.some_owes-requires
-some_owes-requires c =
-    let within = c.if-count-layer.false in
-    omega (arith, few c.before.before.before.before.before.before.before.before)
-
-pub returns-then-some_owes : goal.returns-then-some_owes
-returns-then-some_owes c =
-    let a = c.args in record {
-      by_index = λ canvas long.
-          sym (paint_owed a.size.width a.size.height a.count a.places (sixteen c.before.before.before.before.before.before.before.before.before.before.before.before.before.before) a.layer canvas
-          (kept_rules c.before.before.before.before.before.before.before.before.before.before) (size c.before.before.before.before.before.before.before.before canvas long)
-          c.if-count-layer.false (by_end c.before.before.before.before.before.before c.if-own-next.false) (owed c.before ∙ c.if-some_owes.true));
-      next_row = tt;
-    }
+-- 12
+pub returns-then-some_owes-clause-by_index : goal.returns-then-some_owes-clause-by_index
+returns-then-some_owes-clause-by_index c canvas long =
+    let a = c.args in
+    let told = c.ok_or.ensures.ok_part ∙ ap result_ok c.in_ok-rows.was in
+    let kept = rules a.size.width a.size.height a.count a.places (omega arith) c.test_rules.ensures.kept_value c.test_rules.ensures.rows_value told in
+    let size = ap (canvas_length_check a.size.width a.size.height) long ∙ sym c.check_length.ensures ∙ c.in_ok-check_length.was in
+    let left = by_end a.size.width a.size.height a.count a.places (omega arith) c.test_rules.ensures.kept_value c.test_rules.ensures.rows_value told a.layer c.if-count-layer.false
+    c.if-own-next.false in
+    let owes = owed a.size.width a.size.height a.count a.places (omega arith) c.test_rules.ensures.kept_value c.test_rules.ensures.rows_value told a.layer c.if-count-layer.false
+    (sym c.if-some_owes.true ∙ c.some_owes.ensures) in
+    sym (paint_owed a.size.width a.size.height a.count a.places (omega arith) a.layer canvas kept size c.if-count-layer.false left owes)
 
 -- the layer's next row
-pub returns : goal.returns
+pub returns-clause-by_index : goal.returns-clause-by_index
+returns-clause-by_index c canvas long =
+    let a = c.args in
+    let told = c.ok_or.ensures.ok_part ∙ ap result_ok c.in_ok-rows.was in
+    let kept = rules a.size.width a.size.height a.count a.places (omega arith) c.test_rules.ensures.kept_value c.test_rules.ensures.rows_value told in
+    let size = ap (canvas_length_check a.size.width a.size.height) long ∙ sym c.check_length.ensures ∙ c.in_ok-check_length.was in
+    let left = by_end a.size.width a.size.height a.count a.places (omega arith) c.test_rules.ensures.kept_value c.test_rules.ensures.rows_value told a.layer c.if-count-layer.false
+    c.if-own-next.false in
+    let owes = owed a.size.width a.size.height a.count a.places (omega arith) c.test_rules.ensures.kept_value c.test_rules.ensures.rows_value told a.layer c.if-count-layer.false
+    (sym c.if-some_owes.false ∙ c.some_owes.ensures) in
+    sym (paint_free a.size.width a.size.height a.count a.places (omega arith) a.layer canvas kept size c.if-count-layer.false left owes)
+
+pub returns-clause-next_row : goal.returns-clause-next_row
 unfolding layer_rows
-returns c =
-    let a = c.args in record {
-      by_index = λ canvas long.
-          sym (paint_free a.size.width a.size.height a.count a.places (sixteen c.before.before.before.before.before.before.before.before.before.before.before.before.before.before) a.layer canvas
-          (kept_rules c.before.before.before.before.before.before.before.before.before.before) (size c.before.before.before.before.before.before.before.before canvas long)
-          c.if-count-layer.false (by_end c.before.before.before.before.before.before c.if-own-next.false) (owed c.before ∙ c.if-some_owes.false));
-      next_row = to_z-of_z (own_fits c.before.before.before.before.before.before).next ∙ ap (λ (r : LayerRows). r.next) (own_is c.before.before.before.before.before.before);
-    }
+returns-clause-next_row c =
+    let a = c.args in
+    let told = c.ok_or.ensures.ok_part ∙ ap result_ok c.in_ok-rows.was in
+    let is = own_is a.size.width a.size.height a.count a.places (omega arith) c.test_rules.ensures.kept_value c.test_rules.ensures.rows_value told a.layer c.if-count-layer.false in
+    let fits = own_fits a.size.width a.size.height a.count a.places (omega arith) c.test_rules.ensures.kept_value c.test_rules.ensures.rows_value told a.layer c.if-count-layer.false in
+    to_z-of_z fits.next ∙ ap (λ (r : LayerRows). r.next) is

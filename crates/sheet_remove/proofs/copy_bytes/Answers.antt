@@ -21,15 +21,6 @@ none_left canvas background i to past =
 pub loop-i-init : goal.loop-i-init
 loop-i-init c = (refl, refl)
 
-pub bounds-background-i : goal.bounds-background-i
-bounds-background-i c = omega arith
-
-pub bounds-canvas-i : goal.bounds-canvas-i
-bounds-canvas-i c = omega arith
-
-pub loop-i-smaller : goal.loop-i-smaller
-loop-i-smaller c = omega arith
-
 pub loop-i-preserved : goal.loop-i-preserved
 loop-i-preserved c =
     let walk = c.loop-i in
@@ -45,4 +36,4 @@ pub returns : goal.returns
 returns c =
     let walk = c.loop-i in
     let a = c.args in
-    sym (none_left c.loop-i.canvas a.background.now c.loop-i.i a.to c.loop-i-test.false) ∙ c.loop-i.invariant.0
+    sym (none_left c.loop-i.canvas a.background.now c.loop-i.i a.to (omega arith)) ∙ c.loop-i.invariant.0

@@ -64,19 +64,10 @@ bottom_is c =
 pub loop-j-init : goal.loop-j-init
 loop-j-init c = (refl, refl)
 
-pub bounds-rows-j : goal.bounds-rows-j
-bounds-rows-j c = let few = c.requires.end_le_max_layers.0 in omega arith
-
-pub bounds-layers-j : goal.bounds-layers-j
-bounds-layers-j c = let few = c.requires.end_le_max_layers.0 in omega arith
-
 pub paint_rows-requires : goal.paint_rows-requires
 paint_rows-requires c =
     let walk = c.loop-j in
     let high = c.requires.width_le_max_canvas_side.1 in record { canvas_len = c.loop-j.invariant.1 ∙ c.requires.canvas_len; width_le_max_canvas_side = (c.requires.width_le_max_canvas_side.0, omega (arith, bottom_is c.before.before)); layer_within = within c.before.before }
-
-pub loop-j-smaller : goal.loop-j-smaller
-loop-j-smaller c = omega arith
 
 pub loop-j-preserved : goal.loop-j-preserved
 loop-j-preserved c =
@@ -108,5 +99,5 @@ returns c =
     let a = c.args in
     sym (laid_over_none a.size.width a.size.height a.from a.to c.loop-j.canvas (c.loop-j.invariant.1 ∙ c.requires.canvas_len))
     ∙ ap (λ (l : List Layer). laid_over a.size.width a.size.height a.from a.to (map layer_of l) c.loop-j.canvas)
-    (sym (place_past a.layers a.end c.loop-j.j c.loop-j-test.false))
+    (sym (place_past a.layers a.end c.loop-j.j (omega arith)))
     ∙ c.loop-j.invariant.0

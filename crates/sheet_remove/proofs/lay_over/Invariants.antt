@@ -1,7 +1,6 @@
 -- `sheet_remove::lay_over` meets its contract. Invariant: the layers that are left, laid over the canvas, make the whole.
 use mathlib.Core.Path.{◌≡◌}
 use mathlib.Core.List.{map}
-use Prim.Native.Nat.{◌-◌}
 use lib.ListN.{length, take, drop}
 use Rattle.sheet_layers.specs.Layers.{layer_of}
 use Rattle.sheet_remove.specs.Removal.{laid_over}
@@ -12,6 +11,3 @@ invariant-loop-j l =
     (laid_over l.size.width l.size.height l.from l.to (map layer_of (drop l.j (take l.end l.layers))) l.canvas
     ≡ laid_over l.size.width l.size.height l.from l.to (map layer_of (drop l.first (take l.end l.layers))) l.initial.canvas)
     × (length l.canvas ≡ length l.initial.canvas)
-
-abbrev pub decreases-loop-j : goal.decreases-loop-j
-decreases-loop-j l = l.end - l.j

@@ -56,9 +56,6 @@ paint_row-requires c =
     let wide = c.requires.width_le_max_canvas_side.0 in
     let high = c.requires.width_le_max_canvas_side.1 in record { canvas_len = c.loop-y.invariant.1 ∙ c.requires.canvas_len; width_le_wide_side = omega (arith, wide); own_figure = layer.figure; stroke_width_bound = layer.stroke; near = rw (row_is c) (omega (arith, int)) }
 
-pub loop-y-smaller : goal.loop-y-smaller
-loop-y-smaller c = omega arith
-
 pub loop-y-preserved : goal.loop-y-preserved
 loop-y-preserved c =
     let walk = c.loop-y in
@@ -85,5 +82,5 @@ returns c =
     let walk = c.loop-y in
     let a = c.args in
     sym (none_left a.size.width a.size.height (styled_figure a.layer.figure a.layer.style) c.loop-y.y a.to c.loop-y.canvas
-    c.loop-y-test.false)
+    (omega arith))
     ∙ c.loop-y.invariant.0

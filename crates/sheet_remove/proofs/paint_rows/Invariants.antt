@@ -12,6 +12,3 @@ invariant-loop-y l =
     (paint_rows drawing l.size.width l.size.height (styled_figure l.figure l.style) (pos l.y) (l.to - l.y) l.canvas
     ≡ paint_rows drawing l.size.width l.size.height (styled_figure l.figure l.style) (pos l.from) (l.to - l.from) l.initial.canvas)
     × (length l.canvas ≡ length l.initial.canvas)
-
-abbrev pub decreases-loop-y : goal.decreases-loop-y
-decreases-loop-y l = l.to - l.y

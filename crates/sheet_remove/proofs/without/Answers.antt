@@ -10,27 +10,16 @@ use Rattle.sheet_remove.proofs.Moved.{none_moved, one_moved, all_moved}
 use Rattle.sheet_remove.proofs.without.Goals as goal
 
 pub loop-j-init : goal.loop-j-init
-loop-j-init c = (omega arith, omega arith, omega arith, none_moved c.args.places c.args.place (omega arith) blank_layer)
-
-pub bounds-places-j : goal.bounds-places-j
-bounds-places-j c = omega arith
-
-pub bounds-moved-j : goal.bounds-moved-j
-bounds-moved-j c = omega arith
-
-pub loop-j-smaller : goal.loop-j-smaller
-loop-j-smaller c = omega arith
+loop-j-init c = (omega arith, none_moved c.args.places c.args.place (omega arith) blank_layer)
 
 pub loop-j-preserved : goal.loop-j-preserved
 loop-j-preserved c =
     let walk = c.loop-j in
     let a = c.args in
     let moved =
-    one_moved a.places a.place (omega arith) blank_layer c.loop-j.moved c.loop-j.j c.loop-j.invariant.0 (omega arith) (omega arith)
-    c.loop-j.invariant.3 in (
-      omega arith,
-      omega arith,
-      simp length-set c.loop-j.invariant.2,
+    one_moved a.places a.place (omega arith) blank_layer c.loop-j.moved c.loop-j.j (omega arith) (omega arith) (omega arith)
+    c.loop-j.invariant.1 in (
+      simp length-set c.loop-j.invariant.0,
       rw (add-one c.loop-j.j) moved,
     )
 
@@ -41,4 +30,4 @@ returns c =
     let end : c.loop-j.j ≡ 15 = omega arith in
     rw c.blank.ensures
     (all_moved a.places a.place (omega arith) blank_layer c.loop-j.moved 15 blank_layer (omega arith) (omega arith)
-    (subst (λ (n : ℕ). take n c.loop-j.moved ≡ take n (without a.place a.places)) end c.loop-j.invariant.3))
+    (subst (λ (n : ℕ). take n c.loop-j.moved ≡ take n (without a.place a.places)) end c.loop-j.invariant.1))

@@ -1,10 +1,10 @@
 -- `styled_row::box_row` meets its contract: the stroke area's row says which case of `styled_by` holds, and its run keeps to the area's
 -- columns, so its fill can be looked for.
+use Rattle.scanline.specs.Rows.{Row}
+use Rattle.std.specs.Prelude.{Some}
 use mathlib.Core.Path.{◌≡◌, sym, ap, subst, ◌∙◌}
 use lib.IntN.{ℤ}
 use mir.Facts.{to_z-of_z}
-use Rattle.scanline.specs.declared.Row.{Row}
-use Rattle.scanline.specs.declared.StyledRow.TheVariants.{Runs}
 use Rattle.scanline.specs.Points.{RowWithin}
 use Rattle.rounded_rectangle.specs.ConfinedBox.{plain_box, row as confined_box_row}
 use Rattle.box_fill.specs.BoxFill.{fill_run}
@@ -25,21 +25,13 @@ After-row = Lts.After-row Tie.the-claims Reads.Pre Reads.Post Tie.handed_clauses
 row_is : (c : After-row) (told : Row) → c.row.result ≡ told → told ≡ confined_box_row c.args.area c.args.y
 row_is c told is = sym is ∙ c.row.ensures.0 ∙ ap (confined_box_row c.args.area) (to_z-of_z c.requires.near.fits)
 
--- no row
-pub returns-in_default : goal.returns-in_default
-unfolding box_styled_row
-returns-in_default c =
-    let args = c.args in
-    let fill = plain_box args.fill in
-    ap (λ (r : Row). styled_by r (fill_run fill args.y)) (row_is c.before _ c.in_default.is)
-
 pub fill_alone-requires : goal.fill_alone-requires
 fill_alone-requires c =
     let at_row = c.row in
     let area = c.requires.confined_area_box.rectangle in
     let near = c.requires.near in
     let r = c.args.area.rectangle in
-    let ends = subst (RowWithin r.top_left.x r.size.width) c.in-Run.is c.row.ensures.1 in record {
+    let ends = subst (RowWithin r.top_left.x r.size.width) c.in_ok-run.was c.row.ensures.1 in record {
       bounded_box = area_box_bounded _ c.requires.confined_area_box_2;
       near = rw (to_z-of_z near.fits) near;
       near_run = record {
@@ -54,6 +46,6 @@ unfolding box_styled_row
 returns c =
     let args = c.args in
     let fill = plain_box args.fill in
-    ap Runs (c.around_fill.ensures ∙ ap (around_fill c.in-Run.run')
-    (c.fill_alone.ensures ∙ ap (λ (z : ℤ). fill_run fill z c.in-Run.run') (to_z-of_z c.requires.near.fits)))
-    ∙ ap (λ (r : Row). styled_by r (fill_run fill args.y)) (row_is c.before.before.before _ c.in-Run.is)
+    ap Some (c.around_fill.ensures ∙ ap (around_fill c.in_ok-run.run')
+    (c.fill_alone.ensures ∙ ap (λ (z : ℤ). fill_run fill z c.in_ok-run.run') (to_z-of_z c.requires.near.fits)))
+    ∙ ap (λ (r : Row). styled_by r (fill_run fill args.y)) (row_is c.before.before.before.before _ c.in_ok-run.was)

@@ -1,13 +1,12 @@
 -- `styled_row::fill_alone` meets its contract: the place of the asked row says which case of `fill_run` holds.
+use Rattle.std.specs.Prelude.{Some}
 use mathlib.Core.Path.{◌≡◌, sym, subst, ◌∙◌}
 use Prim.Native.Nat.{◌<◌}
 use native.Mathlib.Omega.{arith}
 use mir.Facts.{to_z-of_z}
 use Rattle.geometry.specs.declared.Size.{Size}
 use Rattle.geometry_range.proofs.Fields.{range_by_fields}
-use Rattle.scanline.specs.declared.Place.{Place}
-use Rattle.scanline.specs.declared.Place.TheVariants.{At}
-use Rattle.scanline.specs.Places.{Placed}
+use Rattle.scanline.specs.Places.{Placed, Place}
 use Rattle.scanline.proofs.Placed.{placed_told}
 use Rattle.rounded_rectangle.specs.Quadrants.{top, height}
 use Rattle.rounded_rectangle.specs.ConfinedBox.{plain_box}
@@ -45,12 +44,12 @@ returns-in_default c =
 pub row_fill-found-requires : goal.row_fill-found-requires
 row_fill-found-requires c =
     let made = c.new.ensures in
-    let first = c.requires.bounded_box.at.x in record { near = rw (to_z-of_z first.fits) first; ready_box = c.new.ensures.2; dy_lt_height = subst (λ (s : Size). c.in-At.dy < s.height) (sym c.new.ensures.0) (row_place c.before.before.before.before.before (At c.in-At.dy) c.in-At.is).1; near_run = c.requires.near_run }
+    let first = c.requires.bounded_box.at.x in record { near = rw (to_z-of_z first.fits) first; ready_box = c.new.ensures.2; dy_lt_height = subst (λ (s : Size). c.in-Some.dy < s.height) (sym c.new.ensures.0) (row_place c.before.before.before.before.before (Some c.in-Some.dy) c.in-Some.is).1; near_run = c.requires.near_run }
 
 pub returns : goal.returns
 returns c =
     let made = c.new.ensures in
     let args = c.args in
     c.row_fill-found.ensures
-    ∙ (λ i. row_fill (c.new.ensures.1 i) (c.new.ensures.0 i) (to_z-of_z c.requires.bounded_box.at.x.fits i) c.in-At.dy args.run)
-    ∙ fill_relative (plain_box args.b) args.y args.run c.in-At.dy (row_place c.before.before.before.before.before.before (At c.in-At.dy) c.in-At.is)
+    ∙ (λ i. row_fill (c.new.ensures.1 i) (c.new.ensures.0 i) (to_z-of_z c.requires.bounded_box.at.x.fits i) c.in-Some.dy args.run)
+    ∙ fill_relative (plain_box args.b) args.y args.run c.in-Some.dy (row_place c.before.before.before.before.before.before (Some c.in-Some.dy) c.in-Some.is)

@@ -1,14 +1,11 @@
 -- `styled_straight::row_past` meets its contract: a row that both tests let pass lies past the corners that reach no further than
--- told, so
--- its run is the whole area and its fill needs no test.
+-- told, so its run is the whole area and its fill needs no test.
+use Rattle.std.specs.Prelude.{Some}
 use mathlib.Core.Path.{◌≡◌, sym, ap, subst, ◌∙◌}
 use Prim.Native.Nat.{◌-◌, ◌≤◌, ◌<◌}
 use native.Mathlib.Omega.{arith}
 use mir.Facts.{to_z-of_z}
 use Rattle.geometry_range.specs.declared.Range.{Range}
-use Rattle.scanline.specs.declared.StyledRow.TheVariants.{Runs}
-use Rattle.scanline.specs.declared.Place.TheVariants.{At}
-use Rattle.scanline.specs.Places.{Placed}
 use Rattle.scanline.specs.Points.{EndsWithin}
 use Rattle.scanline.proofs.Placed.{placed_told}
 use Rattle.rounded_rectangle.specs.Relative.{run_between}
@@ -28,35 +25,9 @@ use Rattle.styled_straight.proofs.row_past.Reads
 use Rattle.styled_straight.proofs.row_past.Tie
 use Rattle.styled_straight.proofs.row_past.Goals as goal
 
--- the facts known at these places
-abbrev Start : Type 0
-Start = Lts.Start Tie.the-claims Reads.Pre Reads.Post Tie.handed_clauses
-
-abbrev In-At : Type 0
-In-At = Lts.Past-After-known_told Tie.the-claims Reads.Pre Reads.Post Tie.handed_clauses
-
-abbrev In-At-place_of : Type 0
-In-At-place_of = Lts.Past-After-known_told2 Tie.the-claims Reads.Pre Reads.Post Tie.handed_clauses
-
+-- the facts known at this place
 abbrev After-run_between-run : Type 0
 After-run_between-run = Lts.After-run_between Tie.the-claims Reads.Pre Reads.Post Tie.handed_clauses
-
--- where the row stands in each area
-abbrev start : In-At → Start
-start c = c.before.before.before.before.before
-
-row_place : (c : In-At)
-    → Placed c.args.area.top_left.y c.args.area.size.height c.args.y (At c.in-At.dy)
-row_place c =
-    placed_told _ _ _ c.requires.area_rectangle.at.y.fits c.requires.near.fits c.place_of.ensures
-    c.in-At.is
-
-inner_place : (c : In-At-place_of)
-    → Placed c.args.inner.top_left.y c.args.inner.size.height c.args.y
-    (At c.in-At-place_of.inner_dy)
-inner_place c =
-    placed_told _ _ _ c.requires.area_rectangle_2.at.y.fits c.requires.near.fits
-    c.place_of-2.ensures c.in-At-place_of.is
 
 run_is : (c : After-run_between-run) → c.run_between-run.result ≡ whole_run c.args.area
 run_is c =
@@ -83,10 +54,10 @@ place_of-requires-2 c =
     let near = c.requires.near in record { near = rw (to_z-of_z inner.at.y.fits) inner.at.y; n_le_wide_side = inner.size.height; near_2 = rw (to_z-of_z near.fits) near }
 
 pub is_past-requires : goal.is_past-requires
-is_past-requires c = (row_place c.before.before.before.before.before.before).1
+is_past-requires c = (placed_told _ _ _ c.requires.area_rectangle.at.y.fits c.requires.near.fits c.place_of.ensures c.in_ok-dy.was).1
 
 pub is_past-requires-2 : goal.is_past-requires-2
-is_past-requires-2 c = (inner_place c.before.before.before).1
+is_past-requires-2 c = (placed_told _ _ _ c.requires.area_rectangle_2.at.y.fits c.requires.near.fits c.place_of-2.ensures c.in_ok-inner_dy.was).1
 
 pub run_between-run-requires : goal.run_between-run-requires
 run_between-run-requires c =
@@ -111,16 +82,15 @@ filled_between-requires c =
 pub returns : goal.returns
 returns c = λ c₁ d reach_c reach_d.
     let a = c.args in
-    let past = c.is_past.ensures
-    (c.if-not-is_past.false) in
-    let past₂ = c.is_past-2.ensures (c.if-not-is_past-2.false) in
-    ap Runs
+    let row = placed_told _ _ _ c.requires.area_rectangle.at.y.fits c.requires.near.fits c.place_of.ensures c.in_ok-dy.was in
+    let inner = placed_told _ _ _ c.requires.area_rectangle_2.at.y.fits c.requires.near.fits c.place_of-2.ensures c.in_ok-inner_dy.was in
+    ap Some
     (c.around_fill.ensures
     ∙ ap (around_fill c.run_between-run.result)
     (c.filled_between.ensures
     ∙ ap (λ (x : _). fill_between x a.inner.size.width c.run_between-run.result 0)
     (to_z-of_z c.requires.area_rectangle_2.at.x.fits))
     ∙ ap (λ (r : Range). around_fill r (fill_between a.inner.top_left.x a.inner.size.width r 0)) (run_is c.before.before.before))
-    ∙ straight_row_is a.area a.inner c₁ d a.y _ _ (row_place c.before.before.before.before.before.before.before.before.before.before.before.before.before.before) (inner_place c.before.before.before.before.before.before.before.before.before)
-    (straight c₁ a.area.size _ a.stroke (row_place c.before.before.before.before.before.before.before.before.before.before.before.before.before.before).1 past reach_c)
-    (straight d a.inner.size _ a.fill (inner_place c.before.before.before.before.before.before.before.before.before).1 past₂ reach_d)
+    ∙ straight_row_is a.area a.inner c₁ d a.y _ _ row inner
+    (straight c₁ a.area.size _ a.stroke row.1 (c.is_past.ensures c.if-not-is_past.false) reach_c)
+    (straight d a.inner.size _ a.fill inner.1 (c.is_past-2.ensures c.if-not-is_past-2.false) reach_d)

@@ -1,7 +1,6 @@
 -- `styled_symmetric::corners_alike` meets its contract: a box each of whose corners is like the top-left one has four alike.
 use Rattle.box_mirrored.proofs.Sides.{alike_equal}
 use mathlib.Core.Path.{◌≡◌, sym}
-use mathlib.Core.Bool.{false≢true}
 use Rattle.corner_radii.specs.declared.CornerRadii.{CornerRadii}
 use Rattle.styled_symmetric.specs.SymmetricBox.{four_corners}
 use Rattle.styled_symmetric.proofs.corners_alike.Goals as goal
@@ -16,9 +15,3 @@ pub returns-then-are_alike-2 : goal.returns-then-are_alike-2
 returns-then-are_alike-2 c =
     λ e. four_alike _ (alike_equal c.are_alike.ensures c.if-are_alike.true)
     (alike_equal c.are_alike-then-are_alike.ensures c.if-are_alike-2.true) (alike_equal c.are_alike-then-are_alike-2.ensures e)
-
-pub returns-else-are_alike-2 : goal.returns-else-are_alike-2
-returns-else-are_alike-2 c = λ e. absurd (false≢true e)
-
-pub returns-else-are_alike : goal.returns-else-are_alike
-returns-else-are_alike c = λ e. absurd (false≢true e)

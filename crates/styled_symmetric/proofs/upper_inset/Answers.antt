@@ -1,9 +1,9 @@
 -- `styled_symmetric::upper_inset` meets its contract: the search is the definition's, and a corner without width has nothing
 -- inside.
 use native.Mathlib.Omega.{arith}
-use mathlib.Core.Path.{refl, sym, ap, subst, ◌∙◌}
+use borrow.Author.Rules.{rules}
+use mathlib.Core.Path.{◌≡◌, refl, sym, subst}
 use Prim.Native.Nat.{ℕ, ◌≤◌}
-use Rattle.scanline.specs.Places.{place_else0}
 use Rattle.rounded_rectangle.specs.Relative.{inset}
 use Rattle.corner_quadrant.proofs.SideInsets.{inset_le, inset_no_width}
 use Rattle.styled_symmetric.proofs.upper_inset.Goals as goal
@@ -17,24 +17,13 @@ returns-then-radius-eq0 c =
       few = omega arith;
     }
 
-pub returns-in_default : goal.returns-in_default
-unfolding inset
-returns-in_default c =
-    let low = c.if-radius-dy.false in
-    record {
-      in_corner = λ _. ap place_else0 (sym c.in_default.is ∙ c.first_in_corner.ensures);
-      past_corner = λ past. absurd (omega (arith, c.if-radius-dy.false, past));
-      few = omega arith;
-    }
-
 pub returns : goal.returns
 unfolding inset
 returns c =
     let a = c.args in
-    let low = c.if-radius-dy.false in
-    let is = ap place_else0 (sym c.in-At.is ∙ c.first_in_corner.ensures) in
+    let is : c.unwrap_or.result ≡ inset a.corner.radius a.dy a.n = search rules in
     record {
       in_corner = λ _. is;
-      past_corner = λ past. absurd (omega (arith, c.if-radius-dy.false, past));
+      past_corner = λ past. absurd (omega arith);
       few = subst (λ (k : ℕ). k ≤ a.n) (sym is) (inset_le a.corner.radius a.dy a.n);
     }

@@ -20,11 +20,6 @@ gap-requires-2 c =
     let tall = c.requires.ready.small.height in
     (omega arith, omega arith)
 
-pub contains-requires : goal.contains-requires
-contains-requires c =
-    let wide = c.requires.ready.small.width in
-    let tall = c.requires.ready.small.height in record { small_weights = c.requires.ready.weights; x_le_wide_distance = (omega arith, omega arith) }
-
 pub returns : goal.returns
 unfolding inside_corner column_inside
 returns c =

@@ -1,13 +1,12 @@
 -- `StyledEllipse::row` meets its contract: the place of the asked row, whether there are rows and the searches say which case of the
 -- definition holds.
+use Rattle.std.specs.Prelude.{Some}
 use native.Mathlib.Omega.{arith}
 use mathlib.Core.Path.{◌≡◌, sym, ap, ◌∙◌}
 use mathlib.Core.Bool.{true}
 use Prim.Native.Nat.{◌-◌, ◌*◌}
 use mir.Facts.{to_z-of_z}
 use borrow.Author.Tests.{not-true, not-false}
-use Rattle.scanline.specs.declared.Place.TheVariants.{At}
-use Rattle.scanline.specs.declared.StyledRow.TheVariants.{Runs}
 use Rattle.scanline.specs.Places.{find_from, Placed}
 use Rattle.scanline.proofs.Placed.{placed_told}
 use Rattle.ellipse_search.specs.Search.{column_inside}
@@ -36,10 +35,10 @@ After-scan_inside = Lts.After-scan_inside Tie.the-claims Reads.Pre Reads.Post Ti
 -- where the asked row stands, that there are rows, and where the stroke starts
 row_place : (c : In-At) →
     Placed c.args.self.area.top_left.y c.args.self.area.size.height
-    c.args.y (At c.in-At.dy)
+    c.args.y (Some c.in-Some.dy)
 row_place c =
     let at_place_of = c.place_of in
-    placed_told _ _ _ c.requires.ready_ellipse.area.at.y.fits c.requires.near.fits c.place_of.ensures c.in-At.is
+    placed_told _ _ _ c.requires.ready_ellipse.area.at.y.fits c.requires.near.fits c.place_of.ensures c.in-Some.is
 
 rows_there : (c : Else-not-self) → first_row_inside c.args.self.area.size.width c.args.self.area.size.height
     ≡ true
@@ -51,7 +50,7 @@ abbrev asked : After-scan_inside → Start
 asked c = c.before.before.before.before.before.before.before.before.before.before.before
 
 stroke_start : (c : After-scan_inside) → first_inside c.args.self.area.size.width c.args.self.area.size.height
-    c.in-At.dy ≡ c.scan_inside.result
+    c.in-Some.dy ≡ c.scan_inside.result
 stroke_start c =
     let at_pre = c.requires in
     first_inside_found _ _ _ _ _ _ c.requires.ready_ellipse.stroke c.gap-distance.ensures.0 c.scan_inside.ensures
@@ -67,11 +66,6 @@ returns-then-not-self c =
     styled_lacking c.args.self.area c.args.self.sides c.args.y
     (sym c.requires.ready_ellipse.rows ∙ not-true _ c.if-not-self.true)
 
-pub gap-distance-requires : goal.gap-distance-requires
-gap-distance-requires c =
-    let at_pre = c.requires in
-    ((row_place c.before.before.before).1, c.requires.ready_ellipse.area.size.height)
-
 pub scan_inside-requires : goal.scan_inside-requires
 scan_inside-requires c =
     let wide = first_row_wide _ _ (rows_there c.before.before.before) in
@@ -85,7 +79,7 @@ returns-in_default-scan_inside c =
 
 pub runs_at-found-requires : goal.runs_at-found-requires
 runs_at-found-requires c =
-    let half = first_inside_half _ _ _ _ (stroke_start c.before.before.before.before ∙ c.in-At-scan_inside.is) in
+    let half = first_inside_half _ _ _ _ (stroke_start c.before.before.before.before ∙ c.in-Some-scan_inside.is) in
     let tall = c.requires.ready_ellipse.area.size.height in
     let near = c.requires.ready_ellipse.area.at.x in record { near = rw (to_z-of_z near.fits) near; width_le_wide_side = (c.requires.ready_ellipse.area.size.width, omega arith, omega arith); small_weights = c.requires.ready_ellipse.fill_weights }
 
@@ -93,10 +87,10 @@ pub returns : goal.returns
 returns c =
     let at_gap = c.gap-distance in
     let w = c.args.self.area.size.width in
-    let s = c.in-At-scan_inside.s in
-    ap Runs
+    let s = c.in-Some-scan_inside.s in
+    ap Some
     (c.runs_at-found.ensures
     ∙ (λ i. runs_from (to_z-of_z c.requires.ready_ellipse.area.at.x.fits i) w s
     (find_from (column_inside (c.requires.ready_ellipse.fill i) w (c.gap-distance.ensures.0 i)) (w - 2 * s) s)))
     ∙ styled_found c.args.self.area c.args.self.sides c.args.y _ (row_place c.before.before.before.before.before.before.before.before.before.before) (rows_there c.before.before.before.before.before.before.before.before) s
-    (stroke_start c.before.before.before.before.before ∙ c.in-At-scan_inside.is)
+    (stroke_start c.before.before.before.before.before ∙ c.in-Some-scan_inside.is)

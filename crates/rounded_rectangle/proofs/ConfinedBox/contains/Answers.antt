@@ -1,9 +1,9 @@
 -- `rounded_rectangle::ConfinedBox::contains` meets its contract: the places of the asked column and row say which case of
 -- `contains` holds.
+use Rattle.std.specs.Prelude.{Some}
 use mathlib.Core.Path.{sym, subst, ◌∙◌}
 use Prim.Native.Nat.{◌<◌}
 use Rattle.geometry.specs.declared.Size.{Size}
-use Rattle.scanline.specs.declared.Place.TheVariants.{At}
 use Rattle.scanline.specs.Places.{Placed}
 use Rattle.scanline.proofs.Placed.{placed_told}
 use Rattle.rounded_rectangle.specs.Relative.{contains_at}
@@ -25,17 +25,17 @@ After-corners-1 = Lts.After-corners Tie.the-claims Reads.Pre Reads.Post Tie.hand
 -- where the asked column and row stand
 column_place : (c : After-corners-1) →
     Placed c.args.self.rectangle.top_left.x c.args.self.rectangle.size.width
-    c.args.point.x (At c.in-At.dx)
+    c.args.point.x (Some c.in-Some.dx)
 column_place c =
     let at_place_of = c.place_of in
-    placed_told _ _ _ c.requires.bounded_box.at.x.fits c.requires.point_near.x.fits c.place_of.ensures c.in-At.is
+    placed_told _ _ _ c.requires.bounded_box.at.x.fits c.requires.point_near.x.fits c.place_of.ensures c.in-Some.is
 
 row_place : (c : After-corners-1) →
     Placed c.args.self.rectangle.top_left.y c.args.self.rectangle.size.height
-    c.args.point.y (At c.in-At-place_of.dy)
+    c.args.point.y (Some c.in-Some-place_of.dy)
 row_place c =
     let at_place_of2 = c.place_of-2 in
-    placed_told _ _ _ c.requires.bounded_box.at.y.fits c.requires.point_near.y.fits c.place_of-2.ensures c.in-At-place_of.is
+    placed_told _ _ _ c.requires.bounded_box.at.y.fits c.requires.point_near.y.fits c.place_of-2.ensures c.in-Some-place_of.is
 
 pub place_of-requires : goal.place_of-requires
 place_of-requires c =
@@ -62,9 +62,9 @@ contains-requires c =
     let is = c.new.ensures.0 in record {
       ready_box = c.new.ensures.2;
       dx_lt_width = (
-        subst (λ (s : Size). c.in-At.dx < s.width) (sym c.new.ensures.0) column.1,
+        subst (λ (s : Size). c.in-Some.dx < s.width) (sym c.new.ensures.0) column.1,
         subst
-            (λ (s : Size). c.in-At-place_of.dy < s.height) (sym c.new.ensures.0) row.1,
+            (λ (s : Size). c.in-Some-place_of.dy < s.height) (sym c.new.ensures.0) row.1,
       );
     }
 
@@ -72,5 +72,5 @@ pub returns : goal.returns
 returns c =
     c.contains.ensures
     ∙ (λ i. contains_at (c.new.ensures.1 i) (c.new.ensures.0 i).width (c.new.ensures.0 i).height
-    c.in-At.dx c.in-At-place_of.dy)
+    c.in-Some.dx c.in-Some-place_of.dy)
     ∙ contains_placed _ _ _ _ _ (column_place c.before.before) (row_place c.before.before)

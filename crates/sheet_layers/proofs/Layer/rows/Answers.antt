@@ -1,4 +1,6 @@
 -- `sheet_layers::Layer::rows` meets its contract: the check and the two tests of the next row decide whether the layer keeps its rules.
+use Rattle.refusal.specs.Refusal.{passed}
+use Rattle.std.specs.Prelude.{Some}
 use borrow.Author.Rules.{rules}
 use mathlib.Core.Path.{◌≡◌, sym, ap, ap₂, ◌∙◌}
 use mathlib.Core.Bool.{Bool}
@@ -10,10 +12,8 @@ use mir.Val.{SFits, to_z, of_z}
 use Rattle.sheet_layers.specs.declared.Layer.{Layer}
 use mir.Facts.{to_z-of_z}
 use Rattle.signed.proofs.Laws.{int}
-use Rattle.refusal.specs.declared.Checked.TheVariants.{Passed}
 use Rattle.drawing.specs.declared.StrokeRows.{StrokeRows}
 use Rattle.drawing.specs.Drawing.{styled_check}
-use Rattle.sheet_layers.specs.declared.RowsFound.TheVariants.{Kept}
 use Rattle.sheet_layers.specs.Layers.{layer_rows}
 use Rattle.sheet_layers.proofs.LayerRules.{broken_by_check, broken_above, broken_below, kept_among, checked_figure, checked_stroke}
 use Rattle.sheet_layers.proofs.RowTests.{lt_held, rows_by_fields}
@@ -26,16 +26,16 @@ use Rattle.sheet_layers.proofs.Layer.rows.Goals as goal
 abbrev Start : Type 0
 Start = Lts.Start Tie.the-claims Reads.Pre Reads.Post Tie.handed_clauses
 
-abbrev In-Passed : Type 0
-In-Passed = Lts.Past-After-enum_told Tie.the-claims Reads.Pre Reads.Post Tie.handed_clauses
+abbrev In-Ok : Type 0
+In-Ok = Lts.Past-After-enum_told Tie.the-claims Reads.Pre Reads.Post Tie.handed_clauses
 
 abbrev After-add-end : Type 0
 After-add-end = Lts.After-add Tie.the-claims Reads.Pre Reads.Post Tie.handed_clauses
 
 -- within limits
-passed : (c : In-Passed)
-    → styled_check c.args.self.figure c.args.self.style ≡ Passed
-passed c = sym c.check.ensures ∙ c.in-Passed.is
+has_passed : (c : In-Ok)
+    → styled_check c.args.self.figure c.args.self.style ≡ passed
+has_passed c = sym c.check.ensures ∙ c.in-Ok.is
 
 -- the layer, and its rows as they were computed
 abbrev self : After-add-end → Layer
@@ -79,7 +79,7 @@ returns-in_default c =
     rw (broken_by_check a.self _ (sym c.check.ensures ∙ c.in_default.is))
 
 pub stroke_rows-area-requires : goal.stroke_rows-area-requires
-stroke_rows-area-requires c = record { own_figure = checked_figure _ _ (passed c); stroke_width_bound = checked_stroke _ _ (passed c) }
+stroke_rows-area-requires c = record { own_figure = checked_figure _ _ (has_passed c); stroke_width_bound = checked_stroke _ _ (has_passed c) }
 
 pub add-end-requires : goal.add-end-requires
 add-end-requires c =
@@ -90,19 +90,19 @@ add-end-requires c =
 
 pub returns-then-next-first : goal.returns-then-next-first
 returns-then-next-first c =
-    rw (broken_above (self c.before) (passed c.before.before.before.before.before) (by_first c.before c.if-next-first.true))
+    rw (broken_above (self c.before) (has_passed c.before.before.before.before.before) (by_first c.before c.if-next-first.true))
 
 pub returns-then-end-next : goal.returns-then-end-next
 returns-then-end-next c =
-    rw (broken_below (self c.before.before) (passed c.before.before.before.before.before.before) (by_first c.before.before c.if-next-first.false)
+    rw (broken_below (self c.before.before) (has_passed c.before.before.before.before.before.before) (by_first c.before.before c.if-next-first.false)
     (by_end c.before.before c.if-end-next.true))
 
 pub returns : goal.returns
 unfolding layer_rows
 returns c =
-    let kept = kept_among (self c.before.before) (passed c.before.before.before.before.before.before) (by_first c.before.before c.if-next-first.false)
+    let kept = kept_among (self c.before.before) (has_passed c.before.before.before.before.before.before) (by_first c.before.before c.if-next-first.false)
     (by_end c.before.before c.if-end-next.false) in
     rw kept
-    (ap Kept
+    (ap Some
     (rows_by_fields (to_z-of_z c.stroke_rows-area.ensures.near.0.fits ∙ first_is c.before.before) (to_z-of_z (next_fits c.before.before))
     (to_z-of_z c.add-end.ensures.fits ∙ end_is c.before.before)))

@@ -2,14 +2,10 @@
 -- that is
 -- left overtakes it is whether one of all does.
 use mathlib.Core.Path.{◌≡◌}
-use Prim.Native.Nat.{◌-◌, ◌≤◌}
 use lib.ListN.{take, drop}
 use Rattle.sheet_layers.specs.LayerRows.{no_rows_overtake}
 use Rattle.sheet_layers.proofs.rows.none_overtakes.Given as goal
 
 abbrev pub invariant-loop-i : goal.invariant-loop-i
 invariant-loop-i l =
-    (l.i ≤ l.count) × (no_rows_overtake l.earlier (drop l.i (take l.count l.rows)) ≡ no_rows_overtake l.earlier (drop l.from (take l.count l.rows)))
-
-abbrev pub decreases-loop-i : goal.decreases-loop-i
-decreases-loop-i l = l.count - l.i
+    no_rows_overtake l.earlier (drop l.i (take l.count l.rows)) ≡ no_rows_overtake l.earlier (drop l.from (take l.count l.rows))

@@ -1,14 +1,12 @@
 -- `StyledBox::row` meets its contract: the place of the asked row says whether there is one, the insets give the stroke area's run, and
 -- that keeps to the area's columns, so its fill can be looked for.
+use Rattle.scanline.specs.Rows.{Row}
+use Rattle.std.specs.Prelude.{Some}
 use mathlib.Core.Path.{◌≡◌, sym, ap, subst, ◌∙◌}
 use Prim.Native.Nat.{◌<◌, ◌≤◌}
 use lib.IntN.{ℤ}
 use mir.Facts.{to_z-of_z}
 use Rattle.geometry.specs.declared.Size.{Size}
-use Rattle.scanline.specs.declared.Row.{Row}
-use Rattle.scanline.specs.declared.Row.TheVariants.{Run}
-use Rattle.scanline.specs.declared.StyledRow.TheVariants.{Runs}
-use Rattle.scanline.specs.declared.Place.TheVariants.{At}
 use Rattle.scanline.specs.Places.{Placed}
 use Rattle.scanline.specs.Points.{EndsWithin}
 use Rattle.scanline.proofs.Placed.{placed_told}
@@ -39,23 +37,23 @@ After-run_between-run = Lts.After-run_between Tie.the-claims Reads.Pre Reads.Pos
 -- where the asked row stands
 row_place : (c : In-At) →
     Placed c.args.self.area.top_left.y c.args.self.area.size.height
-    c.args.y (At c.in-At.dy)
+    c.args.y (Some c.in-Some.dy)
 row_place c =
     let at_place_of = c.place_of in
-    placed_told _ _ _ c.requires.ready_styled_box.area.at.y.fits c.requires.near.fits c.place_of.ensures c.in-At.is
+    placed_told _ _ _ c.requires.ready_styled_box.area.at.y.fits c.requires.near.fits c.place_of.ensures c.in-Some.is
 
 -- the stroke area's run, by its insets; it keeps to the area's columns, and is the row of the definition
 run_is : (c : After-run_between-run) → c.run_between-run.result
     ≡ run_between c.args.self.area.top_left.x c.args.self.area.size.width
     (row_insets (radii c.args.self.stroke) c.args.self.area.size.width
-    c.args.self.area.size.height c.in-At.dy)
+    c.args.self.area.size.height c.in-Some.dy)
 run_is c =
     let b = c.args.self in
     c.run_between-run.ensures
     ∙ (λ i. run_between (to_z-of_z c.requires.ready_styled_box.area.at.x.fits i) b.area.size.width (c.row_insets-insets.ensures.0 i))
     ∙ (λ i. run_between b.area.top_left.x b.area.size.width
     (row_insets (radii b.stroke) (sym c.requires.ready_styled_box.stroke_size i).width (sym c.requires.ready_styled_box.stroke_size i).height
-    c.in-At.dy))
+    c.in-Some.dy))
 
 run_ends : (c : After-run_between-run) → EndsWithin c.args.self.area.top_left.x
     c.args.self.area.size.width c.run_between-run.result
@@ -64,9 +62,9 @@ run_ends c =
     subst (EndsWithin b.area.top_left.x b.area.size.width) (sym (run_is c))
     (between_within b.area.top_left.x b.area.size.width _ (side_inset_le _ _ _ _ _) (side_inset_le _ _ _ _ _))
 
-row_is : (c : After-run_between-run) → Run c.run_between-run.result ≡ rounded_rectangle_row (stroke_box c.args.self)
+row_is : (c : After-run_between-run) → Some c.run_between-run.result ≡ rounded_rectangle_row (stroke_box c.args.self)
     c.args.y
-row_is c = ap Run (run_is c) ∙ row_placed _ _ _ (row_place c.before.before.before.before.before)
+row_is c = ap Some (run_is c) ∙ row_placed _ _ _ (row_place c.before.before.before.before.before)
 
 pub place_of-requires : goal.place_of-requires
 place_of-requires c =
@@ -83,7 +81,7 @@ returns-in_default c =
 
 pub row_insets-insets-requires : goal.row_insets-insets-requires
 row_insets-insets-requires c =
-    let ready = c.requires.ready_styled_box in record { ready_box = ready.stroke; dy_lt_height = subst (λ (s : Size). c.in-At.dy < s.height) ready.stroke_size (row_place c.before.before.before).1 }
+    let ready = c.requires.ready_styled_box in record { ready_box = ready.stroke; dy_lt_height = subst (λ (s : Size). c.in-Some.dy < s.height) ready.stroke_size (row_place c.before.before.before).1 }
 
 pub run_between-run-requires : goal.run_between-run-requires
 run_between-run-requires c =
@@ -120,7 +118,7 @@ returns c =
     let at_fill_run = c.fill_run-found in
     let b = c.args.self in
     let run = c.run_between-run.result in
-    ap Runs (c.around_fill.ensures ∙ ap (around_fill c.run_between-run.result)
+    ap Some (c.around_fill.ensures ∙ ap (around_fill c.run_between-run.result)
     (c.fill_run-found.ensures ∙ ap (λ (z : ℤ). fill_run (fill_box b) z c.run_between-run.result) (to_z-of_z c.requires.near.fits)))
     ∙ ap (λ (r : Row). styled_by r (fill_run (fill_box b) c.args.y))
     (row_is c.before.before.before.before.before.before.before)

@@ -1,10 +1,10 @@
 -- `StyledBox::rows_alike` meets its contract: on as many rows as have straight sides in both areas the rows are alike.
+use Rattle.std.specs.Prelude.{Some}
 use mathlib.Core.Path.{sym, ap, subst}
 use Prim.Native.Nat.{◌<◌}
 use native.Mathlib.Omega.{arith}
 use mir.Facts.{to_z-of_z}
 use Rattle.geometry.specs.declared.Size.{Size}
-use Rattle.scanline.specs.declared.Place.TheVariants.{At}
 use Rattle.scanline.specs.Places.{Placed}
 use Rattle.scanline.proofs.Placed.{placed_told}
 use Rattle.rounded_rectangle.specs.Relative.{radii}
@@ -30,18 +30,18 @@ In-At-place_of = Lts.Past-After-known_told2 Tie.the-claims Reads.Pre Reads.Post 
 
 row_place : (c : In-At)
     → Placed c.args.self.area.top_left.y c.args.self.area.size.height c.args.y
-    (At c.in-At.dy)
+    (Some c.in-Some.dy)
 row_place c =
     let at_place_of = c.place_of in
-    placed_told _ _ _ c.requires.ready_styled_box.area.at.y.fits c.requires.near.fits c.place_of.ensures c.in-At.is
+    placed_told _ _ _ c.requires.ready_styled_box.area.at.y.fits c.requires.near.fits c.place_of.ensures c.in-Some.is
 
 inner_place : (c : In-At-place_of)
     → Placed c.args.self.inner.top_left.y c.args.self.inner.size.height
-    c.args.y (At c.in-At-place_of.inner_dy)
+    c.args.y (Some c.in-Some-place_of.inner_dy)
 inner_place c =
     let at_place_of2 = c.place_of-2 in
     placed_told _ _ _ c.requires.ready_styled_box.fill.at.y.fits c.requires.near.fits c.place_of-2.ensures
-    c.in-At-place_of.is
+    c.in-Some-place_of.is
 
 pub place_of-requires : goal.place_of-requires
 place_of-requires c =
@@ -65,11 +65,11 @@ returns-in_default-place_of c =
 
 pub straight_rows-requires : goal.straight_rows-requires
 straight_rows-requires c =
-    let ready = c.requires.ready_styled_box in record { ready_box = ready.stroke; dy_lt_height = subst (λ (s : Size). c.in-At.dy < s.height) ready.stroke_size (row_place c.before.before.before.before.before.before.before.before).1 }
+    let ready = c.requires.ready_styled_box in record { ready_box = ready.stroke; dy_lt_height = subst (λ (s : Size). c.in-Some.dy < s.height) ready.stroke_size (row_place c.before.before.before.before.before.before.before.before).1 }
 
 pub straight_rows-requires-2 : goal.straight_rows-requires-2
 straight_rows-requires-2 c =
-    let ready = c.requires.ready_styled_box.fill in record { ready_box = ready.ready; dy_lt_height = subst (λ (s : Size). c.in-At-place_of.inner_dy < s.height) ready.size (inner_place c.before.before.before).1 }
+    let ready = c.requires.ready_styled_box.fill in record { ready_box = ready.ready; dy_lt_height = subst (λ (s : Size). c.in-Some-place_of.inner_dy < s.height) ready.size (inner_place c.before.before.before).1 }
 
 pub returns : goal.returns
 returns c =
@@ -81,11 +81,11 @@ returns c =
     let some₁ = c.straight_rows.ensures.0 in
     let some₂ = c.straight_rows-2.ensures.0 in
     let alike =
-    rows_straight (stroke_box b) (fill_box b) c.args.y c.in-At.dy c.in-At-place_of.inner_dy
+    rows_straight (stroke_box b) (fill_box b) c.args.y c.in-Some.dy c.in-Some-place_of.inner_dy
     c.straight_rows.result c.straight_rows-2.result
     (row_place c.before.before.before.before.before.before.before.before.before.before.before) (inner_place c.before.before.before.before.before)
-    (subst (λ (s : Size). StraightFor (radii b.stroke) s c.in-At.dy c.straight_rows.result) (sym ready.stroke_size)
+    (subst (λ (s : Size). StraightFor (radii b.stroke) s c.in-Some.dy c.straight_rows.result) (sym ready.stroke_size)
     c.straight_rows.ensures.1)
-    (subst (λ (s : Size). StraightFor (radii b.fill) s c.in-At-place_of.inner_dy c.straight_rows-2.result) (sym ready.fill.size)
+    (subst (λ (s : Size). StraightFor (radii b.fill) s c.in-Some-place_of.inner_dy c.straight_rows-2.result) (sym ready.fill.size)
     c.straight_rows-2.ensures.1) in
     (omega (arith, c.least.ensures, some₁, some₂), subst (Alike (box_styled_row (stroke_box b) (fill_box b)) c.args.y) (sym c.least.ensures) alike)

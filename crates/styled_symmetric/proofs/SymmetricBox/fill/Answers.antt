@@ -6,17 +6,7 @@ use mir.Facts.{to_z-of_z}
 use Rattle.geometry_range.proofs.Fields.{range_by_fields}
 use Rattle.box_mirrored_fill.specs.MirroredFill.{fill_between}
 use Rattle.styled_symmetric.proofs.Rows.{fill_lacking, between, fill_found}
-use Rattle.styled_symmetric.proofs.SymmetricBox.fill.Lts
-use Rattle.styled_symmetric.proofs.SymmetricBox.fill.Reads
-use Rattle.styled_symmetric.proofs.SymmetricBox.fill.Tie
 use Rattle.styled_symmetric.proofs.SymmetricBox.fill.Goals as goal
-
--- the facts known at these places
-abbrev Start : Type 0
-Start = Lts.Start Tie.the-claims Reads.Pre Reads.Post Tie.handed_clauses
-
-abbrev After-corner_left_out-k : Type 0
-After-corner_left_out-k = Lts.After-corner_left_out Tie.the-claims Reads.Pre Reads.Post Tie.handed_clauses
 
 -- above the fill area's rows
 pub returns-then-dy-border : goal.returns-then-dy-border
@@ -24,9 +14,6 @@ returns-then-dy-border c =
     let end = to_z-of_z c.requires.near_run.end.fits in
     range_by_fields end end ∙ fill_lacking c.args.self c.requires.ready_symmetric c.args.dy c.requires.corner_rows_bound
     c.args.run c.if-dy-border.true
-
-pub corner_left_out-k-requires : goal.corner_left_out-k-requires
-corner_left_out-k-requires c = c.requires.ready_symmetric.inner_corner
 
 pub filled_between-requires : goal.filled_between-requires
 filled_between-requires c =
