@@ -27,11 +27,18 @@ pub size_read : (numbers : List ℤ) (k m : ℕ) → mag (number_at numbers k) <
     ≡ size_of (number_at numbers k) (number_at numbers m)
 size_read numbers k m a b i = size_of (read_back numbers k a i) (read_back numbers m b i)
 
-module _ (numbers : List ℤ) (i : ℕ) (within : i < length numbers) (fits : SFits w32 (get_or numbers i (pos 0))) where
-  here : none_negative (drop i numbers) ≡ (le_z (pos 0) (get_or numbers i (pos 0)) && none_negative (drop (i + 1) numbers))
+module _ (numbers : List ℤ) (i : ℕ) where
+  pub none_negative_here : i < length numbers
+      → none_negative (drop i numbers) ≡ (le_z (pos 0) (get_or numbers i (pos 0)) && none_negative (drop (i + 1) numbers))
   unfolding none_negative
-  here = rw (drop-cons numbers i (pos 0) within, add-one i)
+  none_negative_here within = rw (drop-cons numbers i (pos 0) within, add-one i)
 
+  pub none_negative_past : length numbers ≤ i → none_negative (drop i numbers) ≡ true
+  unfolding none_negative
+  none_negative_past past = rw (drop_of_length-le numbers {i = i} past)
+
+-- the same by the test of the number that stands here
+module _ (numbers : List ℤ) (i : ℕ) (within : i < length numbers) (fits : SFits w32 (get_or numbers i (pos 0))) where
   by_sign : {t : Bool} → lt_z (to_z w32 (of_z w32 (get_or numbers i (pos 0)))) (pos 0) ≡ t
       → lt_z (get_or numbers i (pos 0)) (pos 0) ≡ t
   by_sign test = sym (ap (λ (z : ℤ). lt_z z (pos 0)) (to_z-of_z fits)) ∙ test
@@ -40,19 +47,14 @@ module _ (numbers : List ℤ) (i : ℕ) (within : i < length numbers) (fits : SF
   negative_here test =
       let sign = by_sign test in
       let negative : le_z (pos 0) (get_or numbers i (pos 0)) ≡ false = omega (arith, int) in
-      here ∙ rw negative
+      none_negative_here numbers i within ∙ rw negative
 
-  pub none_negative_here : lt_z (to_z w32 (of_z w32 (get_or numbers i (pos 0)))) (pos 0) ≡ false
+  pub not_negative_here : lt_z (to_z w32 (of_z w32 (get_or numbers i (pos 0)))) (pos 0) ≡ false
       → none_negative (drop i numbers) ≡ none_negative (drop (i + 1) numbers)
-  none_negative_here test =
+  not_negative_here test =
       let sign = by_sign test in
       let positive : le_z (pos 0) (get_or numbers i (pos 0)) ≡ true = omega (arith, int) in
-      here ∙ rw positive
-
-module _ (numbers : List ℤ) (i : ℕ) where
-  pub none_negative_past : length numbers ≤ i → none_negative (drop i numbers) ≡ true
-  unfolding none_negative
-  none_negative_past past = rw (drop_of_length-le numbers {i = i} past)
+      none_negative_here numbers i within ∙ rw positive
 
 -- ---- a walk over n things: those that are left after j
 module _ (test : ℕ → Bool) (n j : ℕ) where

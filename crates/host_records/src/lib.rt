@@ -85,7 +85,7 @@ pub fn is_within(low: i32, high: i32, v: i32) -> bool
 }
 
 // Whether none of the numbers is negative.
-#[tactic(auto, using(crate::proofs::Walks::negative_here, crate::proofs::Walks::none_negative_here, crate::proofs::Walks::none_negative_past))]
+#[tactic(auto, using(crate::proofs::Walks::negative_here, crate::proofs::Walks::not_negative_here, crate::proofs::Walks::none_negative_past))]
 pub fn none_negative(numbers: &[i32]) -> bool
     ensures { result ≡ none_negative numbers.now }
 {
