@@ -36,9 +36,15 @@ use Rattle.figure.specs.Bounds.{AreaRectangle, BoundedShape}
 use Rattle.figure.specs.Figure.{rectangle, row_of_shape, points_of_shape, points}
 
 -- the rectangle of a bounded shape is bounded
-shape_area : (s : Shape) → BoundedShape s → AreaRectangle (rectangle s)
+pub shape_area : (s : Shape) → BoundedShape s → AreaRectangle (rectangle s)
 shape_area (Ellipse r) b = b
 shape_area (RoundedBox q) b = b.rectangle
+
+-- the points by a shape's rectangle
+pub points_by_rectangle : (s : Shape) (r : Rectangle) → r ≡ rectangle s
+    → points_of_shape s ≡ points_from (row_of_shape s) r.top_left.y r.size.height
+unfolding points_of_shape
+points_by_rectangle s r is = λ i. points_from (row_of_shape s) (sym is i).top_left.y (sym is i).size.height
 
 -- the row asked for is the one on z
 pub row_told : (s : Shape) (z y : ℤ) (q : Row) → Is z y → q ≡ row_of_shape s (to_z w32 (of_z w32 y)) → row_of_shape s z ≡ q
@@ -61,21 +67,34 @@ module _ (s : Shape) (bounded : BoundedShape s) (q : Row) (run : Range)
 
 -- the loop that counts: n points stand in the dy rows passed, and with those left they are all
 pub record CountLeft (s : Shape) (top : ℤ) (h n dy : ℕ) : Type 0 where
+  pub dy_le : dy ≤ h
   pub small : n ≤ dy * wide_stroke_side
   pub whole : n + length (points_after (row_of_shape s) top h dy) ≡ length (points_of_shape s)
 
-pub count_next : (s : Shape) (top : ℤ) (h n dy : ℕ) → CountLeft s top h n dy → (r : Range) (m : ℕ) → dy < h
-    → row_of_shape s (top +ℤ pos dy) ≡ Some r → is_empty r ≡ false → run_length r ≤ wide_stroke_side → m ≡ run_length r
-    → CountLeft s top h (n + m) (dy + 1)
-count_next s top h n dy left r m l e full short is =
-    let w = left.whole in
-    let c = left.small in
+pub count_start : (s : Shape) (top : ℤ) (h : ℕ) → points_of_shape s ≡ points_from (row_of_shape s) top h → CountLeft s top h 0 0
+count_start s top h is =
     record {
+      dy_le = omega arith;
       small = omega arith;
-      whole = omega (arith, length_after_run (row_of_shape s) top h dy r l e full);
+      whole = omega (arith, ap length (is ∙ points_after_none (row_of_shape s) top h));
     }
 
--- a shape's rectangle at hand: the points go by its top and height
+module _ (s : Shape) (top : ℤ) (h n dy : ℕ) (left : CountLeft s top h n dy) where
+  pub count_done : points_after (row_of_shape s) top h dy ≡ [] → n ≡ length (points_of_shape s)
+  count_done e = let w = left.whole in omega (arith, ap length e)
+
+  pub count_next : (r : Range) (m : ℕ) → dy < h → row_of_shape s (top +ℤ pos dy) ≡ Some r → is_empty r ≡ false
+      → run_length r ≤ wide_stroke_side → m ≡ run_length r → CountLeft s top h (n + m) (dy + 1)
+  count_next r m l e full short is =
+      let w = left.whole in
+      let c = left.small in
+      record {
+        dy_le = omega arith;
+        small = omega arith;
+        whole = omega (arith, length_after_run (row_of_shape s) top h dy r l e full);
+      }
+
+-- a shape's rectangle at hand: the points go by its height and its top, as a program reads it
 module _ (s : Shape) (r : Rectangle) (bounded : BoundedShape s) (is : r ≡ rectangle s) where
   abbrev top : ℤ
   top = to_z w32 (of_z w32 r.top_left.y)
@@ -83,39 +102,33 @@ module _ (s : Shape) (r : Rectangle) (bounded : BoundedShape s) (is : r ≡ rect
   area : AreaRectangle r
   area = subst AreaRectangle (sym is) (shape_area s bounded)
 
-  pub points_by_rectangle : points_of_shape s ≡ points_from (row_of_shape s) top r.size.height
-  unfolding points_of_shape
-  points_by_rectangle =
-      (λ i. points_from (row_of_shape s) (sym is i).top_left.y (sym is i).size.height)
-      ∙ ap (λ (z : ℤ). points_from (row_of_shape s) z r.size.height) (sym (to_z-of_z area.at.y.fits))
+  pub points_by_top_read : points_of_shape s ≡ points_from (row_of_shape s) top r.size.height
+  points_by_top_read =
+      points_by_rectangle s r is ∙ ap (λ (z : ℤ). points_from (row_of_shape s) z r.size.height) (sym (to_z-of_z area.at.y.fits))
 
-  pub count_start : CountLeft s top r.size.height 0 0
-  count_start =
-      record {
-        small = omega arith;
-        whole = omega (arith, ap length (points_by_rectangle ∙ points_after_none (row_of_shape s) top r.size.height));
-      }
+  pub own_count_start : CountLeft s top r.size.height 0 0
+  own_count_start = count_start s top r.size.height points_by_top_read
 
-  -- no points are left: those counted are all
-  pub count_done : (n dy : ℕ) → CountLeft s top r.size.height n dy → dy ≤ r.size.height
+  -- no points are left: those counted are all, and no more than the rectangle has room for
+  pub own_count_done : (n dy : ℕ) → CountLeft s top r.size.height n dy
       → points_after (row_of_shape s) top r.size.height dy ≡ [] → (n ≡ length (points_of_shape s)) × (n ≤ wide_side * wide_side)
-  count_done n dy left l none =
-      let w = left.whole in
+  own_count_done n dy left none =
+      let l = left.dy_le in
       let m = left.small in
-      let tall = area.size.height in (omega (arith, ap length none), omega arith)
+      let tall = area.size.height in (count_done s top r.size.height n dy left none, omega arith)
 
   -- there is room for them, and where none are left the list holds them
   pub write_start : (list : List ℤ) → 2 * length (points_of_shape s) ≤ length list
       → RowsLeft (row_of_shape s) top r.size.height list list 0 0
   write_start list room =
       rows_left_start (row_of_shape s) top r.size.height list
-      (subst (λ (ps : List Point). 2 * length ps ≤ length list) points_by_rectangle room)
+      (subst (λ (ps : List Point). 2 * length ps ≤ length list) points_by_top_read room)
 
   pub write_done : {list₀ list : List ℤ} {at dy : ℕ} → RowsLeft (row_of_shape s) top r.size.height list₀ list at dy
       → points_after (row_of_shape s) top r.size.height dy ≡ [] → list ≡ sets list₀ 0 (entries (points_of_shape s))
   write_done {list₀ = list₀} left none =
       rows_left_done (row_of_shape s) top r.size.height left none
-      ∙ ap (λ (ps : List Point). sets list₀ 0 (entries ps)) (sym points_by_rectangle)
+      ∙ ap (λ (ps : List Point). sets list₀ 0 (entries ps)) (sym points_by_top_read)
 
 -- ---- there is room for the points where the check of the list finds it
 pub room_passed : (needed room : ℕ) → room_check needed room ≡ passed → needed ≤ room
