@@ -73,23 +73,29 @@ module _ (row_at : ℤ → StyledRow) (style : Style) (W H : ℕ) (first : ℤ) 
             ∙ left.rest;
       }
 
-  -- several rows in one turn, all of them alike
-  pub rows_turns : (dy n : ℕ) (y : ℤ) (row : StyledRow) (canvas next : List ℕ) → dy < count → n ≤ count - dy
-      → y ≡ first +ℤ pos dy → length next ≡ length canvas → row ≡ row_at y → ((k : ℕ) → k < n → row_at (y +ℤ pos k) ≡ row_at y)
-      → next ≡ rows_by (λ _. row) style W H y n canvas → RowsLeft dy canvas → RowsLeft (dy + n) next
-  rows_turns dy n y row canvas next more few y_is same row_is alike is left =
+  -- several rows in one turn
+  pub rows_turns : (dy n : ℕ) (canvas next : List ℕ) → dy < count → n ≤ count - dy → length next ≡ length canvas
+      → next ≡ rows_by row_at style W H (first +ℤ pos dy) n canvas → RowsLeft dy canvas → RowsLeft (dy + n) next
+  rows_turns dy n canvas next more few same is left =
       let further : first +ℤ pos (dy + n) ≡ first +ℤ pos dy +ℤ pos n =
       omega (arith, int, add_law first (pos (dy + n)), add_law first (pos dy), add_law (first +ℤ pos dy) (pos n)) in
       record {
         within = omega arith;
         size = same ∙ left.size;
         rest =
-            (λ i. rows_by row_at style W H (further i) (count - (dy + n))
-            ((is ∙ rows_by_alike row_at style W H row n y canvas (λ k l. alike k l ∙ sym row_is)
-            ∙ ap (λ (z : ℤ). rows_by row_at style W H z n canvas) y_is) i))
+            (λ i. rows_by row_at style W H (further i) (count - (dy + n)) (is i))
             ∙ rows_by_parts row_at style W H n (count - (dy + n)) (count - dy) (first +ℤ pos dy) canvas (omega arith)
             ∙ left.rest;
       }
+
+  -- the same where all of them are alike
+  pub alike_turns : (dy n : ℕ) (y : ℤ) (row : StyledRow) (canvas next : List ℕ) → dy < count → n ≤ count - dy
+      → y ≡ first +ℤ pos dy → length next ≡ length canvas → row ≡ row_at y → ((k : ℕ) → k < n → row_at (y +ℤ pos k) ≡ row_at y)
+      → next ≡ rows_by (λ _. row) style W H y n canvas → RowsLeft dy canvas → RowsLeft (dy + n) next
+  alike_turns dy n y row canvas next more few y_is same row_is alike is left =
+      rows_turns dy n canvas next more few same
+      (is ∙ rows_by_alike row_at style W H row n y canvas (λ k l. alike k l ∙ sym row_is)
+      ∙ ap (λ (z : ℤ). rows_by row_at style W H z n canvas) y_is) left
 
   no_row : (y : ℤ) (n : ℕ) (canvas : List ℕ) → n ≡ 0 → canvas ≡ rows_by row_at style W H y n canvas
   unfolding rows_by

@@ -75,14 +75,18 @@ module _ (area : Rectangle) (sides : Size) where
       → ellipse_styled_row area sides (top +ℤ pos (h - 1 - dy)) ≡ ellipse_styled_row area sides (top +ℤ pos dy)
   row_mirrored dy l = row_by_gap (h - 1 - dy) dy (omega arith) l (omega arith)
 
+  -- the same from the area's top, for all of its rows
+  pub row_mirrored_from : (y : ℤ) (count dy : ℕ) → y ≡ top → count ≡ h → dy < count
+      → ellipse_styled_row area sides (y +ℤ pos (count - 1 - dy)) ≡ ellipse_styled_row area sides (y +ℤ pos dy)
+  row_mirrored_from y count dy at all l = rw (at, all) (row_mirrored dy (omega (arith, all)))
+
   -- the same of a pair of rows, where they are all of the area's
-  pub row_mirrored_from : (first y z : ℤ) (count pairs dy : ℕ) → Mirrored area first count pairs → y ≡ first +ℤ pos dy
+  pub pair_mirrored : (first y z : ℤ) (count pairs dy : ℕ) → Mirrored area first count pairs → y ≡ first +ℤ pos dy
       → z ≡ first +ℤ pos (count - 1 - dy) → dy < pairs → ellipse_styled_row area sides z ≡ ellipse_styled_row area sides y
-  row_mirrored_from first y z count pairs dy m y_is z_is pair =
-      let at = m.from_top (omega arith) in
-      let all = m.all_rows (omega arith) in
+  pair_mirrored first y z count pairs dy m y_is z_is pair =
       let half = m.half in
-      rw (y_is, z_is, at, all) (row_mirrored dy (omega (arith, all, half)))
+      rw (y_is, z_is)
+      (row_mirrored_from first count dy (m.from_top (omega arith)) (m.all_rows (omega arith)) (omega (arith, half, pair)))
 
 -- ---- rows in another order
 module _ (row_at : ℤ → StyledRow) (style : Style) (W H : ℕ) where

@@ -7,7 +7,7 @@ use mir.Syntax.{w32}
 use mir.Val.{to_z, of_z}
 use mir.Facts.{to_z-of_z}
 use Rattle.signed.proofs.Laws.{int, add_law}
-use Rattle.paint_rows.proofs.InTurn.{rows_turns, rows_end}
+use Rattle.paint_rows.proofs.InTurn.{alike_turns, rows_end}
 use Rattle.paint_rows.proofs.paint_box_rows.Goals as goal
 
 pub row-found-requires : goal.row-found-requires
@@ -74,7 +74,7 @@ shape_of-canvas c = omega (arith, int)
 
 pub loop-dy-preserved : goal.loop-dy-preserved
 loop-dy-preserved c =
-    rows_turns _ _ _ _ _ _ _ c.loop-dy.dy c.least-alike.result _ _ _ _ c.loop-dy-test.true (omega (arith, c.least-alike.ensures))
+    alike_turns _ _ _ _ _ _ _ c.loop-dy.dy c.least-alike.result _ _ _ _ c.loop-dy-test.true (omega (arith, c.least-alike.ensures))
     (omega (arith, int)) (search rules) c.row-found.ensures
     (λ k l. c.rows_alike.ensures.1 k (omega (arith, c.least-alike.ensures, l))) c.paint_alike_rows.ensures c.loop-dy.invariant
 

@@ -3,7 +3,7 @@
 use native.Mathlib.Omega.{arith}
 use borrow.Author.Rules.{rules}
 use Rattle.signed.proofs.Laws.{int}
-use Rattle.paint_rows.proofs.Mirror.{row_mirrored_from, between_turn, between_end}
+use Rattle.paint_rows.proofs.Mirror.{pair_mirrored, between_turn, between_end}
 use Rattle.paint_rows.proofs.paint_ellipse.Goals as goal
 
 pub paint_twice-requires-clause-near : goal.paint_twice-requires-clause-near
@@ -13,7 +13,7 @@ pub loop-dy-preserved : goal.loop-dy-preserved
 loop-dy-preserved c =
     between_turn _ _ _ _ _ _ _ _ c.loop-dy.dy _ c.loop-dy-test.true c.mirrored_pairs-pairs.ensures.half c.loop-dy.invariant _ _ _ _
     (search rules) (omega (arith, int)) (omega (arith, int)) c.row-found.ensures
-    (row_mirrored_from _ _ _ _ _ _ _ _ c.mirrored_pairs-pairs.ensures (omega (arith, int)) (omega (arith, int)))
+    (pair_mirrored _ _ _ _ _ _ _ _ c.mirrored_pairs-pairs.ensures (omega (arith, int)) (omega (arith, int)))
     c.paint_twice.ensures
 
 pub returns : goal.returns
