@@ -24,7 +24,7 @@ use Rattle.paint_boxes.specs.declared.Turn.{Turn}
 use Rattle.paint_boxes.specs.Spaced.{spaced_by, SpacedNear, TurnAt}
 
 -- ---- rows of a figure are near
-row_near : (first : ℤ) (dy : ℕ) → Near wide_area_position first → dy ≤ wide_stroke_side → Near wide_painted (first +ℤ pos dy)
+pub row_near : (first : ℤ) (dy : ℕ) → Near wide_area_position first → dy ≤ wide_stroke_side → Near wide_painted (first +ℤ pos dy)
 row_near first dy near few =
     let high = near.above in
     let low = near.below in
@@ -49,7 +49,7 @@ spaced_one_by_one (suc n) first dy near few = (
 module _ (first : ℤ) (height pairs dy : ℕ) (near : Near wide_area_position first) (low : height ≤ wide_stroke_side)
     (half : 2 * pairs ≤ height)
     (more : dy < height - pairs) (t : Turn) (at : TurnAt height pairs dy t) where
-  step_small : t.step ≤ wide_stroke_side
+  pub step_small : t.step ≤ wide_stroke_side
   step_small =
       by_order dy pairs (λ pair. let is = at.pair_step pair in omega (arith, is))
       (λ past. let is = at.rest_step past in omega (arith, is))
@@ -96,45 +96,41 @@ module _ (row : StyledRow) (style : Style) (W H : ℕ) where
 
 -- ---- the loop that paints them: the rows that are left, painted on the canvas as it is now, make the whole
 module _ (row : StyledRow) (style : Style) (W H : ℕ) (first : ℤ) (step count : ℕ) (lent : List ℕ) where
-  pub record SpacedLeft (y : ℤ) (done : ℕ) (canvas : List ℕ) : Type 0 where
+  pub record SpacedLeft (y : ℤ) (left : ℕ) (canvas : List ℕ) : Type 0 where
     pub size : length canvas ≡ W * H
-    pub near : SpacedNear y step (count - done)
-    pub rest : spaced_by row style W H y step (count - done) canvas ≡ spaced_by row style W H first step count lent
+    pub near : SpacedNear y step left
+    pub rest : spaced_by row style W H y step left canvas ≡ spaced_by row style W H first step count lent
 
-  more_near : (y : ℤ) (done : ℕ) (canvas : List ℕ) → done < count → SpacedLeft y done canvas
-      → Near wide_painted y × SpacedNear (y +ℤ pos step) step (count - (done + 1))
-  more_near y done canvas more l =
-      let fewer : count - done ≡ suc (count - (done + 1)) = omega arith in
-      subst (SpacedNear y step) fewer l.near
-
-  one_spaced : (y : ℤ) (n m : ℕ) (canvas : List ℕ) → n ≡ suc m
-      → spaced_by row style W H y step n canvas
-      ≡ spaced_by row style W H (y +ℤ pos step) step m (paint_by (λ _. row) style W H y canvas)
+  pub spaced_turn : (y : ℤ) (left : ℕ) (canvas next : List ℕ) → 0 < left → length next ≡ length canvas
+      → next ≡ paint_by (λ _. row) style W H y canvas → SpacedLeft y left canvas → SpacedLeft (y +ℤ pos step) (left - 1) next
   unfolding spaced_by
-  one_spaced y n m canvas is = rw is
-
-  pub spaced_turn : (y z : ℤ) (done : ℕ) (canvas next : List ℕ) → done < count → z ≡ y +ℤ pos step → length next ≡ length canvas
-      → next ≡ paint_by (λ _. row) style W H y canvas → SpacedLeft y done canvas → SpacedLeft z (done + 1) next
-  spaced_turn y z done canvas next more z_is same is l =
-      let fewer : count - done ≡ suc (count - (done + 1)) = omega arith in
+  spaced_turn y zero canvas next some same is l = absurd (omega arith)
+  spaced_turn y (suc n) canvas next some same is l =
+      let fewer : n ≡ suc n - 1 = omega arith in
       record {
         size = same ∙ l.size;
-        near = rw z_is (more_near y done canvas more l).1;
-        rest =
-            (λ i. spaced_by row style W H (z_is i) step (count - (done + 1)) (is i))
-            ∙ sym (one_spaced y (count - done) (count - (done + 1)) canvas fewer)
-            ∙ l.rest;
+        near = subst (λ (k : ℕ). SpacedNear (y +ℤ pos step) step k) fewer l.near.1;
+        rest = (λ i. spaced_by row style W H (y +ℤ pos step) step (sym fewer i) (is i)) ∙ l.rest;
       }
 
-  no_spaced : (y : ℤ) (n : ℕ) (canvas : List ℕ) → n ≡ 0 → canvas ≡ spaced_by row style W H y step n canvas
+  pub spaced_end : (y : ℤ) (left : ℕ) (canvas : List ℕ) → left ≤ 0 → SpacedLeft y left canvas
+      → canvas ≡ spaced_by row style W H first step count lent
   unfolding spaced_by
-  no_spaced y n canvas none = rw none
+  spaced_end y zero canvas done l = l.rest
+  spaced_end y (suc n) canvas done l = absurd (omega arith)
 
-  pub spaced_end : (y z : ℤ) (done : ℕ) (canvas : List ℕ) → count ≤ done → first ≡ z → SpacedLeft y done canvas
+  -- the same where the rows that are done are counted
+  pub counted_turn : (y z : ℤ) (done : ℕ) (canvas next : List ℕ) → done < count → z ≡ y +ℤ pos step → length next ≡ length canvas
+      → next ≡ paint_by (λ _. row) style W H y canvas → SpacedLeft y (count - done) canvas → SpacedLeft z (count - (done + 1)) next
+  counted_turn y z done canvas next more z_is same is l =
+      let fewer : count - done - 1 ≡ count - (done + 1) = omega arith in
+      rw z_is
+      (subst (λ (k : ℕ). SpacedLeft (y +ℤ pos step) k next) fewer (spaced_turn y (count - done) canvas next (omega arith) same is l))
+
+  pub counted_end : (y z : ℤ) (done : ℕ) (canvas : List ℕ) → count ≤ done → first ≡ z → SpacedLeft y (count - done) canvas
       → canvas ≡ spaced_by row style W H z step count lent
-  spaced_end y z done canvas all z_is l =
-      no_spaced y (count - done) canvas (omega arith) ∙ l.rest
-      ∙ ap (λ (x : ℤ). spaced_by row style W H x step count lent) z_is
+  counted_end y z done canvas all z_is l =
+      spaced_end y (count - done) canvas (omega arith) l ∙ ap (λ (x : ℤ). spaced_by row style W H x step count lent) z_is
 
 -- ---- a turn over a symmetric box's rows
 rest_number : (count pairs dy : ℕ) → pairs ≤ dy → count - pairs - dy ≡ count - dy - min dy pairs
@@ -152,7 +148,7 @@ module _ (row_at : ℤ → StyledRow) (style : Style) (W H : ℕ) (first : ℤ) 
   is : next ≡ spaced_by row style W H (first +ℤ pos dy) t.step t.count canvas
   is = painted ∙ ap (λ (z : ℤ). spaced_by row style W H z t.step t.count canvas) y_is
 
-  turn_pair : dy < pairs → row_at (first +ℤ pos (count - 1 - dy)) ≡ row_at (first +ℤ pos dy)
+  pub turn_pair : dy < pairs → row_at (first +ℤ pos (count - 1 - dy)) ≡ row_at (first +ℤ pos dy)
       → RowsBetween row_at style W H first count pairs lent t.next next
   turn_pair pair alike =
       let far : first +ℤ pos dy +ℤ pos (count - 1 - 2 * dy) ≡ first +ℤ pos (count - 1 - dy) =
@@ -169,7 +165,7 @@ module _ (row_at : ℤ → StyledRow) (style : Style) (W H : ℕ) (first : ℤ) 
   unfolding rows_by
   none_left y n none = rw none
 
-  turn_rest : pairs ≤ dy → ((k : ℕ) → k < count - pairs - dy → row_at (first +ℤ pos dy +ℤ pos k) ≡ row_at (first +ℤ pos dy))
+  pub turn_rest : pairs ≤ dy → ((k : ℕ) → k < count - pairs - dy → row_at (first +ℤ pos dy +ℤ pos k) ≡ row_at (first +ℤ pos dy))
       → RowsBetween row_at style W H first count pairs lent t.next next
   turn_rest past alike =
       subst (λ (n : ℕ). RowsBetween row_at style W H first count pairs lent n next) (sym (at.rest_next past))
