@@ -108,28 +108,43 @@ module _ (row_at : ℤ → StyledRow) (style : Style) (W H : ℕ) where
       rows_lacking none n (y +ℤ pos 1) canvas
       ∙ ap (rows_by row_at style W H (y +ℤ pos 1) n) (sym (paint_by_lacking row_at style W H canvas y (none y)))
 
--- ---- the visible rows of a figure made ready make the whole of it
+-- ---- the visible rows of a figure make the whole of it
+module _ (row_at : ℤ → StyledRow) (f : Figure) (style : Style) (W H : ℕ) (is : (y : ℤ) → row_at y ≡ styled_row f style y) (rows : StrokeRows)
+    (rows_are : rows ≡ stroke_rows f style) (canvas : List ℕ) where
+  all_rows_whole : rows_by row_at style W H rows.first rows.count canvas ≡ paint_whole drawing W H (styled_figure f style) canvas
+  all_rows_whole =
+      rows_by_figure row_at f style W H is rows.count rows.first canvas
+      ∙ ap (λ (r : StrokeRows). paint_rows drawing W H (styled_figure f style) r.first r.count canvas) rows_are
+
+  pub visible_rows_whole : (seen : StrokeRows) → seen ≡ visible_rows rows H
+      → rows_by row_at style W H seen.first seen.count canvas ≡ paint_whole drawing W H (styled_figure f style) canvas
+  visible_rows_whole seen seen_are =
+      ap (λ (r : StrokeRows). rows_by row_at style W H r.first r.count canvas) seen_are
+      ∙ visible_rows_lem row_at style W H rows canvas
+      ∙ all_rows_whole
+
+  pub lacking_whole : ((y : ℤ) → row_at y ≡ None) → canvas ≡ paint_whole drawing W H (styled_figure f style) canvas
+  lacking_whole none = rows_lacking row_at style W H none rows.count rows.first canvas ∙ all_rows_whole
+
+-- ---- and so do those of a figure made ready
 module _ (f : Figure) (style : Style) (W H : ℕ) (stroke fill : Shape) (stroke_is : stroke ≡ stroke_area f style)
     (fill_is : fill ≡ fill_area f style) (made : Option StyledShape)
     (made_is : (y : ℤ) → row_of made y ≡ styled_row_of_shapes stroke fill y)
     (rows : StrokeRows) (rows_are : rows ≡ rows_of_shape stroke) (canvas : List ℕ) where
-  all_rows_whole : rows_by (row_of made) style W H rows.first rows.count canvas ≡ paint_whole drawing W H (styled_figure f style) canvas
+  figure_rows : (y : ℤ) → row_of made y ≡ styled_row f style y
+  figure_rows y = made_is y ∙ (λ i. styled_row_of_shapes (stroke_is i) (fill_is i) y)
+
+  stroke_rows_are : rows ≡ stroke_rows f style
   unfolding stroke_rows
-  all_rows_whole =
-      rows_by_figure (row_of made) f style W H (λ y. made_is y ∙ (λ i. styled_row_of_shapes (stroke_is i) (fill_is i) y))
-      rows.count rows.first canvas
-      ∙ ap (λ (r : StrokeRows). paint_rows drawing W H (styled_figure f style) r.first r.count canvas)
-      (rows_are ∙ ap rows_of_shape stroke_is)
+  stroke_rows_are = rows_are ∙ ap rows_of_shape stroke_is
 
-  pub visible_rows_whole : (shape : Option StyledShape) (seen : StrokeRows) (y : ℤ) → made ≡ shape → seen ≡ visible_rows rows H
+  pub ready_rows_whole : (shape : Option StyledShape) (seen : StrokeRows) (y : ℤ) → made ≡ shape → seen ≡ visible_rows rows H
       → y ≡ seen.first → rows_by (row_of shape) style W H y seen.count canvas ≡ paint_whole drawing W H (styled_figure f style) canvas
-  visible_rows_whole shape seen y shape_is seen_are y_is =
+  ready_rows_whole shape seen y shape_is seen_are y_is =
       (λ i. rows_by (row_of (sym shape_is i)) style W H (y_is i) seen.count canvas)
-      ∙ ap (λ (r : StrokeRows). rows_by (row_of made) style W H r.first r.count canvas) seen_are
-      ∙ visible_rows_lem (row_of made) style W H rows canvas
-      ∙ all_rows_whole
+      ∙ visible_rows_whole (row_of made) f style W H figure_rows rows stroke_rows_are canvas seen seen_are
 
-  pub lacking_whole : made ≡ None → canvas ≡ paint_whole drawing W H (styled_figure f style) canvas
-  lacking_whole none =
-      rows_lacking (row_of made) style W H (λ y. ap (λ (s : Option StyledShape). row_of s y) none) rows.count rows.first canvas
-      ∙ all_rows_whole
+  pub ready_lacking_whole : made ≡ None → canvas ≡ paint_whole drawing W H (styled_figure f style) canvas
+  ready_lacking_whole none =
+      lacking_whole (row_of made) f style W H figure_rows rows stroke_rows_are canvas
+      (λ y. ap (λ (s : Option StyledShape). row_of s y) none)
