@@ -16,6 +16,7 @@ use host_sheet_record::{
     CANVAS_HEIGHT, CANVAS_WIDTH, COUNT, FIRST_PLACE, LAYER_LENGTH, SHEET_LENGTH, STYLE, is_sheet,
     put_layer, remove_place, sheet_of,
 };
+use sheet_calls::number_of;
 use sheet_layers::Layer;
 
 // The numbers of a sheet without layers, its width and height left 0: unused places, without paint.
@@ -64,9 +65,9 @@ pub fn add(sheet: &mut [i32], figure: &[i32], style: &[i32]) -> u32
     }
     let before = sheet_of(sheet);
     let made = before.add(figure_of(figure), style_of(style));
-    if let Err(refusal) = made.answer {
-        return refusal.number();
-    }
+    let Ok(()) = made.answer else {
+        return number_of(made.answer);
+    };
     let after = made.sheet;
     let places = after.layers;
     let place = before.count as usize;
@@ -105,9 +106,9 @@ pub fn remove(sheet: &mut [i32], layer: u32, canvas: &mut [u8], background: &[u8
     }
     let before = sheet_of(sheet);
     let made = before.remove(layer, canvas, background);
-    if let Err(refusal) = made.answer {
-        return refusal.number();
-    }
+    let Ok(()) = made.answer else {
+        return number_of(made.answer);
+    };
     let left = made.sheet;
     remove_place(sheet, layer as usize);
     sheet[COUNT] = signed::from_u32(left.count);

@@ -28,7 +28,7 @@ pub struct RunOutcome {
 }
 
 // The number that stands for an answer: 0 for accepted.
-fn number_of(answer: Checked) -> u32
+pub fn number_of(answer: Checked) -> u32
     ensures { result ≡ answer_number answer }
 {
     match answer {

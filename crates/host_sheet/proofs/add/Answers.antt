@@ -7,7 +7,7 @@ use lib.IntN.{ℤ, pos}
 use lib.ListN.{set}
 use mir.Syntax.{w32}
 use mir.Facts.{to_z-of_z}
-use Rattle.refusal.specs.Refusal.{Checked, passed}
+use Rattle.refusal.specs.Refusal.{Checked, passed, answer_number}
 use Rattle.geometry.specs.Limits.{max_layers}
 use Rattle.book.specs.Book.{add as call_add}
 use Rattle.figure.specs.declared.Figure.{Figure}
@@ -78,33 +78,33 @@ figure_of-requires c = figure_length_lem c.args.figure.now (sym c.is_figure.ensu
 pub style_of-requires : goal.style_of-requires
 style_of-requires c = style_length_lem c.args.style.now (sym c.is_style.ensures ∙ c.if-not-is_style.false)
 
-pub returns-in-Err : goal.returns-in-Err
+pub returns-in_default : goal.returns-in_default
 unfolding add_told add_numbers
-returns-in-Err c =
+returns-in_default c =
     let a = c.args in
     let refused =
     sym (says a.sheet.now a.figure.now a.style.now c.sheet_of-before.ensures c.figure_of.ensures c.style_of.ensures c.add-made.ensures.answer_value
     c.add-made.ensures.sheet_value)
-    ∙ c.in-Err.is in
+    ∙ c.in_default.is in
     rw (
       sym c.is_sheet.ensures ∙ c.if-not-is_sheet.false,
       sym c.is_figure.ensures ∙ c.if-not-is_figure.false,
       sym c.is_style.ensures ∙ c.if-not-is_style.false,
       refused,
-    ) (record { value = c.number.ensures; sheet_after = refl })
+    ) (record { value = c.number_of.ensures ∙ ap answer_number c.in_default.is; sheet_after = refl })
 
 pub bounds-places-place : goal.bounds-places-place
 bounds-places-place c =
     let a = c.args in
     place a.sheet.now a.figure.now a.style.now c.sheet_of-before.ensures c.figure_of.ensures c.style_of.ensures c.add-made.ensures.answer_value
-    c.add-made.ensures.sheet_value c.in_default.is
+    c.add-made.ensures.sheet_value c.in-Ok.is
 
 pub put_layer-requires : goal.put_layer-requires
 put_layer-requires c =
     let a = c.args in
     let within =
     place a.sheet.now a.figure.now a.style.now c.sheet_of-before.ensures c.figure_of.ensures c.style_of.ensures c.add-made.ensures.answer_value
-    c.add-made.ensures.sheet_value c.in_default.is in
+    c.add-made.ensures.sheet_value c.in-Ok.is in
     record {
       numbers_len = (sheet_length_lem a.sheet.now (sym c.is_sheet.ensures ∙ c.if-not-is_sheet.false), within);
       figure_len = (
@@ -119,7 +119,7 @@ from_u32-requires c =
     let few =
     added_count a.sheet.now a.figure.now a.style.now
     (accepted a.sheet.now a.figure.now a.style.now c.sheet_of-before.ensures c.figure_of.ensures c.style_of.ensures c.add-made.ensures.answer_value
-    c.add-made.ensures.sheet_value c.in_default.is) in
+    c.add-made.ensures.sheet_value c.in-Ok.is) in
     let same =
     ap (λ (s : Sheet). s.count)
     (after_is a.sheet.now a.figure.now a.style.now c.sheet_of-before.ensures c.figure_of.ensures c.style_of.ensures c.add-made.ensures.answer_value
@@ -132,16 +132,16 @@ returns c =
     let a = c.args in
     let count =
     count_is a.sheet.now a.figure.now a.style.now c.sheet_of-before.ensures c.figure_of.ensures c.style_of.ensures c.add-made.ensures.answer_value
-    c.add-made.ensures.sheet_value c.in_default.is in
+    c.add-made.ensures.sheet_value c.in-Ok.is in
     let sheet =
     carried a.sheet.now a.figure.now a.style.now c.sheet_of-before.ensures c.figure_of.ensures c.style_of.ensures c.add-made.ensures.answer_value
-    c.add-made.ensures.sheet_value c.in_default.is in
+    c.add-made.ensures.sheet_value c.in-Ok.is in
     rw (
       sym c.is_sheet.ensures ∙ c.if-not-is_sheet.false,
       sym c.is_figure.ensures ∙ c.if-not-is_figure.false,
       sym c.is_style.ensures ∙ c.if-not-is_style.false,
       accepted a.sheet.now a.figure.now a.style.now c.sheet_of-before.ensures c.figure_of.ensures c.style_of.ensures c.add-made.ensures.answer_value
-          c.add-made.ensures.sheet_value c.in_default.is,
+          c.add-made.ensures.sheet_value c.in-Ok.is,
     ) (record {
       value = refl;
       sheet_after = ap₂ (λ (l : List ℤ) (z : ℤ). set l count_at z)

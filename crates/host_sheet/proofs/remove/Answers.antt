@@ -7,7 +7,7 @@ use native.Mathlib.Omega.{arith}
 use lib.IntN.{ℤ, pos}
 use lib.ListN.{set}
 use mir.Facts.{to_z-of_z}
-use Rattle.refusal.specs.Refusal.{Checked, passed}
+use Rattle.refusal.specs.Refusal.{Checked, passed, answer_number}
 use Rattle.geometry.specs.Limits.{max_layers}
 use Rattle.book.specs.Book.{remove as call_remove}
 use Rattle.sheet.specs.declared.Sheet.{Sheet}
@@ -58,14 +58,14 @@ unfolding remove_told remove_numbers remove_canvas
 returns-then-not-is_sheet c = rw (sym c.is_sheet.ensures ∙ c.if-not-is_sheet.true) (record { value = refl; sheet_after = refl; canvas_after = refl; background_value = refl })
 
 -- refused
-pub returns-in-Err : goal.returns-in-Err
+pub returns-in_default : goal.returns-in_default
 unfolding remove_told remove_numbers remove_canvas
-returns-in-Err c =
+returns-in_default c =
     let a = c.args in
     let made = c.remove-made.ensures in
-    let refused = sym (says a.sheet.now a.layer a.canvas.now a.background.now c.sheet_of-before.ensures made.answer_value made.sheet_value made.canvas_after) ∙ c.in-Err.is in
+    let refused = sym (says a.sheet.now a.layer a.canvas.now a.background.now c.sheet_of-before.ensures made.answer_value made.sheet_value made.canvas_after) ∙ c.in_default.is in
     rw (sym c.is_sheet.ensures ∙ c.if-not-is_sheet.false, refused) (record {
-      value = c.number.ensures;
+      value = c.number_of.ensures ∙ ap answer_number c.in_default.is;
       sheet_after = refl;
       canvas_after = painted_is a.sheet.now a.layer a.canvas.now a.background.now c.sheet_of-before.ensures made.answer_value made.sheet_value made.canvas_after;
       background_value = refl;
@@ -76,14 +76,14 @@ remove_place-requires c =
     let a = c.args in
     let made = c.remove-made.ensures in (
       sheet_length_lem a.sheet.now (sym c.is_sheet.ensures ∙ c.if-not-is_sheet.false),
-      place a.sheet.now a.layer a.canvas.now a.background.now c.sheet_of-before.ensures made.answer_value made.sheet_value made.canvas_after c.in_default.is,
+      place a.sheet.now a.layer a.canvas.now a.background.now c.sheet_of-before.ensures made.answer_value made.sheet_value made.canvas_after c.in-Ok.is,
     )
 
 pub from_u32-requires : goal.from_u32-requires
 from_u32-requires c =
     let a = c.args in
     let made = c.remove-made.ensures in
-    let small = small_counts a.sheet.now a.layer a.canvas.now a.background.now c.sheet_of-before.ensures made.answer_value made.sheet_value made.canvas_after c.in_default.is in
+    let small = small_counts a.sheet.now a.layer a.canvas.now a.background.now c.sheet_of-before.ensures made.answer_value made.sheet_value made.canvas_after c.in-Ok.is in
     omega arith
 
 -- accepted
@@ -94,13 +94,13 @@ returns c =
     let made = c.remove-made.ensures in
     rw (
       sym c.is_sheet.ensures ∙ c.if-not-is_sheet.false,
-      accepted a.sheet.now a.layer a.canvas.now a.background.now c.sheet_of-before.ensures made.answer_value made.sheet_value made.canvas_after c.in_default.is,
+      accepted a.sheet.now a.layer a.canvas.now a.background.now c.sheet_of-before.ensures made.answer_value made.sheet_value made.canvas_after c.in-Ok.is,
     ) (record {
       value = refl;
       sheet_after = ap₂ (λ (l : List ℤ) (z : ℤ). set l count_at z) c.remove_place.ensures
           (to_z-of_z c.from_u32.ensures.fits ∙ c.from_u32.ensures.is
           ∙ ap (λ (s : Sheet). pos s.count)
-          (carried a.sheet.now a.layer a.canvas.now a.background.now c.sheet_of-before.ensures made.answer_value made.sheet_value made.canvas_after c.in_default.is));
+          (carried a.sheet.now a.layer a.canvas.now a.background.now c.sheet_of-before.ensures made.answer_value made.sheet_value made.canvas_after c.in-Ok.is));
       canvas_after = painted_is a.sheet.now a.layer a.canvas.now a.background.now c.sheet_of-before.ensures made.answer_value made.sheet_value made.canvas_after;
       background_value = refl;
     })
