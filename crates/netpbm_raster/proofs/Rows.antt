@@ -45,16 +45,26 @@ length_packed_rows W (suc H) canvas =
     one_more_lem : (n m : ℕ) → suc n * m ≡ m + n * m
     one_more_lem n m = omega (arith, suc-mul n m)
 
--- a turn of the loop that puts a row of n bytes, and its end
-pub put_turn : (out row : List ℕ) (at j n : ℕ) → j < n
+-- a turn of the loop that puts a row, and its end
+pub put_turn : (out row : List ℕ) (next left from : ℕ) → 0 < left
+    → sets out next (packed_bytes left (drop from row))
+    ≡ sets (set out next (packed_byte (drop from row))) (next + 1) (packed_bytes (left - 1) (drop (from + 8) row))
+unfolding packed_bytes
+put_turn out row next zero from h = absurd (omega arith)
+put_turn out row next (suc left) from h =
+    let less : suc left - 1 ≡ left = omega arith in
+    rw (less, add-one, ← drop-drop)
+
+-- the same after j of n bytes
+pub counted_put_turn : (out row : List ℕ) (at j n : ℕ) → j < n
     → sets out (at + j) (packed_bytes (n - j) (drop (8 * j) row))
     ≡ sets (set out (at + j) (packed_byte (drop (8 * j) row))) (at + (j + 1)) (packed_bytes (n - (j + 1)) (drop (8 * (j + 1)) row))
-unfolding packed_bytes
-put_turn out row at j n h =
-    let left : n - j ≡ suc (n - (j + 1)) = omega arith in
-    let next : at + (j + 1) ≡ suc (at + j) = omega arith in
-    let from : 8 * (j + 1) ≡ 8 * j + 8 = omega arith in
-    rw (left, next, from, ← drop-drop)
+counted_put_turn out row at j n h =
+    let next : at + j + 1 ≡ at + (j + 1) = omega arith in
+    let left : n - j - 1 ≡ n - (j + 1) = omega arith in
+    let from : 8 * j + 8 ≡ 8 * (j + 1) = omega arith in
+    put_turn out row (at + j) (n - j) (8 * j) (omega arith)
+    ∙ (λ i. sets (set out (at + j) (packed_byte (drop (8 * j) row))) (next i) (packed_bytes (left i) (drop (from i) row)))
 
 pub put_end : (out row : List ℕ) (next left : ℕ) → left ≡ 0 → sets out next (packed_bytes left row) ≡ out
 unfolding packed_bytes
@@ -69,15 +79,26 @@ row_part canvas from W =
 pub row_part_length : (canvas : List ℕ) (from W : ℕ) → from + W ≤ length canvas → length (take W (drop from canvas)) ≡ W
 row_part_length canvas from W within = length-take-le W (drop from canvas) (simp length-drop (omega arith))
 
--- a turn of the loop that puts h rows, and its end
-pub rows_turn : (out canvas : List ℕ) (next k h from W : ℕ) → k < h
+-- a turn of the loop that puts rows, and its end
+pub rows_turn : (out canvas : List ℕ) (next left from W : ℕ) → 0 < left
+    → sets out next (packed_rows W left (drop from canvas))
+    ≡ sets (sets out next (packed_row W (take W (drop from canvas)))) (next + row_bytes W) (packed_rows W (left - 1) (drop (from + W) canvas))
+unfolding packed_rows
+rows_turn out canvas next zero from W h = absurd (omega arith)
+rows_turn out canvas next (suc left) from W h =
+    let less : suc left - 1 ≡ left = omega arith in
+    rw (less, sets_append, length_packed_bytes (row_bytes W) (take W (drop from canvas)), drop-drop)
+
+-- the same after k of h rows
+pub counted_rows_turn : (out canvas : List ℕ) (next k h from W : ℕ) → k < h
     → sets out next (packed_rows W (h - k) (drop from canvas))
     ≡ sets (sets out next (packed_row W (take W (drop from canvas)))) (next + row_bytes W)
     (packed_rows W (h - (k + 1)) (drop (from + W) canvas))
-unfolding packed_rows
-rows_turn out canvas next k h from W here =
-    let left : h - k ≡ suc (h - (k + 1)) = omega arith in
-    rw (left, sets_append, length_packed_bytes (row_bytes W) (take W (drop from canvas)), drop-drop)
+counted_rows_turn out canvas next k h from W here =
+    let left : h - k - 1 ≡ h - (k + 1) = omega arith in
+    rows_turn out canvas next (h - k) from W (omega arith)
+    ∙ ap (λ (n : ℕ). sets (sets out next (packed_row W (take W (drop from canvas)))) (next + row_bytes W)
+    (packed_rows W n (drop (from + W) canvas))) left
 
 pub rows_end : (out canvas : List ℕ) (next left W : ℕ) → left ≡ 0 → sets out next (packed_rows W left canvas) ≡ out
 unfolding packed_rows
@@ -156,19 +177,32 @@ unpack_end row pixels at n all long =
 pub length_unpacked_row : (W : ℕ) (bytes : List ℕ) → W ≤ 8 * length bytes → length (unpacked_row W bytes) ≡ W
 length_unpacked_row W bytes enough = length-take-le W (unpacked bytes) (rw (length_unpacked bytes) enough)
 
-pub unpack_rows_turn : (canvas raster ys : List ℕ) (at from k h W : ℕ) → k < h → at + W ≤ length canvas
+pub unpack_rows_turn : (canvas raster ys : List ℕ) (at from left W : ℕ) → 0 < left → at + W ≤ length canvas
     → from + row_bytes W ≤ length raster → ys ≡ unpacked_row W (take (row_bytes W) (drop from raster))
-    → take (at + W) (take at canvas ++ (ys ++ drop (at + W - at) (drop at canvas))) ++ unpacked_rows W (h - (k + 1))
+    → take (at + W) (take at canvas ++ (ys ++ drop (at + W - at) (drop at canvas))) ++ unpacked_rows W (left - 1)
     (drop (from + row_bytes W) raster)
-    ≡ take at canvas ++ unpacked_rows W (h - k) (drop from raster)
+    ≡ take at canvas ++ unpacked_rows W left (drop from raster)
 unfolding unpacked_rows
-unpack_rows_turn canvas raster ys at from k h W here within enough e =
-    let left : h - k ≡ suc (h - (k + 1)) = omega arith in
+unpack_rows_turn canvas raster ys at from zero W some within enough e = absurd (omega arith)
+unpack_rows_turn canvas raster ys at from (suc left) W some within enough e =
+    let less : suc left - 1 ≡ left = omega arith in
     let bytes = take (row_bytes W) (drop from raster) in
     let bytes_long : W ≤ 8 * length bytes = rw (length-take-le (row_bytes W) (drop from raster) (simp length-drop (omega arith)))
     (omega arith) in
     let long : length ys ≡ at + W - at = ap length e ∙ length_unpacked_row W bytes bytes_long ∙ omega arith in
-    rw (over_part_front canvas ys at (at + W) (omega arith) within long, append_assoc, left, e, drop-drop)
+    rw (over_part_front canvas ys at (at + W) (omega arith) within long, append_assoc, less, e, drop-drop)
+
+-- the same after k of h rows
+pub counted_unpack_turn : (canvas raster ys : List ℕ) (at from k h W : ℕ) → k < h → at + W ≤ length canvas
+    → from + row_bytes W ≤ length raster → ys ≡ unpacked_row W (take (row_bytes W) (drop from raster))
+    → take (at + W) (take at canvas ++ (ys ++ drop (at + W - at) (drop at canvas))) ++ unpacked_rows W (h - (k + 1))
+    (drop (from + row_bytes W) raster)
+    ≡ take at canvas ++ unpacked_rows W (h - k) (drop from raster)
+counted_unpack_turn canvas raster ys at from k h W here within enough e =
+    let left : h - (k + 1) ≡ h - k - 1 = omega arith in
+    ap (λ (n : ℕ). take (at + W) (take at canvas ++ (ys ++ drop (at + W - at) (drop at canvas))) ++ unpacked_rows W n
+    (drop (from + row_bytes W) raster)) left
+    ∙ unpack_rows_turn canvas raster ys at from (h - k) W (omega arith) within enough e
 
 pub unpack_rows_end : (canvas raster : List ℕ) (at left W : ℕ) → left ≡ 0 → length canvas ≤ at
     → take at canvas ++ unpacked_rows W left raster ≡ canvas

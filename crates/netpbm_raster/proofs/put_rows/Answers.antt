@@ -4,7 +4,7 @@ use Prim.Native.Nat.{◌+◌, ◌≤◌}
 use native.Mathlib.Omega.{arith}
 use lib.ListN.{length}
 use Rattle.netpbm_raster.specs.Raster.{row_bytes}
-use Rattle.netpbm_raster.proofs.Rows.{turn_more, turn_within, row_part, row_part_length, rows_turn, rows_end, length_packed_bytes, length_packed_rows}
+use Rattle.netpbm_raster.proofs.Rows.{turn_more, turn_within, row_part, row_part_length, counted_rows_turn, rows_end, length_packed_bytes, length_packed_rows}
 use Rattle.netpbm_text.proofs.Written.{wrote_length}
 use Rattle.netpbm_raster.proofs.put_rows.Goals as goal
 
@@ -26,7 +26,7 @@ loop-preserved c =
     at c.put_row-next.ensures in
     let place : c.put_row-next.result ≡ c.loop.next + row_bytes a.width = wrote.place ∙ rw (length_packed_bytes (row_bytes a.width) _) in (
       c.loop.invariant.0
-          ∙ rows_turn c.loop.out a.canvas.now c.loop.next c.loop.counter a.height c.loop.from a.width c.loop-test.true
+          ∙ counted_rows_turn c.loop.out a.canvas.now c.loop.next c.loop.counter a.height c.loop.from a.width c.loop-test.true
           ∙ rw (← wrote.list, ← place),
       wrote_length wrote ∙ c.loop.invariant.1,
       omega (arith, turn_more c.loop.counter (row_bytes a.width)),

@@ -4,7 +4,7 @@ use Prim.Native.Nat.{◌+◌, ◌*◌, ◌-◌, ◌≤◌}
 use native.Mathlib.Omega.{arith}
 use lib.ListN.{length, take, drop}
 use Rattle.netpbm_raster.specs.Raster.{row_bytes}
-use Rattle.netpbm_raster.proofs.Rows.{part_length, over_part_length, row_part, turn_more, turn_within, unpack_rows_turn, unpack_rows_end}
+use Rattle.netpbm_raster.proofs.Rows.{part_length, over_part_length, row_part, turn_more, turn_within, counted_unpack_turn, unpack_rows_end}
 use Rattle.netpbm_raster.proofs.unpack_rows.Goals as goal
 
 pub unpack_row-requires : goal.unpack_row-requires
@@ -32,7 +32,7 @@ loop-preserved c =
     let wide : length (take (c.loop.at + a.width - c.loop.at) (drop c.loop.at c.loop.canvas)) ≡ a.width = part ∙ omega arith in
     let pixels = rw (wide, c.row_bytes-bytes.ensures, row_part a.raster.now c.loop.from (row_bytes a.width)) at c.unpack_row.ensures in (
       rw c.row_bytes-bytes.ensures
-          (unpack_rows_turn c.loop.canvas a.raster.now c.unpack_row.new.row c.loop.at c.loop.from c.loop.counter a.height a.width c.loop-test.true
+          (counted_unpack_turn c.loop.canvas a.raster.now c.unpack_row.new.row c.loop.at c.loop.from c.loop.counter a.height a.width c.loop-test.true
           within enough pixels ∙ c.loop.invariant.0),
       over_part_length c.loop.canvas c.unpack_row.new.row c.loop.at (c.loop.at + a.width) (omega arith) within (c.unpack_row.auto.row ∙ part)
           ∙ c.loop.invariant.1,
