@@ -18,8 +18,8 @@ use ellipse::EllipseContains;
 use ellipse_rows::has_rows;
 use geometry::{Point, Size};
 use host_records::{
-    ABSENT, CENTER, CRATE_BOX, ELLIPSE, FIGURE_LENGTH, HEIGHT, INSIDE, KIND, MAX_COLOUR, OUTSIDE,
-    RADII, W3C_BOX, WIDTH, X, Y, is_within,
+    ABSENT, CRATE_BOX, ELLIPSE, FIGURE_LENGTH, HEIGHT, INSIDE, KIND, MAX_COLOUR, OUTSIDE, RADII,
+    W3C_BOX, WIDTH, X, Y, is_within,
 };
 use host_sheet_record::{NEXT_ROW, STYLE};
 use sheet_layers::rows::LayerRows;
@@ -105,17 +105,13 @@ fn style_kept(numbers: &[i32]) -> bool
         & is_within(INSIDE, OUTSIDE, numbers[ALIGNMENT])
 }
 
-// How much of a stroke of this width lies outside the outline, by the alignment's number.
+// How much of a stroke of this width lies outside the outline: as many halves of it as the alignment's
+// number says.
 fn outside_width(width: i32, alignment: i32) -> u32
     ensures { result ≡ outside_width (alignment_of alignment) (signed_floor0 width) }
 {
-    if alignment < CENTER {
-        return 0;
-    }
-    if alignment < OUTSIDE {
-        return signed::floor0(width) / 2;
-    }
-    signed::floor0(width)
+    let halves = signed::least(signed::floor0(alignment), OUTSIDE as u32);
+    signed::floor0(width) * halves / 2
 }
 
 // How far a stroke area's top lies above that of a figure of this height.

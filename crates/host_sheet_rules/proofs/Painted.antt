@@ -2,7 +2,7 @@
 -- is overtaken by none.
 -- Assumes nothing.
 use mathlib.Core.Path.{◌≡◌, refl, sym, ap, subst, ◌∙◌}
-use mathlib.Core.Bool.{Bool, true, false, cond, ◌&&◌}
+use mathlib.Core.Bool.{Bool, true, false, cond, not, ◌&&◌}
 use mathlib.Core.List.{List, [], ◌∷◌}
 use Prim.Native.Nat.{ℕ, ◌+◌}
 use native.Mathlib.Omega.{arith}
@@ -14,7 +14,7 @@ use Rattle.signed.specs.Signed.{larger, smaller}
 use Rattle.signed.proofs.Laws.{int, larger_law, smaller_law}
 use Rattle.sheet_layers.specs.declared.rows.LayerRows.{LayerRows}
 use Rattle.sheet_layers.specs.LayerRows.{rows_overtake, no_rows_overtake}
-use Rattle.sheet_layers.proofs.RowTests.{overtakes_none_painted, overtakes_none_reached, overtakes_none_left}
+use Rattle.sheet_layers.proofs.RowTests.{and-false, overtakes_none_painted, overtakes_none_reached, overtakes_none_left}
 use Rattle.host_records.specs.RecordNumbers.{number_at}
 use Rattle.host_sheet_record.specs.SheetRecord.{next_row_at, layer_length, place_at, place_numbers}
 use Rattle.host_sheet_rules.specs.declared.PaintedRows.{PaintedRows}
@@ -31,6 +31,26 @@ pub overtake_by_painted : (earlier a b : LayerRows) → a.first ≡ b.first → 
 unfolding rows_overtake
 overtake_by_painted earlier a b p q i =
     (lt_z (p i) (q i) && lt_z (p i) earlier.end) && (lt_z earlier.next (q i) && lt_z earlier.next earlier.end)
+
+-- and by what the earlier one owes
+overtake_by_owed : (a b later : LayerRows) → a.next ≡ b.next → a.end ≡ b.end → rows_overtake a later ≡ rows_overtake b later
+unfolding rows_overtake
+overtake_by_owed a b later p q i =
+    (lt_z later.first later.next && lt_z later.first (q i)) && (lt_z (p i) later.next && lt_z (p i) (q i))
+
+pub none_overtake_by_owed : (a b : LayerRows) (rest : List LayerRows) → a.next ≡ b.next → a.end ≡ b.end
+    → no_rows_overtake a rest ≡ no_rows_overtake b rest
+unfolding no_rows_overtake
+none_overtake_by_owed a b [] p q i = true
+none_overtake_by_owed a b (later ∷ rest) p q i =
+    not (overtake_by_owed a b later p q i) && none_overtake_by_owed a b rest p q i
+
+-- a layer that has not passed the next row of an earlier one does not overtake it
+pub overtakes_none_behind : (earlier later : LayerRows) → le_z later.next earlier.next ≡ true → rows_overtake earlier later ≡ false
+unfolding rows_overtake
+overtakes_none_behind earlier later behind =
+    let ahead : lt_z earlier.next later.next ≡ false = omega (arith, int) in
+    rw (ahead, and-false (lt_z later.first later.next && lt_z later.first earlier.end)) refl
 
 -- ---- one layer more
 keep_wider : (p q : PaintedRows) (rest : List LayerRows) → le_z q.first p.first ≡ true → le_z p.end q.end ≡ true

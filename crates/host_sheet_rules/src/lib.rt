@@ -3,6 +3,7 @@
 #![tactic(auto)]
 
 ghost use Rattle.std.specs.Prelude.{◌≡◌, true, ◌-◌, ◌<◌, ◌≤◌, length};
+ghost use Rattle.signed.specs.Signed.{Is};
 ghost use Rattle.geometry.specs.Limits.{max_layers};
 ghost use Rattle.sheet_layers.specs.LayerRows.{no_rows_overtake};
 ghost use Rattle.host_sheet_record.specs.SheetRecord.{sheet_length, place_numbers};
@@ -74,6 +75,14 @@ impl Asked {
     }
 }
 
+// The next row of the layer in place j.
+fn next_at(numbers: &[i32], j: usize) -> i32
+    requires { (length numbers.now ≡ sheet_length) × (j < max_layers) }
+    ensures { Is (rows_at numbers.now j).next result }
+{
+    numbers[FIRST_PLACE + LAYER_LENGTH * j + NEXT_ROW]
+}
+
 // The first and the next row of the layer in place j, which keeps its own rules; its end is left out.
 fn painted_at(numbers: &[i32], j: usize) -> LayerRows
     requires numbers_len { (length numbers.now ≡ sheet_length) × (j < max_layers) }
@@ -84,20 +93,30 @@ fn painted_at(numbers: &[i32], j: usize) -> LayerRows
     let end = at + LAYER_LENGTH;
     LayerRows {
         first: first_row(&numbers[at..end]),
-        next: numbers[at + NEXT_ROW],
+        next: next_at(numbers, j),
         end: 0,
     }
 }
 
-// Whether no layer in the places from this one up to the count overtakes an earlier layer.
-fn none_overtakes(numbers: &[i32], earlier: LayerRows, from: usize, count: usize) -> bool
+// Whether no layer in the places from this one up to the count overtakes an earlier one that owes the rows
+// from `next` up to `end`. Most calls do not come here, and the walk that each of them makes
+// (`test_places`) is quicker without this one in it.
+#[inline(never)]
+fn none_overtakes(numbers: &[i32], next: i32, end: i32, from: usize, count: usize) -> bool
     requires numbers_len { length numbers.now ≡ sheet_length }
     requires from_le_count { (from ≤ count) × (count ≤ max_layers) }
     requires from_value { places_kept numbers.now from (count - from) ≡ true }
-    ensures { result ≡ no_rows_overtake earlier (rows_from numbers.now from (count - from)) }
+    ensures { result ≡ no_rows_overtake (record { first = next; next = next; end = end })
+        (rows_from numbers.now from (count - from)) }
 {
+    let earlier = LayerRows {
+        first: next,
+        next: next,
+        end: end,
+    };
     for j in from..count {
-        if earlier.is_overtaken(painted_at(numbers, j)) {
+        // A layer that has not passed `next` has painted none of those rows, wherever it begins.
+        if next < next_at(numbers, j) && earlier.is_overtaken(painted_at(numbers, j)) {
             return false;
         }
     }
@@ -128,7 +147,7 @@ fn in_order(
     if earlier.end <= painted.first {
         return true;
     }
-    none_overtakes(numbers, earlier, from, count)
+    none_overtakes(numbers, earlier.next, earlier.end, from, count)
 }
 
 // Tests the rules of the layers in the first places, one by one and two by two, and finds what a paint

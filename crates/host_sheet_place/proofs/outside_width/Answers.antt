@@ -1,48 +1,38 @@
--- `host_sheet_place::outside_width` meets its contract: the tests of the alignment's number are the definition's.
-use mathlib.Core.Path.{◌≡◌, sym, ap, ◌∙◌}
-use mathlib.Core.Bool.{Bool}
-use Prim.Native.Nat.{ℕ, ◌/◌}
-use borrow.Author.Rules.{rules}
+-- `host_sheet_place::outside_width` meets its contract: an alignment's number says how many halves of the width lie outside.
+use mathlib.Core.Path.{◌≡◌, refl, ap, ap₂, ◌∙◌}
+use mathlib.Core.Bool.{Bool, true, false}
+use Prim.Native.Nat.{ℕ, ◌*◌, ◌/◌, min}
+use native.Mathlib.Omega.{arith}
 use lib.IntN.{ℤ}
 use lib.Signed.{lt_z}
-use mir.Syntax.{w32}
-use mir.Val.{SFits, to_z, of_z}
 use mir.Facts.{to_z-of_z}
 use Rattle.signed.specs.Signed.{floor0}
+use Rattle.signed.proofs.Laws.{int}
+use Rattle.style.specs.Style.{outside_width}
 use Rattle.host_records.specs.RecordNumbers.{center_alignment, outside_alignment, alignment_of}
-use Rattle.host_sheet_place.proofs.outside_width.Lts
-use Rattle.host_sheet_place.proofs.outside_width.Reads
-use Rattle.host_sheet_place.proofs.outside_width.Tie
 use Rattle.host_sheet_place.proofs.outside_width.Goals as goal
 
--- the facts known at these places
-abbrev Start : Type 0
-Start = Lts.Start Tie.the-claims Reads.Pre Reads.Post
-
--- the tests of the number as it is held
-held : (c : Start) (b : ℤ) {t : Bool} → lt_z (to_z w32 (of_z w32 c.args.alignment)) b ≡ t
-    → lt_z c.args.alignment b ≡ t
-held c b test =
-    let fits : SFits w32 c.args.alignment = search rules in
-    sym (ap (λ (z : ℤ). lt_z z b) (to_z-of_z fits)) ∙ test
-
-width_is : (c : Start) → floor0 (to_z w32 (of_z w32 c.args.width)) ≡ floor0 c.args.width
-width_is c =
-    let fits : SFits w32 c.args.width = search rules in
-    ap (λ (z : ℤ). floor0 z) (to_z-of_z fits)
-
-pub returns-then-alignment-lt-CENTER : goal.returns-then-alignment-lt-CENTER
+halves : (w : ℕ) (v : ℤ) → w * min (floor0 v) 2 / 2 ≡ outside_width (alignment_of v) w
 unfolding alignment_of
-returns-then-alignment-lt-CENTER c = rw (held c.before center_alignment c.if-alignment-lt-CENTER.true)
+halves w v = by (lt_z v center_alignment) refl (lt_z v outside_alignment) refl
+  where
+    as_many : (n : ℕ) → min (floor0 v) 2 ≡ n → w * min (floor0 v) 2 / 2 ≡ w * n / 2
+    as_many n e = ap (λ (k : ℕ). w * k / 2) e
 
-pub returns-then-alignment-lt-OUTSIDE : goal.returns-then-alignment-lt-OUTSIDE
-unfolding alignment_of
-returns-then-alignment-lt-OUTSIDE c =
-    rw (held c.before.before.before center_alignment c.if-alignment-lt-CENTER.false, held c.before.before.before outside_alignment c.if-alignment-lt-OUTSIDE.true)
-    (ap (λ (n : ℕ). n / 2) (c.floor0.ensures ∙ width_is c.before.before.before))
+    by : (s : Bool) → lt_z v center_alignment ≡ s → (t : Bool) → lt_z v outside_alignment ≡ t
+        → w * min (floor0 v) 2 / 2 ≡ outside_width (alignment_of v) w
+    by true p t q =
+        let none : w * 0 / 2 ≡ 0 = omega arith in
+        rw p (as_many 0 (omega (arith, int)) ∙ none)
+    by false p true q =
+        let half : w * 1 / 2 ≡ w / 2 = omega arith in
+        rw (p, q) (as_many 1 (omega (arith, int)) ∙ half)
+    by false p false q =
+        let whole : w * 2 / 2 ≡ w = omega arith in
+        rw (p, q) (as_many 2 (omega (arith, int)) ∙ whole)
 
 pub returns : goal.returns
-unfolding alignment_of
 returns c =
-    rw (held c.before.before.before center_alignment c.if-alignment-lt-CENTER.false, held c.before.before.before outside_alignment c.if-alignment-lt-OUTSIDE.false)
-    (c.floor0-2.ensures ∙ width_is c.before.before.before)
+    let width = c.floor0-2.ensures ∙ ap floor0 (to_z-of_z c.ranges.width) in
+    let steps = c.least-halves.ensures ∙ ap (λ (n : ℕ). min n 2) (c.floor0.ensures ∙ ap floor0 (to_z-of_z c.ranges.alignment)) in
+    ap₂ (λ (w n : ℕ). w * n / 2) width steps ∙ halves (floor0 c.args.width) c.args.alignment

@@ -1,14 +1,15 @@
 -- `host_sheet_rules::in_order` meets its contract: a layer that owes nothing, or whose rows left lie apart from the painted ones,
 -- is overtaken by none.
-use mathlib.Core.Path.{sym}
+use mathlib.Core.Path.{sym, ◌∙◌}
 use mathlib.Core.List.{List}
 use Prim.Native.Nat.{◌-◌}
 use mir.Syntax.{w32}
-use mir.Val.{SFits}
+use mir.Val.{SFits, to_z, of_z}
+use mir.Facts.{to_z-of_z}
 use Rattle.sheet_layers.specs.declared.rows.LayerRows.{LayerRows}
 use Rattle.sheet_layers.proofs.RowTests.{RowsFit, le_held, none_owed}
 use Rattle.host_sheet_rules.specs.RecordRules.{rows_from}
-use Rattle.host_sheet_rules.proofs.Painted.{none_past_next, none_before_end}
+use Rattle.host_sheet_rules.proofs.Painted.{none_overtake_by_owed, none_past_next, none_before_end}
 use borrow.Author.Rules.{rules}
 use Rattle.host_sheet_rules.proofs.in_order.Lts
 use Rattle.host_sheet_rules.proofs.in_order.Reads
@@ -47,3 +48,12 @@ pub returns-then-earlier-painted : goal.returns-then-earlier-painted
 returns-then-earlier-painted c =
     sym (none_before_end c.args.earlier c.args.painted
     (le_held (earlier_fits c.before.before.before.before.before.before.before.before.before.before.before.before.before).end (first_fits c.before.before.before.before.before.before.before.before.before.before.before.before.before) c.if-earlier-painted.true) (later c.before.before.before.before.before.before.before.before.before.before.before.before.before) c.requires.keep_to)
+
+pub returns : goal.returns
+returns c =
+    let e = c.args.earlier in
+    let fits : RowsFit e = record { first = search rules; next = search rules; end = search rules } in
+    let next = to_z w32 (of_z w32 e.next) in
+    c.none_overtakes.ensures
+    ∙ none_overtake_by_owed (record { first = next; next = next; end = to_z w32 (of_z w32 e.end) }) e
+    (rows_from c.args.numbers.now c.args.from (c.args.count - c.args.from)) (to_z-of_z fits.next) (to_z-of_z fits.end)

@@ -2,19 +2,16 @@
 use mathlib.Core.Path.{◌≡◌, sym, ap, subst, ◌∙◌}
 use mathlib.Core.Bool.{true, ◌&&◌}
 use mathlib.Core.List.{List}
-use Prim.Native.Nat.{◌+◌}
 use lib.IntN.{ℤ}
 use lib.ListN.{length}
 use mir.Facts.{to_z-of_z}
 use Rattle.drawing.specs.declared.StrokeRows.{StrokeRows}
 use Rattle.sheet_layers.specs.Layers.{layer_rows}
-use Rattle.host_records.proofs.Walks.{read_back}
-use Rattle.host_sheet_record.specs.SheetRecord.{next_row_at, layer_length, place_at, place_numbers}
+use Rattle.host_sheet_record.specs.SheetRecord.{layer_length, place_numbers}
 use Rattle.host_sheet_record.proofs.Parts.{place_part, place_part_length}
 use Rattle.host_sheet_place.specs.PlaceRules.{figure_kept, style_kept, first_row_of}
 use Rattle.host_sheet_place.proofs.Rules.{place_within}
 use Rattle.host_sheet_place.proofs.Area.{rows_of_place}
-use Rattle.host_sheet_rules.proofs.Painted.{next_in_place}
 use Rattle.host_sheet_rules.proofs.painted_at.Lts
 use Rattle.host_sheet_rules.proofs.painted_at.Reads
 use Rattle.host_sheet_rules.proofs.painted_at.Tie
@@ -45,5 +42,5 @@ returns c =
     let place = rows_of_place (place_numbers n j) (long_place c.before.before.before) in (
       to_z-of_z c.first_row.ensures.fits ∙ c.first_row.ensures.is ∙ ap (λ (p : List ℤ). first_row_of p) (place_part n j)
           ∙ sym (ap (λ (r : StrokeRows). r.first) place),
-      read_back n (place_at j + next_row_at) c.result-1.given ∙ sym (next_in_place n j),
+      to_z-of_z c.next_at.ensures.fits ∙ c.next_at.ensures.is,
     )
