@@ -99,8 +99,8 @@ fn painted_at(numbers: &[i32], j: usize) -> LayerRows
 }
 
 // Whether no layer in the places from this one up to the count overtakes an earlier one that owes the rows
-// from `next` up to `end`. Most calls do not come here, and the walk that each of them makes
-// (`test_places`) is quicker without this one in it.
+// from `next` up to `end`. A call of its own: painting layer by layer never needs it, and `test_places`,
+// which every call needs, is quicker where it is no part of that.
 #[inline(never)]
 fn none_overtakes(numbers: &[i32], next: i32, end: i32, from: usize, count: usize) -> bool
     requires numbers_len { length numbers.now ≡ sheet_length }
@@ -123,8 +123,8 @@ fn none_overtakes(numbers: &[i32], next: i32, end: i32, from: usize, count: usiz
     true
 }
 
-// The same, where the later layers' painted rows are known: most layers owe nothing, or only rows that
-// lie apart from them.
+// Whether no layer in the places from this one up to the count overtakes an earlier one, where the rows
+// that they have painted are known: most layers owe nothing, or only rows that lie apart from those.
 fn in_order(
     numbers: &[i32],
     earlier: LayerRows,
