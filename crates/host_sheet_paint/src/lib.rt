@@ -14,7 +14,7 @@ use canvas_size::CanvasSize;
 use drawing::paint_row_on;
 use host_records::is_within;
 use host_sheet_record::{COUNT, FIRST_PLACE, LAYER_LENGTH, NEXT_ROW, layer_at, size_of};
-use host_sheet_rules::{Asked, test_places};
+use host_sheet_rules::{Asked, next_at, test_places};
 use refusal::{Checked, Refusal};
 use sheet::Sheet;
 
@@ -29,7 +29,7 @@ fn next_of(numbers: &[i32], layer: u32) -> i32
     if Sheet::MAX_LAYERS <= layer {
         return 0;
     }
-    numbers[FIRST_PLACE + LAYER_LENGTH * (layer as usize) + NEXT_ROW]
+    next_at(numbers, layer as usize)
 }
 
 // Refusals 8, 10, 11 and 12, where the rules are kept.

@@ -14,7 +14,7 @@ use Rattle.signed.specs.Signed.{larger, smaller}
 use Rattle.signed.proofs.Laws.{int, larger_law, smaller_law}
 use Rattle.sheet_layers.specs.declared.rows.LayerRows.{LayerRows}
 use Rattle.sheet_layers.specs.LayerRows.{rows_overtake, no_rows_overtake}
-use Rattle.sheet_layers.proofs.RowTests.{and-false, overtakes_none_painted, overtakes_none_reached, overtakes_none_left}
+use Rattle.sheet_layers.proofs.RowTests.{and-false, overtakes_none_painted, overtakes_none_reached}
 use Rattle.host_records.specs.RecordNumbers.{number_at}
 use Rattle.host_sheet_record.specs.SheetRecord.{next_row_at, layer_length, place_at, place_numbers}
 use Rattle.host_sheet_rules.specs.declared.PaintedRows.{PaintedRows}
@@ -98,16 +98,14 @@ module _ (earlier : LayerRows) (p : PaintedRows) where
     not_past : (r : LayerRows)
         → (lt_z r.first r.next ≡ true → (le_z p.first r.first ≡ true) × (le_z r.next p.end ≡ true))
         → rows_overtake earlier r ≡ false
-    not_past r keep = by_begun (le_z r.next r.first) refl (le_z earlier.end r.first) refl
+    not_past r keep = by_begun (le_z r.next r.first) refl
       where
-        by_begun : (t : Bool) → le_z r.next r.first ≡ t → (s : Bool) → le_z earlier.end r.first ≡ s
-            → rows_overtake earlier r ≡ false
-        by_begun true e s d = sym (overtakes_none_painted earlier r e)
-        by_begun false e true d = sym (overtakes_none_reached earlier r e d)
-        by_begun false e false d =
+        by_begun : (t : Bool) → le_z r.next r.first ≡ t → rows_overtake earlier r ≡ false
+        by_begun true e = sym (overtakes_none_painted earlier r e)
+        by_begun false e =
             let begun : lt_z r.first r.next ≡ true = omega (arith, int) in
             let within = keep begun in
-            sym (overtakes_none_left earlier r e d (omega (arith, int)))
+            overtakes_none_behind earlier r (omega (arith, int))
 
     pub none_past_next : (rest : List LayerRows) → KeepTo p rest → no_rows_overtake earlier rest ≡ true
     unfolding KeepTo no_rows_overtake

@@ -76,7 +76,7 @@ impl Asked {
 }
 
 // The next row of the layer in place j.
-fn next_at(numbers: &[i32], j: usize) -> i32
+pub fn next_at(numbers: &[i32], j: usize) -> i32
     requires { (length numbers.now ≡ sheet_length) × (j < max_layers) }
     ensures { Is (rows_at numbers.now j).next result }
 {

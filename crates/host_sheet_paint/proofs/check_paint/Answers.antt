@@ -29,7 +29,6 @@ use Rattle.host_sheet_rules.specs.RecordRules.{places_tested}
 use Rattle.host_sheet_paint.specs.RecordPaint.{next_of, asked_check}
 use Rattle.host_sheet_paint.proofs.Rules.{rules_kept, broken_by_count, count_few, rules_by_places, count_kept}
 use Rattle.host_sheet_paint.proofs.Answers.{tested_broken, tested_kept, answer_by_asked}
-use borrow.Author.Rules.{rules}
 use Rattle.host_sheet_paint.proofs.check_paint.Lts
 use Rattle.host_sheet_paint.proofs.check_paint.Reads
 use Rattle.host_sheet_paint.proofs.check_paint.Tie

@@ -13,4 +13,4 @@ unfolding layer_rows
 returns c =
     let a = c.args in
     let held = read_back a.numbers.now (place_at a.j + next_row_at) c.result-1.given in
-    rw (held) (record { is = sym (next_in_place a.numbers.now a.j); fits = sfits_of c.result-1.given })
+    rw held (record { is = sym (next_in_place a.numbers.now a.j); fits = sfits_of c.result-1.given })
